@@ -1,0 +1,93 @@
+-- `xdr::put::put_bytes` meets its contract: there is no length word or no room, or the part from the place on came back filled.
+use Prim.Native.Nat.{ℕ, _+_, _≤_, _<_}
+use mathlib.Core.Path.{_≡_, sym, ap, _∙_}
+use mathlib.Core.List.{List, []}
+use native.Mathlib.Omega.{arith}
+use borrow.Author.Needs.{needs}
+use borrow.Author.Tests.{le-leb, lt-leb}
+use denote.Ref.{now}
+use lib.ListN.{length}
+use Rattle.xdr.specs.Buffer.{opaqueBytes}
+use Rattle.xdr.specs.Format.{bytes, encode}
+use Rattle.xdr.specs.Fields.{word}
+use Rattle.xdr.specs.Pad.{padded}
+use Rattle.xdr.proofs.EncodedSize.{number-size, bytes-size}
+use Rattle.xdr.proofs.BufferLaws.{put-refused, put-stored, put-nothing}
+use Rattle.xdr.proofs.put.put_bytes.Statement.{statement}
+use Rattle.xdr.proofs.put.put_bytes.Tie as tie
+
+-- with a length that a word holds, and with another
+within : (l : List ℕ) → length l ≤ 4294967295 → opaqueBytes l ≡ encode (bytes word) l
+within l h = simp (le-leb (length l) 4294967295 h)
+
+beyond : (l : List ℕ) → 4294967295 < length l → opaqueBytes l ≡ []
+beyond l h = simp (lt-leb (length l) 4294967295 h)
+
+size : (l : List ℕ) → length (encode (bytes word) l) ≡ 4 + padded (length l)
+size l = bytes-size word l ∙ ap (λ (n : ℕ). n + padded (length l)) (number-size 4 (length l))
+
+returns : tie.Need-returns
+returns c = rw (beyond (now (c .before .before .before .args .src)) (c .if1 .taken)) (put-nothing (now (c .before .before .before .args .out)) (c .before .before .before .args .at))
+
+add-size : tie.Need-add-size
+add-size c = search needs
+
+pad-after-requires : tie.Need-pad-after-requires
+pad-after-requires c κs = search needs
+
+add-size-2 : tie.Need-add-size-2
+add-size-2 c = search needs
+
+returns-2 : tie.Need-returns-2
+returns-2 c =
+    let src = now (c .before .before .before .before .before .args .src) in
+    rw (within src (search needs)) (put-refused _ _ (encode (bytes word) src) (omega (arith, size src, c .before .pad-after .ensures)))
+
+sub-if3 : tie.Need-sub-if3
+sub-if3 c = search needs
+
+returns-3 : tie.Need-returns-3
+returns-3 c =
+    let src = now (c .before .before .before .before .before .before .args .src) in
+    rw (within src (search needs)) (put-refused _ _ (encode (bytes word) src) (omega (arith, size src, c .before .before .pad-after .ensures)))
+
+sub-store-bytes : tie.Need-sub-store-bytes
+sub-store-bytes c = search needs
+
+part-store-bytes-start : tie.Need-part-store-bytes-start
+part-store-bytes-start c = search needs
+
+part-store-bytes-end : tie.Need-part-store-bytes-end
+part-store-bytes-end c = search needs
+
+store-bytes-requires : tie.Need-store-bytes-requires
+store-bytes-requires c κs = search needs
+
+same-length : tie.Need-same-length
+same-length c = search needs
+
+returns-4 : tie.Need-returns-4
+returns-4 c =
+    let a = c .before .before .before .before .before .before .before .before .before .before .args in
+    let src = now (a .src) in
+    let pad = c .before .before .before .before .before .before .pad-after .ensures in
+    rw (within src (search needs))
+    (put-stored (now (a .out)) (a .at) (encode (bytes word) src) _ _ (omega (arith, size src, pad)) (omega (arith, size src, pad)) (c .before .before .store-bytes .ensures))
+
+pub put-bytes-spec : {M : Type 1} → statement M
+put-bytes-spec =
+    tie.close
+    (tie.spec
+    returns
+    add-size
+    pad-after-requires
+    add-size-2
+    returns-2
+    sub-if3
+    returns-3
+    sub-store-bytes
+    part-store-bytes-start
+    part-store-bytes-end
+    store-bytes-requires
+    same-length
+    returns-4)

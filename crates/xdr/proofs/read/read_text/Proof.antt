@@ -1,0 +1,95 @@
+-- `xdr::read_text` meets its contract: the opaque's steps, and then the test of its contents.
+use Prim.Native.Nat.{ℕ, _+_, _-_, _≤_}
+use mathlib.Core.List.{List}
+use mathlib.Core.Path.{_≡_, refl, sym, ap, _∙_}
+use native.Mathlib.Omega.{arith}
+use borrow.Author.Tests.{eq-eqb, ne-eqb}
+use lib.ListN.{length, take, drop}
+use denote.Ref.{now}
+use Rattle.xdr.specs.Reading.{taken, refused}
+use Rattle.xdr.specs.Pad.{padded}
+use Rattle.xdr.specs.Fields.{word, upTo, opaque}
+use Rattle.xdr.specs.Text.{soundUpTo, isText}
+use Rattle.xdr.specs.Answers.{bytesAnswer}
+use Rattle.xdr.specs.declared.answer.Bytes.the-variants as B
+use Rattle.xdr.proofs.Answered.{OpaqueAt, opaque-taken, bytes-refused}
+use Rattle.xdr.proofs.Steps.{Reads, answered, checked-refused, checked-failed, checked-passed}
+use borrow.Author.Needs.{needs}
+use Rattle.xdr.proofs.read.read_text.Statement.{statement}
+use Rattle.xdr.proofs.read.read_text.Tie as tie
+
+-- the opaque that was read
+opaque-read : (c : tie.After-known-told) → OpaqueAt (c .before .before .before .before .before .args .limit) (now (c .before .before .before .before .before .args .s)) (c .before .before .before .before .before .args .at) (c .before .answer .given .0 .0) (c .before .answer .given .0 .1 .0)
+opaque-read c = opaque-taken (c .before .before .before .read-bytes .ensures) (c .before .answer .given .1)
+
+-- how far its contents keep the text rule
+sound : (c : tie.After-sound-up-to) → c .sound-up-to .result ≡ soundUpTo (opaque-read (c .before .before) .value)
+sound c =
+    let o = opaque-read (c .before .before) in
+    let at = c .before .before .before .before .before .before .before .args .at in
+    let s = now (c .before .before .before .before .before .before .before .args .s) in
+    let n = c .before .before .before .answer .given .0 .0 in
+    let same : at + 4 + n - (at + 4) ≡ n = omega arith in
+    c .sound-up-to .ensures ∙ ap (λ (k : ℕ). soundUpTo (take k (drop (at + 4) s))) same ∙ ap soundUpTo (sym (o .value-is))
+
+read-bytes-requires : tie.Need-read-bytes-requires
+read-bytes-requires c κs = search needs
+
+enum-known-answer : tie.Need-enum-known-answer
+enum-known-answer c = search needs
+
+enum-told : tie.Need-enum-told
+enum-told c = search needs
+
+refusal-requires : tie.Need-refusal-requires
+refusal-requires c κs = search needs
+
+returns : tie.Need-returns
+returns c = answered bytesAnswer (checked-refused (bytes-refused (c .before .before .before .read-bytes .ensures) (c .before .enum-told .given .1) (c .refusal .ensures)))
+
+add-start : tie.Need-add-start
+add-start c = let o = opaque-read c in omega arith
+
+add-end : tie.Need-add-end
+add-end c = let o = opaque-read c in omega arith
+
+sub-sound-up-to : tie.Need-sub-sound-up-to
+sub-sound-up-to c = search needs
+
+part-sound-up-to-start : tie.Need-part-sound-up-to-start
+part-sound-up-to-start c = search needs
+
+part-sound-up-to-end : tie.Need-part-sound-up-to-end
+part-sound-up-to-end c = let o = opaque-read c in omega arith
+
+sound-up-to-requires : tie.Need-sound-up-to-requires
+sound-up-to-requires c κs = search needs
+
+returns-2 : tie.Need-returns-2
+returns-2 c =
+    let o = opaque-read (c .before .before .before) in
+    ap (λ (k : ℕ). B.Taken k (c .before .before .before .before .answer .given .0 .1 .0)) (sym (o .long))
+    ∙ answered bytesAnswer (checked-passed (o .opaque-is) (eq-eqb _ _ (sym (sound (c .before)) ∙ c .if1 .taken ∙ sym (o .long))))
+
+returns-3 : tie.Need-returns-3
+returns-3 c =
+    let o = opaque-read (c .before .before .before) in
+    answered bytesAnswer (checked-failed (o .opaque-is) (ne-eqb _ _ (λ e. c .if1 .left (sound (c .before) ∙ e ∙ o .long))))
+
+pub read-text-spec : {M : Type 1} → statement M
+read-text-spec =
+    tie.close
+    (tie.spec
+    read-bytes-requires
+    enum-known-answer
+    enum-told
+    refusal-requires
+    returns
+    add-start
+    add-end
+    sub-sound-up-to
+    part-sound-up-to-start
+    part-sound-up-to-end
+    sound-up-to-requires
+    returns-2
+    returns-3)

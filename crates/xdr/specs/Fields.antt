@@ -1,0 +1,22 @@
+-- The fields that messages are made of.
+use Prim.Native.Nat.{ℕ}
+use mathlib.Core.List.{List}
+use lib.Dec.{leb}
+use Rattle.xdr.specs.Format.{Format, number, bytes, checked}
+use Rattle.xdr.specs.Text.{isText}
+
+abbrev pub word : Format ℕ
+word = number 4
+
+abbrev pub hyper : Format ℕ
+hyper = number 8
+
+-- a length or a count, up to a limit
+abbrev pub upTo : ℕ → Format ℕ
+upTo limit = checked 5 (λ n. leb n limit) word
+
+abbrev pub opaque : ℕ → Format (List ℕ)
+opaque limit = bytes (upTo limit)
+
+abbrev pub text : ℕ → Format (List ℕ)
+text limit = checked 7 isText (opaque limit)

@@ -1,0 +1,74 @@
+-- The formats of XDR: what reading some bytes by a format gives, how a value is encoded in it, and which values it has.
+use Prim.Native.Nat.{ℕ, _-_, _^_, _<_}
+use mathlib.Core.List.{List, [], _∷_, _++_}
+use mathlib.Core.Path.{_≡_}
+use mathlib.Core.Bool.{Bool, true, false, cond, _&&_}
+use lib.ListN.{length, take, drop, replicate}
+use lib.Dec.{leb}
+use Rattle.xdr.specs.Reading.{Reading, taken, refused, shifted, mapped, fromStart, tested, andThen, many}
+use Rattle.xdr.specs.Pad.{padded, allZero}
+use Rattle.xdr.specs.Number.{bigEndian, digits, IsBytes}
+
+-- a format of values of A
+pub data Format : Type 0 → Type 1 where
+  -- no bytes, and nothing said
+  nothing : Format (Unit {0})
+  -- a number of so many bytes, the highest first
+  number : ℕ → Format ℕ
+  -- a length, that many bytes, and zero bytes up to a multiple of four
+  bytes : Format ℕ → Format (List ℕ)
+  -- a count, and that many elements
+  array : {A : Type 0} → Format ℕ → Format A → Format (List A)
+  -- a value, and then another, whose format and kind may depend on the first
+  pair : {A : Type 0} {B : A → Type 0} → Format A → ((a : A) → Format (B a)) → Format ((a : A) × B a)
+  -- the values that pass a test, with the number of the refusal where one doesn't
+  checked : {A : Type 0} → ℕ → (A → Bool) → Format A → Format A
+  -- values of another kind that stand for the same
+  via : {A B : Type 0} (to : A → B) (from : B → A) → ((a : A) → from (to a) ≡ a) → ((b : B) → to (from b) ≡ b) → Format A → Format B
+
+-- n bytes and their padding
+abbrev pub contents : ℕ → List ℕ → Reading (List ℕ)
+contents n s =
+    cond (leb (padded n) (length s))
+    (cond (allZero (take (padded n - n) (drop n s))) (taken (take n s) (padded n)) (refused 6 0))
+    (refused 1 0)
+
+unfoldable pub read : {A : Type 0} → Format A → List ℕ → Reading A
+read nothing s = taken tt 0
+read (number k) s = cond (leb k (length s)) (taken (bigEndian k s) k) (refused 1 0)
+read (bytes C) s = fromStart (andThen (read C s) contents s)
+read (array C F) s = andThen (read C s) (λ n t. many n (λ u. read F u) t) s
+read (pair F G) s = andThen (read F s) (λ a t. mapped (λ b. (a, b)) (read (G a) t)) s
+read (checked k test F) s = tested k test (read F s)
+read (via to from _ _ F) s = mapped to (read F s)
+
+-- reading at a place of s, with the place after the value, or the refusal's, counted from the start of s
+unfoldable pub readAt : {A : Type 0} → Format A → List ℕ → ℕ → Reading A
+readAt F s at = shifted at (read F (drop at s))
+
+abbrev pub encodeAll : {A : Type 0} → (A → List ℕ) → List A → List ℕ
+encodeAll e [] = []
+encodeAll e (a ∷ l) = e a ++ encodeAll e l
+
+unfoldable pub encode : {A : Type 0} → Format A → A → List ℕ
+encode nothing u = []
+encode (number k) n = digits k n
+encode (bytes C) l = encode C (length l) ++ (l ++ replicate (padded (length l) - length l) 0)
+encode (array C F) l = encode C (length l) ++ encodeAll (λ a. encode F a) l
+encode (pair F G) p = encode F (p .0) ++ encode (G (p .0)) (p .1)
+encode (checked k test F) a = encode F a
+encode (via to from _ _ F) b = encode F (from b)
+
+abbrev pub AllOf : {A : Type 0} → (A → Type 0) → List A → Type 0
+AllOf P [] = Unit {0}
+AllOf P (a ∷ l) = P a × AllOf P l
+
+-- the values that a format has
+unfoldable pub Valid : {A : Type 0} → Format A → A → Type 0
+Valid nothing u = Unit {0}
+Valid (number k) n = n < 256 ^ k
+Valid (bytes C) l = Valid C (length l) × IsBytes l
+Valid (array C F) l = Valid C (length l) × AllOf (λ a. Valid F a) l
+Valid (pair F G) p = Valid F (p .0) × Valid (G (p .0)) (p .1)
+Valid (checked k test F) a = Valid F a × (test a ≡ true)
+Valid (via to from _ _ F) b = Valid F (from b)

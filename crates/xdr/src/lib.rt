@@ -1,0 +1,19 @@
+//
+pub mod answer;
+pub mod pad;
+pub mod put;
+pub mod read;
+pub mod text;
+
+pub use answer::Bytes;
+pub use answer::Hyper;
+pub use answer::Refusal;
+pub use answer::Word;
+pub use put::put_bytes;
+pub use put::put_hyper;
+pub use put::put_word;
+pub use read::read_bytes;
+pub use read::read_hyper;
+pub use read::read_text;
+pub use read::read_word;
+pub use text::sound_up_to;
