@@ -1,0 +1,10 @@
+// Runs worked bytes through the proved functions and prints one line a case: what was given, and what came out.
+mod leaves;
+mod print;
+
+fn main() {
+    leaves::words();
+    leaves::opaques();
+    leaves::texts();
+    leaves::puts();
+}
