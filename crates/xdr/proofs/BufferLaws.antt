@@ -80,3 +80,10 @@ pub put-stored : (out : List ℕ) (at : ℕ) (l ys : List ℕ) (n : ℕ) → at 
     → ys ≡ filled (take (length out - at) (drop at out)) l → (n ≡ putCount out at l) × (putMid at (length out - at) out ys ≡ put out at l)
 put-stored out at l ys n h e y =
     (simp (le-leb (at + length l) (length out) h) e, part-filled out at (length out - at) ys l (omega arith) (omega arith) y ∙ simp (le-leb (at + length l) (length out) h))
+
+-- a put right behind a filling, where there is room for it
+pub put-next : (out o l m : List ℕ) (at : ℕ) → length l ≡ at → at + length m ≤ length out → o ≡ filled out l → put o at m ≡ filled out (l ++ m)
+put-next out o l m at e h f =
+    let same : length o ≡ length out = ap length f ∙ length-filled out l (omega arith) in
+    simp (le-leb (at + length m) (length o) (omega arith))
+    (ap (λ (u : List ℕ). over u at m) f ∙ ap (λ (n : ℕ). over (filled out l) n m) (sym e) ∙ filled-next out l m (omega arith))

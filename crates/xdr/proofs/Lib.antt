@@ -5,6 +5,7 @@ pub mod NumberLaws
 pub mod PadLaws
 pub mod Exact
 pub mod RoundTrip
+pub mod Told
 pub mod Steps
 pub mod Runs
 pub mod Answered

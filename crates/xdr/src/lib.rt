@@ -11,6 +11,7 @@ pub use answer::Refusal;
 pub use answer::Word;
 pub use put::put_bytes;
 pub use put::put_hyper;
+pub use put::put_raw;
 pub use put::put_word;
 pub use read::read_bytes;
 pub use read::read_hyper;

@@ -101,6 +101,21 @@ fn copy(out: &mut [u8], src: &[u8])
     }
 }
 
+// Bytes as they are.
+pub fn put_raw(out: &mut [u8], at: usize, src: &[u8]) -> usize
+    ensures { λ r. ⌜ (r ≡ putCount (now (out .entry)) at (now (src .entry))) × (now (out .exit) ≡ put (now (out .entry)) at (now (src .entry))) ⌝ }
+{
+    let n = src.len();
+    if out.len() < n {
+        return 0;
+    }
+    if out.len() - n < at {
+        return 0;
+    }
+    copy(&mut out[at..], src);
+    n
+}
+
 // All bytes become zero.
 fn clear(out: &mut [u8])
     ensures { λ _. ⌜ now (out .exit) ≡ replicate (length (now (out .entry))) 0 ⌝ }
