@@ -5,9 +5,11 @@ pub mod NumberLaws
 pub mod PadLaws
 pub mod Exact
 pub mod RoundTrip
-pub mod Told
 pub mod Steps
+pub mod Told
 pub mod Runs
+pub mod Parts
+pub mod Strings
 pub mod Answered
 pub mod TextRule
 pub mod EncodedBytes

@@ -40,7 +40,7 @@ pub shifted-mapped : {A B : Type 0} (k : ℕ) (f : A → B) (r : Reading A) → 
 shifted-mapped k f (taken a u) = refl
 shifted-mapped k f (refused n p) = refl
 
-shifted-zero : {A : Type 0} (r : Reading A) → shifted 0 r ≡ r
+pub shifted-zero : {A : Type 0} (r : Reading A) → shifted 0 r ≡ r
 shifted-zero (taken a u) = simp zero-add
 shifted-zero (refused n p) = simp zero-add
 

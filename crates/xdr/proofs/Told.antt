@@ -1,54 +1,188 @@
--- What reading gives of a string or an opaque that was encoded with whatever length it has: the length's test decides.
+-- What reading the encoding of a value gives, whether the value is valid or not and whatever follows: the value alone decides.
 use Prim.Native.Nat.{ℕ, zero, suc, _+_, _*_, _/_, _%_, _-_, _^_, _≤_, _<_}
-use mathlib.Core.List.{List, [], _∷_, _++_, append-assoc}
+use mathlib.Core.List.{List, [], _∷_, _++_, append-assoc, append-nil}
 use mathlib.Core.Path.{_≡_, refl, sym, ap, _∙_}
 use mathlib.Core.Bool.{Bool, true, false, cond}
 use native.Mathlib.Omega.{arith}
 use native.Mathlib.Nat.{div-add-mod', mod-lt}
 use borrow.Author.Tests.{le-leb}
 use lib.ListN.{length, drop, replicate, length-append, length-replicate}
-use lib.Seq.{drop-at}
-use Rattle.xdr.specs.Reading.{Reading, taken, refused, shifted, fromStart, andThen, tested}
+use lib.Seq.{drop-append-seam, drop-at}
+use Rattle.xdr.specs.Reading.{Reading, taken, refused, shifted, mapped, fromStart, tested, andThen, many}
 use Rattle.xdr.specs.Number.{bigEndian, digits}
 use Rattle.xdr.specs.Pad.{padded}
-use Rattle.xdr.specs.Format.{Format, number, bytes, checked, contents, read, encode}
+use Rattle.xdr.specs.Format.{Format, nothing, number, bytes, array, pair, checked, via, contents, read, readAt, encodeAll, encode}
 use Rattle.xdr.specs.Fields.{word}
 use Rattle.xdr.proofs.NumberLaws.{length-digits, read-digits, power-positive}
 use Rattle.xdr.proofs.RoundTrip.{round-contents}
+use Rattle.xdr.proofs.Steps.{Reads, part-read, shifted-zero}
 
--- a number of at least one byte reads back as itself, however large
-pub number-told : (k n : ℕ) (t : List ℕ) → read (number (suc k)) (encode (number (suc k)) n ++ t) ≡ taken n (suc k)
-unfolding read encode
-number-told k n t = simp (
-  length-append,
-  length-digits (suc k) n,
-  le-leb (suc k) (suc k + length t) (omega arith),
-  read-digits k (n % 256 ^ k) t (mod-lt n (power-positive k)),
-  div-add-mod' n (256 ^ k),
-)
+-- one reading after another
+abbrev pub after : {A B : Type 0} → Reading A → Reading B → Reading B
+after (taken a n) r = shifted n r
+after (refused k p) r = refused k p
 
--- contents and pad
-abbrev filling : List ℕ → List ℕ
-filling l = l ++ replicate (padded (length l) - length l) 0
+abbrev pub afterAll : {A : Type 0} → (A → Reading A) → List A → Reading (List A)
+afterAll w [] = taken [] 0
+afterAll w (a ∷ l) = after (w a) (mapped (λ m. a ∷ m) (afterAll w l))
 
-by-length : (p : List ℕ → Reading ℕ) (k : ℕ) (test : ℕ → Bool) (e l t : List ℕ) → length e ≡ 4 → p ((e ++ filling l) ++ t) ≡ taken (length l) 4
-    → fromStart (andThen (tested k test (p ((e ++ filling l) ++ t))) contents ((e ++ filling l) ++ t)) ≡ cond (test (length l)) (taken l (4 + padded (length l))) (refused k 0)
-by-length p k test e l t four r =
-    ap (λ (w : Reading ℕ). fromStart (andThen (tested k test w) contents ((e ++ filling l) ++ t))) r ∙ go (test (length l))
+-- what reading the bytes of a value gives, by the format
+unfoldable pub readBack : {A : Type 0} → Format A → A → Reading A
+readBack nothing u = taken u 0
+readBack (number k) n = taken n k
+readBack (bytes C) l = fromStart (after (readBack C (length l)) (taken l (padded (length l))))
+readBack (array C F) l = after (readBack C (length l)) (afterAll (λ a. readBack F a) l)
+readBack (pair F G) p = after (readBack F (p .0)) (mapped (λ b. (p .0, b)) (readBack (G (p .0)) (p .1)))
+readBack (checked k test F) a = tested k test (readBack F a)
+readBack (via to from _ _ F) b = mapped to (readBack F (from b))
+
+-- a format whose numbers have at least one byte
+unfoldable pub Wide : {A : Type 0} → Format A → Type 0
+Wide nothing = Unit {0}
+Wide (number k) = 0 < k
+Wide (bytes C) = Wide C
+Wide (array C F) = Wide C × Wide F
+Wide (pair {A = A} F G) = Wide F × ((a : A) → Wide (G a))
+Wide (checked k test F) = Wide F
+Wide (via to from _ _ F) = Wide F
+
+-- a reading of a that takes n bytes, or is refused
+pub data Fate {A : Type 0} (a : A) (n : ℕ) : Reading A → Type 0 where
+  whole : Fate a n (taken a n)
+  fault : (k p : ℕ) → Fate a n (refused k p)
+
+-- what is read of a value's bytes, whatever follows
+pub record Told {A : Type 0} (p : List ℕ → Reading A) (a : A) (l : List ℕ) (w : Reading A) : Type 0 where
+  pub fate : Fate a (length l) w
+  pub reads : (t : List ℕ) → p (l ++ t) ≡ w
+
+told-then : {A B : Type 0} (p : List ℕ → Reading A) (f : A → List ℕ → Reading B) (a : A) (b : B) (l m : List ℕ) (w : Reading A) (v : Reading B)
+    → Fate a (length l) w → ((t : List ℕ) → p (l ++ t) ≡ w) → Told (f a) b m v → Told (λ s. andThen (p s) f s) b (l ++ m) (after w v)
+told-then p f a b l m w v whole h k = record {
+  fate = both v (k .fate);
+  reads = λ t. simp (append-assoc, h (m ++ t), drop-append-seam, k .reads t);
+}
   where
-    long : length (filling l) ≡ padded (length l)
-    long = simp (length-append, length-replicate) (omega arith)
+    both : (r : Reading _) → Fate b (length m) r → Fate b (length (l ++ m)) (shifted (length l) r)
+    both r whole = rw (length-append l m) whole
+    both r (fault n q) = fault n (length l + q)
+told-then p f a b l m w v (fault n q) h k = record { fate = fault n q; reads = λ t. simp (append-assoc, h (m ++ t)) }
 
-    behind : drop 4 ((e ++ filling l) ++ t) ≡ filling l ++ t
-    behind = ap (drop 4) (append-assoc e (filling l) t) ∙ drop-at e (filling l ++ t) 4 four
+told-mapped : {A B : Type 0} (g : A → B) (p : List ℕ → Reading A) (a : A) (l : List ℕ) (w : Reading A) → Told p a l w → Told (λ s. mapped g (p s)) (g a) l (mapped g w)
+told-mapped g p a l w h = record { fate = go w (h .fate); reads = λ t. ap (mapped g) (h .reads t) }
+  where
+    go : (r : Reading _) → Fate a (length l) r → Fate (g a) (length l) (mapped g r)
+    go r whole = whole
+    go r (fault n q) = fault n q
 
-    go : (b : Bool) → fromStart (andThen (cond b (taken (length l) 4) (refused k 0)) contents ((e ++ filling l) ++ t)) ≡ cond b (taken l (4 + padded (length l))) (refused k 0)
-    go true = ap (λ (u : List ℕ). fromStart (shifted 4 (contents (length l) u))) behind ∙ rw (round-contents l t, long) refl
-    go false = refl
+told-start : {A : Type 0} (p : List ℕ → Reading A) (a : A) (l : List ℕ) (w : Reading A) → Told p a l w → Told (λ s. fromStart (p s)) a l (fromStart w)
+told-start p a l w h = record { fate = go w (h .fate); reads = λ t. ap fromStart (h .reads t) }
+  where
+    go : (r : Reading _) → Fate a (length l) r → Fate a (length l) (fromStart r)
+    go r whole = whole
+    go r (fault n q) = fault n 0
 
+told-tested : {A : Type 0} (k : ℕ) (test : A → Bool) (p : List ℕ → Reading A) (a : A) (l : List ℕ) (w : Reading A) → Told p a l w → Told (λ s. tested k test (p s)) a l (tested k test w)
+told-tested k test p a l w h = record { fate = go w (h .fate); reads = λ t. ap (tested k test) (h .reads t) }
+  where
+    by-test : (b : Bool) → Fate a (length l) (cond b (taken a (length l)) (refused k 0))
+    by-test true = whole
+    by-test false = fault k 0
+
+    go : (r : Reading _) → Fate a (length l) r → Fate a (length l) (tested k test r)
+    go r whole = by-test (test a)
+    go r (fault n q) = fault n q
+
+told-via : {A B : Type 0} (to : A → B) (from : B → A) → ((b : B) → to (from b) ≡ b) → (p : List ℕ → Reading A) (b : B) (l : List ℕ) (w : Reading A)
+    → Told p (from b) l w → Told (λ s. mapped to (p s)) b l (mapped to w)
+told-via to from forth p b l w h = rw (forth b) at (told-mapped to p (from b) l w h)
+
+told-many : {A : Type 0} (p : List ℕ → Reading A) (e : A → List ℕ) (w : A → Reading A) → ((a : A) → Told p a (e a) (w a))
+    → (l : List A) → Told (many (length l) p) l (encodeAll e l) (afterAll w l)
+told-many p e w h [] = record { fate = whole; reads = λ t. refl }
+told-many p e w h (a ∷ l) =
+    told-then p (λ x u. mapped (λ y. x ∷ y) (many (length l) p u)) a (a ∷ l) (e a) (encodeAll e l) (w a) (mapped (λ y. a ∷ y) (afterAll w l))
+    (h a .fate) (h a .reads)
+    (told-mapped (λ y. a ∷ y) (many (length l) p) l (encodeAll e l) (afterAll w l) (told-many p e w h l))
+
+told-contents : (l : List ℕ) → Told (contents (length l)) l (l ++ replicate (padded (length l) - length l) 0) (taken l (padded (length l)))
+told-contents l =
+    let long : length (l ++ replicate (padded (length l) - length l) 0) ≡ padded (length l) = simp (length-append, length-replicate) (omega arith) in
+    record { fate = rw long whole; reads = λ t. round-contents l t ∙ ap (λ (n : ℕ). taken l n) long }
+
+told-number : (k n : ℕ) → 0 < k → Told (read (number k)) n (digits k n) (taken n k)
+unfolding read
+told-number zero n h = absurd (omega arith)
+told-number (suc k) n h = record {
+  fate = rw (length-digits (suc k) n) whole;
+  reads = λ t. simp (
+    length-append,
+    length-digits (suc k) n,
+    le-leb (suc k) (suc k + length t) (omega arith),
+    read-digits k (n % 256 ^ k) t (mod-lt n (power-positive k)),
+    div-add-mod' n (256 ^ k),
+  );
+}
+
+-- every value of every format
+pub told : {A : Type 0} (F : Format A) (a : A) → Wide F → Told (read F) a (encode F a) (readBack F a)
+unfolding read encode readBack Wide
+told nothing u w = record { fate = whole; reads = λ t. refl }
+told (number k) n w = told-number k n w
+told (bytes C) l w =
+    told-start (λ s. andThen (read C s) contents s) l (encode C (length l) ++ (l ++ replicate (padded (length l) - length l) 0)) (after (readBack C (length l)) (taken l (padded (length l))))
+    (told-then (read C) contents (length l) l (encode C (length l)) (l ++ replicate (padded (length l) - length l) 0) (readBack C (length l)) (taken l (padded (length l)))
+    (told C (length l) w .fate) (told C (length l) w .reads) (told-contents l))
+told (array C F) l w =
+    told-then (read C) (λ n. many n (read F)) (length l) l (encode C (length l)) (encodeAll (encode F) l) (readBack C (length l)) (afterAll (readBack F) l)
+    (told C (length l) (w .0) .fate) (told C (length l) (w .0) .reads) (told-many (read F) (encode F) (readBack F) (λ a. told F a (w .1)) l)
+told (pair F G) p w =
+    told-then (read F) (λ a u. mapped (λ b. (a, b)) (read (G a) u)) (p .0) p (encode F (p .0)) (encode (G (p .0)) (p .1)) (readBack F (p .0)) (mapped (λ b. (p .0, b)) (readBack (G (p .0)) (p .1)))
+    (told F (p .0) (w .0) .fate) (told F (p .0) (w .0) .reads)
+    (told-mapped (λ b. (p .0, b)) (read (G (p .0))) (p .1) (encode (G (p .0)) (p .1)) (readBack (G (p .0)) (p .1)) (told (G (p .0)) (p .1) (w .1 (p .0))))
+told (checked k test F) a w = told-tested k test (read F) a (encode F a) (readBack F a) (told F a w)
+told (via to from back forth F) b w = told-via to from forth (read F) b (encode F (from b)) (readBack F (from b)) (told F (from b) w)
+
+-- a string or an opaque whose length is held to a test
 pub bytes-told : (k : ℕ) (test : ℕ → Bool) (l t : List ℕ)
     → read (bytes (checked k test word)) (encode (bytes word) l ++ t) ≡ cond (test (length l)) (taken l (4 + padded (length l))) (refused k 0)
-unfolding read encode
-bytes-told k test l t =
-    by-length (read word) k test (encode word (length l)) l t (length-digits 4 (length l))
-    (ap (read word) (append-assoc (encode word (length l)) (filling l) t) ∙ number-told 3 (length l) (filling l ++ t))
+unfolding encode readBack Wide
+bytes-told k test l t = told (bytes (checked k test word)) l (omega arith) .reads t ∙ go (test (length l))
+  where
+    go : (b : Bool) → fromStart (after (cond b (taken (length l) 4) (refused k 0)) (taken l (padded (length l)))) ≡ cond b (taken l (4 + padded (length l))) (refused k 0)
+    go true = refl
+    go false = refl
+
+-- the same as steps of a reading
+
+told-at-start : {A : Type 0} {F : Format A} {s : List ℕ} {r : Reading A} → read F s ≡ r → Reads F s 0 r
+unfolding readAt
+told-at-start {F = F} {s = s} e = record { is = shifted-zero (read F s) ∙ e }
+
+module _ {k : ℕ} {test : ℕ → Bool} (l : List ℕ) where
+  bytes-alone : Reads (bytes (checked k test word)) (encode (bytes word) l) 0 (cond (test (length l)) (taken l (4 + padded (length l))) (refused k 0))
+  bytes-alone = told-at-start (ap (read (bytes (checked k test word))) (sym (append-nil (encode (bytes word) l))) ∙ bytes-told k test l [])
+
+  pub told-taken : test (length l) ≡ true → Reads (bytes (checked k test word)) (encode (bytes word) l) 0 (taken l (4 + padded (length l)))
+  told-taken e = rw e at bytes-alone
+
+  pub told-refused : test (length l) ≡ false → Reads (bytes (checked k test word)) (encode (bytes word) l) 0 (refused k 0)
+  told-refused e = rw e at bytes-alone
+
+  -- what was taken is what was encoded
+  pub told-same : {m : List ℕ} {n : ℕ} → Reads (bytes (checked k test word)) (encode (bytes word) l) 0 (taken m n) → (m ≡ l) × (n ≡ 4 + padded (length l)) × (test (length l) ≡ true)
+  told-same {m} {n} h = go (test (length l)) refl
+    where
+      go : (b : Bool) → test (length l) ≡ b → (m ≡ l) × (n ≡ 4 + padded (length l)) × (test (length l) ≡ true)
+      go true e = let q = sym (h .is) ∙ told-taken e .is in (cc, cc, e)
+      go false e = let z : _≡_ {A = ℕ} 0 1 = cc (sym (h .is) ∙ told-refused e .is) in absurd (omega arith)
+
+-- an encoding that stands at a place is read there as it is alone
+pub encoded-at : {A : Type 0} {F : Format A} (a : A) {s : List ℕ} {at : ℕ} {r : Reading A} (p t : List ℕ) → Wide F → s ≡ p ++ (encode F a ++ t) → length p ≡ at
+    → Reads F (encode F a) 0 r → Reads F s at (shifted at r)
+unfolding readAt
+encoded-at {F = F} a {s = s} {at = at} p t w e long h =
+    let there : drop at s ≡ encode F a ++ t = ap (drop at) e ∙ drop-at p (encode F a ++ t) at long in
+    let alike : read F (drop at s) ≡ read F (encode F a) =
+    ap (read F) there ∙ told F a w .reads t ∙ sym (told F a w .reads []) ∙ ap (read F) (append-nil (encode F a)) in
+    part-read (record { is = ap (shifted 0) alike ∙ h .is })

@@ -9,6 +9,7 @@ pub use answer::Bytes;
 pub use answer::Hyper;
 pub use answer::Refusal;
 pub use answer::Word;
+pub use pad::pad_after;
 pub use put::put_bytes;
 pub use put::put_hyper;
 pub use put::put_raw;

@@ -1,0 +1,2 @@
+-- Laws of messages.
+pub mod ByKind

@@ -1,0 +1,110 @@
+-- `message::header::read_header` meets its contract: the word's steps, and then its tests.
+use Prim.Native.Nat.{ℕ, _≤_, _<_}
+use mathlib.Core.List.{List}
+use mathlib.Core.Path.{_≡_, refl, sym, ap, _∙_}
+use mathlib.Core.Bool.{true, false}
+use native.Mathlib.Omega.{arith}
+use borrow.Author.Needs.{needs}
+use borrow.Author.Tests.{eq-eqb, ne-eqb, le-leb, lt-leb}
+use lib.Dec.{eqb}
+use denote.Ref.{now}
+use Rattle.xdr.specs.Reading.{taken, refused}
+use Rattle.xdr.specs.Format.{Format, checked}
+use Rattle.xdr.specs.Fields.{word}
+use Rattle.xdr.specs.Answers.{wordAnswer}
+use Rattle.xdr.proofs.Answered.{word-taken, word-refused}
+use Rattle.xdr.proofs.Steps.{Reads, answered, checked-refused, checked-failed, checked-passed}
+use Rattle.message.specs.Header.{versionOf, typeOf, reservedOf, isType}
+use Rattle.message.proofs.header.read_header.Statement.{statement}
+use Rattle.message.proofs.header.read_header.Tie as tie
+
+-- the bytes that were given, and the word that was read with the place after it
+abbrev s : tie.After-known-told → List ℕ
+s c = now (c .before .before .before .before .before .args .s)
+
+abbrev h : tie.After-known-told → ℕ
+h c = c .before .answer .given .0 .0
+
+abbrev next : tie.After-known-told → ℕ
+next c = c .before .answer .given .0 .1 .0
+
+-- the word after each of the tests that it passed
+word-read : (c : tie.After-known-told) → Reads word (s c) 0 (taken (h c) (next c))
+word-read c = word-taken (c .before .before .before .read-word .ensures) (c .before .answer .given .1)
+
+abbrev versioned : Format ℕ
+versioned = checked 2 (λ h. eqb (versionOf h) 0) word
+
+version-read : (c : tie.Else1) → Reads versioned (s (c .before .before)) 0 (taken (h (c .before .before)) (next (c .before .before)))
+version-read c = checked-passed (word-read (c .before .before)) (eq-eqb _ _ (sym (c .before .version-of .ensures) ∙ c .if1 .left))
+
+type-fits : (k n : ℕ) → k ≡ n → (k ≡ 0 → ⊥) → k ≤ 7 → isType n ≡ true
+type-fits k n e p q = simp (le-leb 1 n (omega arith), le-leb n 7 (omega arith))
+
+type-zero : (k n : ℕ) → k ≡ n → k ≡ 0 → isType n ≡ false
+type-zero k n e p = simp (lt-leb 1 n (omega arith))
+
+type-large : (k n : ℕ) → k ≡ n → 7 < k → isType n ≡ false
+type-large k n e p = simp (le-leb 1 n (omega arith), lt-leb n 7 (omega arith))
+
+type-read : (c : tie.Else3) → let k = c .before .before .before .before .before in Reads (checked 3 (λ h. isType (typeOf h)) versioned) (s k) 0 (taken (h k) (next k))
+type-read c = checked-passed (version-read (c .before .before .before)) (type-fits _ _ (c .before .before .type-of .ensures) (c .before .if2 .left) (c .if3 .left))
+
+read-word-requires : tie.Need-read-word-requires
+read-word-requires c κs = search needs
+
+enum-known-answer : tie.Need-enum-known-answer
+enum-known-answer c = search needs
+
+enum-told : tie.Need-enum-told
+enum-told c = search needs
+
+refusal-requires : tie.Need-refusal-requires
+refusal-requires c κs = search needs
+
+returns : tie.Need-returns
+returns c = answered wordAnswer (checked-refused (checked-refused (checked-refused
+    (word-refused (c .before .before .before .read-word .ensures) (c .before .enum-told .given .1) (c .refusal .ensures)))))
+
+version-of-requires : tie.Need-version-of-requires
+version-of-requires c κs = search needs
+
+returns-2 : tie.Need-returns-2
+returns-2 c = answered wordAnswer (checked-refused (checked-refused (checked-failed (word-read (c .before .before))
+    (ne-eqb _ _ (λ e. c .if1 .taken (c .before .version-of .ensures ∙ e))))))
+
+type-of-requires : tie.Need-type-of-requires
+type-of-requires c κs = search needs
+
+returns-3 : tie.Need-returns-3
+returns-3 c = answered wordAnswer (checked-refused (checked-failed (version-read (c .before .before)) (type-zero _ _ (c .before .type-of .ensures) (c .if2 .taken))))
+
+returns-4 : tie.Need-returns-4
+returns-4 c = answered wordAnswer (checked-refused (checked-failed (version-read (c .before .before .before)) (type-large _ _ (c .before .before .type-of .ensures) (c .if3 .taken))))
+
+reserved-of-requires : tie.Need-reserved-of-requires
+reserved-of-requires c κs = search needs
+
+returns-5 : tie.Need-returns-5
+returns-5 c = answered wordAnswer (checked-failed (type-read (c .before .before)) (ne-eqb _ _ (λ e. c .if4 .taken (c .before .reserved-of .ensures ∙ e))))
+
+returns-6 : tie.Need-returns-6
+returns-6 c = answered wordAnswer (checked-passed (type-read (c .before .before)) (eq-eqb _ _ (sym (c .before .reserved-of .ensures) ∙ c .if4 .left)))
+
+pub read-header-spec : {M : Type 1} → statement M
+read-header-spec =
+    tie.close
+    (tie.spec
+    read-word-requires
+    enum-known-answer
+    enum-told
+    refusal-requires
+    returns
+    version-of-requires
+    returns-2
+    type-of-requires
+    returns-3
+    returns-4
+    reserved-of-requires
+    returns-5
+    returns-6)

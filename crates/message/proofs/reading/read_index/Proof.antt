@@ -1,0 +1,134 @@
+-- `message::reading::read_index` meets its contract: the repository's step, and the files where their part begins.
+use Prim.Native.Nat.{ℕ, _+_, _-_, _≤_}
+use mathlib.Core.List.{List}
+use mathlib.Core.Path.{_≡_, refl, sym, ap, _∙_}
+use native.Mathlib.Omega.{arith}
+use borrow.Author.Needs.{needs}
+use borrow.Rule.Slice.PartAt.{part-to-end}
+use lib.ListN.{length, drop}
+use denote.Ref.{now}
+use Rattle.xdr.specs.Reading.{taken, refused}
+use Rattle.xdr.specs.Format.{readAt}
+use Rattle.xdr.specs.Pad.{padded}
+use Rattle.xdr.proofs.Answered.{bytes-taken, bytes-refused}
+use Rattle.xdr.proofs.Steps.{Reads, answered, first-refused, both-read, ends, passed, refused-within, part-read}
+use Rattle.xdr.proofs.Strings.{string-ends, string-within}
+use Rattle.record.specs.Answers.{arrayAnswer}
+use Rattle.record.specs.File.{File, files}
+use Rattle.record.proofs.Answered.{array-taken, array-refused}
+use Rattle.message.specs.Limits.{filesLimit}
+use Rattle.message.specs.Message.{repository}
+use Rattle.message.specs.Answers.{span, indexAnswer}
+use Rattle.message.specs.declared.answer.IndexRead.the-variants as I
+use Rattle.message.proofs.reading.read_index.Statement.{statement}
+use Rattle.message.proofs.reading.read_index.Tie as tie
+
+-- the bytes that were given, and where the files begin
+abbrev s : tie.After-known-told → List ℕ
+s c = now (c .before .before .before .before .before .args .s)
+
+abbrev files-at : tie.After-known-told → ℕ
+files-at c = c .before .repository .given .0 .1 .0
+
+repository-read : (c : tie.After-known-told) → (l : List ℕ) × Reads repository (s c) 4 (taken l (files-at c)) × (length l ≡ c .before .repository .given .0 .0)
+repository-read c = bytes-taken (c .before .before .before .read-text .ensures) (c .before .repository .given .1)
+
+within : (c : tie.After-known-told) → files-at c ≤ length (s c)
+within c = string-within (passed (repository-read c .1))
+
+-- the answer for the part that begins at the files
+part-answer : (c : tie.After-read-files) → let k = c .before .before in c .read-files .result ≡ arrayAnswer (readAt (files filesLimit) (drop (files-at k) (s k)) 0)
+part-answer c = let k = c .before .before in c .read-files .ensures ∙ ap (λ (l : List ℕ). arrayAnswer (readAt (files filesLimit) l 0)) (part-to-end (s k) (files-at k))
+
+files-refused : (c : tie.After-refusal2) → let k = c .before .before .before .before .before in Reads (files filesLimit) (s k) (files-at k) (refused (c .refusal2 .result .number) (files-at k + c .refusal2 .result .place))
+files-refused c = part-read (array-refused (part-answer (c .before .before .before)) (c .before .enum-told2 .given .1) (c .refusal2 .ensures))
+
+files-read : (c : tie.After-known-told2)
+    → let k = c .before .before .before .before .before in
+    (l : List File) × Reads (files filesLimit) (s k) (files-at k) (taken l (files-at k + c .before .files .given .0 .1 .0)) × (length l ≡ c .before .files .given .0 .0)
+files-read c = let q = array-taken (part-answer (c .before .before .before)) (c .before .files .given .1) in (q .0, part-read (q .1), q .2)
+
+-- an answer with the lengths of what was read
+same-span : {n x a b u v m y e : ℕ} → x ≡ n → a ≡ b → u ≡ v → y ≡ m
+    → I.Taken (record { repository = span 8 n; files = span a u; count = m; end = e }) ≡ I.Taken (record { repository = span 8 x; files = span b v; count = y; end = e })
+same-span p q r t = rw (p, q, r, t) refl
+
+read-text-requires : tie.Need-read-text-requires
+read-text-requires c κs = search needs
+
+enum-known-repository : tie.Need-enum-known-repository
+enum-known-repository c = search needs
+
+enum-told : tie.Need-enum-told
+enum-told c = search needs
+
+refusal-requires : tie.Need-refusal-requires
+refusal-requires c κs = search needs
+
+returns : tie.Need-returns
+returns c = answered indexAnswer (first-refused
+    (bytes-refused (c .before .before .before .read-text .ensures) (c .before .enum-told .given .1) (c .refusal .ensures)))
+
+sub-read-files : tie.Need-sub-read-files
+sub-read-files c =
+    let w = within c in omega arith
+
+part-read-files-start : tie.Need-part-read-files-start
+part-read-files-start c =
+    let w = within c in omega arith
+
+part-read-files-end : tie.Need-part-read-files-end
+part-read-files-end c = search needs
+
+read-files-requires : tie.Need-read-files-requires
+read-files-requires c κs = search needs
+
+enum-known-files : tie.Need-enum-known-files
+enum-known-files c = search needs
+
+enum-told-2 : tie.Need-enum-told-2
+enum-told-2 c = search needs
+
+refusal-requires-2 : tie.Need-refusal-requires-2
+refusal-requires-2 c κs = search needs
+
+add-t14 : tie.Need-add-t14
+add-t14 c =
+    let w = refused-within (within (c .before .before .before .before .before .before)) (files-refused (c .before)) in omega arith
+
+returns-2 : tie.Need-returns-2
+returns-2 c = answered indexAnswer (both-read (repository-read (c .before .before .before .before .before .before) .1) (files-refused (c .before)))
+
+add-t11 : tie.Need-add-t11
+add-t11 c =
+    let w = ends (within (c .before .before .before .before .before)) (files-read c .1) in omega arith
+
+returns-3 : tie.Need-returns-3
+returns-3 c =
+    let r = repository-read (c .before .before .before .before .before) in
+    let q = files-read c in
+    let at = c .before .before .before .before .before .before .repository .given .0 .1 .0 in
+    let start : at ≡ 8 + padded (length (r .0)) = string-ends (passed (r .1)) in
+    let used : c .before .files .given .0 .1 .0 ≡ at + c .before .files .given .0 .1 .0 - (8 + padded (length (r .0))) = omega arith in
+    same-span (r .2) start used (q .2) ∙ answered indexAnswer (both-read (r .1) (q .1))
+
+pub read-index-spec : {M : Type 1} → statement M
+read-index-spec =
+    tie.close
+    (tie.spec
+    read-text-requires
+    enum-known-repository
+    enum-told
+    refusal-requires
+    returns
+    sub-read-files
+    part-read-files-start
+    part-read-files-end
+    read-files-requires
+    enum-known-files
+    enum-told-2
+    refusal-requires-2
+    add-t14
+    returns-2
+    add-t11
+    returns-3)

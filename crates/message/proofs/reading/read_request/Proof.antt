@@ -1,0 +1,206 @@
+-- `message::reading::read_request` meets its contract: each field that was read is a step, and each return the steps up to it.
+use Prim.Native.Nat.{ℕ, _+_, _-_, _≤_}
+use mathlib.Core.List.{List}
+use mathlib.Core.Path.{_≡_, refl, sym, ap, _∙_}
+use native.Mathlib.Omega.{arith}
+use borrow.Author.Needs.{needs}
+use lib.ListN.{length}
+use denote.Ref.{now}
+use Rattle.xdr.specs.Reading.{taken, refused}
+use Rattle.xdr.specs.Pad.{padded}
+use Rattle.xdr.specs.Fields.{hyper}
+use Rattle.xdr.proofs.Answered.{word-taken, word-refused, hyper-taken, hyper-refused, bytes-taken, bytes-refused}
+use Rattle.xdr.proofs.Steps.{Reads, answered, first-refused, both-read, passed, ends-word}
+use Rattle.xdr.proofs.Strings.{string-ends}
+use Rattle.record.specs.Block.{size, hash}
+use Rattle.record.specs.File.{name}
+use Rattle.message.specs.Message.{isRequest, repository}
+use Rattle.message.specs.Answers.{span, bodyAnswer}
+use Rattle.message.specs.declared.answer.Message.the-variants as M
+use Rattle.message.proofs.reading.read_request.Statement.{statement}
+use Rattle.message.proofs.reading.read_request.Tie as tie
+
+-- from the place after a field was read to that after the field before it
+abbrev to-repository : tie.After-known-told2 → tie.After-known-told
+to-repository c = c .before .before .before .before
+
+abbrev to-name : tie.After-known-told3 → tie.After-known-told2
+to-name c = c .before .before .before .before
+
+abbrev to-offset : tie.After-known-told4 → tie.After-known-told3
+to-offset c = c .before .before .before .before
+
+-- the bytes that were given
+abbrev s : tie.After-known-told → List ℕ
+s c = now (c .before .before .before .before .before .args .s)
+
+-- each field that was read, and where
+repository-read : (c : tie.After-known-told) → (l : List ℕ) × Reads repository (s c) 4 (taken l (c .before .repository .given .0 .1 .0)) × (length l ≡ c .before .repository .given .0 .0)
+repository-read c = bytes-taken (c .before .before .before .read-text .ensures) (c .before .repository .given .1)
+
+name-read : (c : tie.After-known-told2) → (l : List ℕ) × Reads name (s (to-repository c)) (to-repository c .before .repository .given .0 .1 .0) (taken l (c .before .name .given .0 .1 .0)) × (length l ≡ c .before .name .given .0 .0)
+name-read c = bytes-taken (c .before .before .before .read-name .ensures) (c .before .name .given .1)
+
+offset-read : (c : tie.After-known-told3) → Reads hyper (s (to-repository (to-name c))) (to-name c .before .name .given .0 .1 .0) (taken (c .before .offset .given .0 .0) (c .before .offset .given .0 .1 .0))
+offset-read c = hyper-taken (c .before .before .before .read-hyper .ensures) (c .before .offset .given .1)
+
+size-read : (c : tie.After-known-told4) → Reads size (s (to-repository (to-name (to-offset c)))) (to-offset c .before .offset .given .0 .1 .0) (taken (c .before .size .given .0 .0) (c .before .size .given .0 .1 .0))
+size-read c = word-taken (c .before .before .before .read-size .ensures) (c .before .size .given .1)
+
+-- where the name and the hash stand, by the lengths before them
+places : (c : tie.After-known-told4)
+    → let r = repository-read (to-repository (to-name (to-offset c))) .0 in
+    let n = name-read (to-name (to-offset c)) .0 in
+    (to-repository (to-name (to-offset c)) .before .repository .given .0 .1 .0 ≡ 8 + padded (length r))
+    × (c .before .size .given .0 .1 .0 + 4 ≡ 8 + padded (length r) + 4 + padded (length n) + 16)
+places c =
+    let r = string-ends (passed (repository-read (to-repository (to-name (to-offset c))) .1)) in
+    let n = string-ends (passed (passed (name-read (to-name (to-offset c)) .1))) in
+    let o = ends-word (offset-read (to-offset c)) .0 in
+    let l = ends-word (passed (size-read c)) .0 in
+    (r, omega (arith, r, n, o, l))
+
+-- an answer with the lengths of what was read
+same-span : {id r x a b n y o l p q h z e : ℕ} → x ≡ r → a ≡ b → y ≡ n → p ≡ q → z ≡ h
+    → M.Request id (record { repository = span 8 r; name = span a n; offset = o; length = l; hash = span p h; end = e })
+    ≡ M.Request id (record { repository = span 8 x; name = span b y; offset = o; length = l; hash = span q z; end = e })
+same-span u v w t i = rw (u, v, w, t, i) refl
+
+read-text-requires : tie.Need-read-text-requires
+read-text-requires c κs = search needs
+
+enum-known-repository : tie.Need-enum-known-repository
+enum-known-repository c = search needs
+
+enum-told : tie.Need-enum-told
+enum-told c = search needs
+
+refusal-requires : tie.Need-refusal-requires
+refusal-requires c κs = search needs
+
+returns : tie.Need-returns
+returns c = answered (bodyAnswer isRequest (c .before .before .before .before .before .args .id)) (first-refused
+    (bytes-refused (c .before .before .before .read-text .ensures) (c .before .enum-told .given .1) (c .refusal .ensures)))
+
+read-name-requires : tie.Need-read-name-requires
+read-name-requires c κs = search needs
+
+enum-known-name : tie.Need-enum-known-name
+enum-known-name c = search needs
+
+enum-told-2 : tie.Need-enum-told-2
+enum-told-2 c = search needs
+
+refusal-requires-2 : tie.Need-refusal-requires-2
+refusal-requires-2 c κs = search needs
+
+returns-2 : tie.Need-returns-2
+returns-2 c =
+    let k = c .before .before .before .before in
+    answered (bodyAnswer isRequest (c .before .before .before .before .before .before .before .before .before .args .id)) (both-read (repository-read k .1) (first-refused
+    (bytes-refused (c .before .before .before .read-name .ensures) (c .before .enum-told2 .given .1) (c .refusal2 .ensures))))
+
+read-hyper-requires : tie.Need-read-hyper-requires
+read-hyper-requires c κs = search needs
+
+enum-known-offset : tie.Need-enum-known-offset
+enum-known-offset c = search needs
+
+enum-told-3 : tie.Need-enum-told-3
+enum-told-3 c = search needs
+
+refusal-requires-3 : tie.Need-refusal-requires-3
+refusal-requires-3 c κs = search needs
+
+returns-3 : tie.Need-returns-3
+returns-3 c =
+    let k = c .before .before .before .before in
+    answered (bodyAnswer isRequest (c .before .before .before .before .before .before .before .before .before .before .before .before .before .args .id)) (both-read (repository-read (to-repository k) .1) (both-read (name-read k .1) (first-refused
+    (hyper-refused (c .before .before .before .read-hyper .ensures) (c .before .enum-told3 .given .1) (c .refusal3 .ensures)))))
+
+read-size-requires : tie.Need-read-size-requires
+read-size-requires c κs = search needs
+
+enum-known-size : tie.Need-enum-known-size
+enum-known-size c = search needs
+
+enum-told-4 : tie.Need-enum-told-4
+enum-told-4 c = search needs
+
+refusal-requires-4 : tie.Need-refusal-requires-4
+refusal-requires-4 c κs = search needs
+
+returns-4 : tie.Need-returns-4
+returns-4 c =
+    let k = c .before .before .before .before in
+    answered (bodyAnswer isRequest (c .before .before .before .before .before .before .before .before .before .before .before .before .before .before .before .before .before .args .id)) (both-read (repository-read (to-repository (to-name k)) .1) (both-read (name-read (to-name k) .1) (both-read (offset-read k) (first-refused
+    (word-refused (c .before .before .before .read-size .ensures) (c .before .enum-told4 .given .1) (c .refusal4 .ensures))))))
+
+read-hash-requires : tie.Need-read-hash-requires
+read-hash-requires c κs = search needs
+
+enum-known-hash : tie.Need-enum-known-hash
+enum-known-hash c = search needs
+
+enum-told-5 : tie.Need-enum-told-5
+enum-told-5 c = search needs
+
+refusal-requires-5 : tie.Need-refusal-requires-5
+refusal-requires-5 c κs = search needs
+
+returns-5 : tie.Need-returns-5
+returns-5 c =
+    let k = c .before .before .before .before in
+    answered (bodyAnswer isRequest (c .before .before .before .before .before .before .before .before .before .before .before .before .before .before .before .before .before .before .before .before .before .args .id)) (both-read (repository-read (to-repository (to-name (to-offset k))) .1) (both-read (name-read (to-name (to-offset k)) .1) (both-read (offset-read (to-offset k)) (both-read (size-read k)
+    (bytes-refused (c .before .before .before .read-hash .ensures) (c .before .enum-told5 .given .1) (c .refusal5 .ensures))))))
+
+add-t25 : tie.Need-add-t25
+add-t25 c =
+    let w = places (c .before .before .before .before) in omega (arith, ends-word (passed (size-read (c .before .before .before .before))) .1)
+
+add-t27 : tie.Need-add-t27
+add-t27 c =
+    let w = places (c .before .before .before .before) in omega (arith, ends-word (passed (size-read (c .before .before .before .before))) .1, c .before .before .before .before .before .before .before .before .before .before .before .before .before .before .before .before .before .before .before .before .before .good .0 .0)
+
+returns-6 : tie.Need-returns-6
+returns-6 c =
+    let k = c .before .before .before .before in
+    let r = repository-read (to-repository (to-name (to-offset k))) in
+    let n = name-read (to-name (to-offset k)) in
+    let h = bytes-taken (c .before .before .before .read-hash .ensures) (c .before .hash .given .1) in
+    let w = places k in
+    same-span (r .2) (ap (λ (m : ℕ). m + 4) (w .0)) (n .2) (w .1) (h .2)
+    ∙ answered (bodyAnswer isRequest (c .before .before .before .before .before .before .before .before .before .before .before .before .before .before .before .before .before .before .before .before .before .args .id)) (both-read (r .1) (both-read (n .1) (both-read (offset-read (to-offset k)) (both-read (size-read k) (h .1)))))
+
+pub read-request-spec : {M : Type 1} → statement M
+read-request-spec =
+    tie.close
+    (tie.spec
+    read-text-requires
+    enum-known-repository
+    enum-told
+    refusal-requires
+    returns
+    read-name-requires
+    enum-known-name
+    enum-told-2
+    refusal-requires-2
+    returns-2
+    read-hyper-requires
+    enum-known-offset
+    enum-told-3
+    refusal-requires-3
+    returns-3
+    read-size-requires
+    enum-known-size
+    enum-told-4
+    refusal-requires-4
+    returns-4
+    read-hash-requires
+    enum-known-hash
+    enum-told-5
+    refusal-requires-5
+    returns-5
+    add-t25
+    add-t27
+    returns-6)

@@ -1,0 +1,37 @@
+-- `message::reading::read_response` meets its contract: the data that was read, or refused.
+use Prim.Native.Nat.{ℕ}
+use mathlib.Core.Path.{_≡_, refl, sym, ap, _∙_}
+use borrow.Author.Needs.{needs}
+use Rattle.xdr.proofs.Answered.{bytes-taken, bytes-refused}
+use Rattle.xdr.proofs.Steps.{answered}
+use Rattle.message.specs.Message.{isResponse}
+use Rattle.message.specs.Answers.{span, bodyAnswer}
+use Rattle.message.specs.declared.answer.Message.the-variants as M
+use Rattle.message.proofs.reading.read_response.Statement.{statement}
+use Rattle.message.proofs.reading.read_response.Tie as tie
+
+read-bytes-requires : tie.Need-read-bytes-requires
+read-bytes-requires c κs = search needs
+
+enum-known-data : tie.Need-enum-known-data
+enum-known-data c = search needs
+
+enum-told : tie.Need-enum-told
+enum-told c = search needs
+
+refusal-requires : tie.Need-refusal-requires
+refusal-requires c κs = search needs
+
+returns : tie.Need-returns
+returns c = answered (bodyAnswer isResponse (c .before .before .before .before .before .args .id)) (bytes-refused (c .before .before .before .read-bytes .ensures) (c .before .enum-told .given .1) (c .refusal .ensures))
+
+returns-2 : tie.Need-returns-2
+returns-2 c =
+    let q = bytes-taken (c .before .before .before .read-bytes .ensures) (c .before .«data» .given .1) in
+    ap (λ (n : ℕ). M.Response (c .before .before .before .before .before .args .id) (record { «data» = span 8 n; end = c .before .«data» .given .0 .1 .0 })) (sym (q .2))
+    ∙ answered (bodyAnswer isResponse (c .before .before .before .before .before .args .id)) (q .1)
+
+pub read-response-spec : {M : Type 1} → statement M
+read-response-spec =
+    tie.close
+    (tie.spec read-bytes-requires enum-known-data enum-told refusal-requires returns returns-2)

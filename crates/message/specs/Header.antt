@@ -1,0 +1,32 @@
+-- The header word: 4 bits version, 12 bits Message ID, 8 bits type, 8 bits reserved, from the top.
+use Prim.Native.Nat.{ℕ, _+_, _*_, _/_, _%_}
+use mathlib.Core.Bool.{Bool, _&&_}
+use lib.Dec.{leb, eqb}
+use Rattle.xdr.specs.Format.{Format, checked}
+use Rattle.xdr.specs.Fields.{word}
+
+abbrev pub versionOf : ℕ → ℕ
+versionOf h = h / 268435456
+
+abbrev pub idOf : ℕ → ℕ
+idOf h = h / 65536 % 4096
+
+abbrev pub typeOf : ℕ → ℕ
+typeOf h = h / 256 % 256
+
+abbrev pub reservedOf : ℕ → ℕ
+reservedOf h = h % 256
+
+-- the header of a message with an ID and a type: version and reserved are zero
+abbrev pub headerOf : (id type : ℕ) → ℕ
+headerOf id type = id * 65536 + type * 256
+
+abbrev pub isType : ℕ → Bool
+isType t = leb 1 t && leb t 7
+
+-- one field, with its checks in order
+abbrev pub header : Format ℕ
+header =
+    checked 4 (λ h. eqb (reservedOf h) 0)
+    (checked 3 (λ h. isType (typeOf h))
+    (checked 2 (λ h. eqb (versionOf h) 0) word))

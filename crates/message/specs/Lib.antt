@@ -1,0 +1,4 @@
+pub mod Limits
+pub mod Header
+pub mod Message
+pub mod Answers

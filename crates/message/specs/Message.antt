@@ -1,0 +1,62 @@
+-- The seven messages: a header word, and a body by the type that it names.
+use Prim.Native.Nat.{ℕ}
+use mathlib.Core.List.{List}
+use mathlib.Core.Bool.{cond}
+use lib.Dec.{eqb}
+use Rattle.xdr.specs.Format.{Format, nothing, pair}
+use Rattle.xdr.specs.Fields.{hyper, opaque, text}
+use Rattle.record.specs.Block.{size, hash}
+use Rattle.record.specs.File.{File, name, files}
+use Rattle.record.specs.KeyValue.{KeyValue, options}
+use Rattle.message.specs.Limits.{repositoryLimit, filesLimit, dataLimit, optionsLimit}
+use Rattle.message.specs.Header.{typeOf, header}
+
+abbrev pub repository : Format (List ℕ)
+repository = text repositoryLimit
+
+-- Index and IndexUpdate: Repository and files
+abbrev pub index : Format (List ℕ × List File)
+index = pair repository λ r. files filesLimit
+
+-- Request: Repository, Name, Offset, Length and Hash
+abbrev pub request : Format (List ℕ × (List ℕ × (ℕ × (ℕ × List ℕ))))
+request = pair repository λ r. pair name λ n. pair hyper λ o. pair size λ l. hash
+
+-- Response: Data
+abbrev pub response : Format (List ℕ)
+response = opaque dataLimit
+
+-- the kinds of messages, by their types 1 to 7 (no other passes the header)
+pub data Kind : Type 0 where
+  isIndex isRequest isResponse isPing isPong isIndexUpdate isOptions : Kind
+
+abbrev pub kindOf : ℕ → Kind
+kindOf t =
+    cond (eqb t 1) isIndex (cond (eqb t 2) isRequest (cond (eqb t 3) isResponse
+    (cond (eqb t 4) isPing (cond (eqb t 5) isPong (cond (eqb t 6) isIndexUpdate isOptions)))))
+
+-- what the body of each kind says
+abbrev pub Body : Kind → Type 0
+Body isIndex = List ℕ × List File
+Body isRequest = List ℕ × (List ℕ × (ℕ × (ℕ × List ℕ)))
+Body isResponse = List ℕ
+Body isPing = Unit {0}
+Body isPong = Unit {0}
+Body isIndexUpdate = List ℕ × List File
+Body isOptions = List KeyValue
+
+abbrev pub body : (k : Kind) → Format (Body k)
+body isIndex = index
+body isRequest = request
+body isResponse = response
+body isPing = nothing
+body isPong = nothing
+body isIndexUpdate = index
+body isOptions = options optionsLimit
+
+-- a message as a value: its header word and what its body says
+abbrev pub Sent : Type 0
+Sent = (h : ℕ) × Body (kindOf (typeOf h))
+
+abbrev pub message : Format Sent
+message = pair header λ h. body (kindOf (typeOf h))

@@ -1,0 +1,10 @@
+-- Laws of records: what answers tell of a reading, and what holds of what was read.
+pub mod SizeRule
+pub mod FlagBits
+pub mod Answered
+pub mod Arrays
+pub mod OutlineLaws
+pub mod BlockLaws
+pub mod FileLaws
+pub mod Sizes
+pub mod SignedOrder

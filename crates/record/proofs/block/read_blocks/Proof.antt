@@ -1,0 +1,155 @@
+-- `record::block::read_blocks` meets its contract. The loop's invariant: so many blocks have been read, and end where the next begins.
+use Prim.Native.Nat.{ℕ, _+_, _-_, _≤_}
+use mathlib.Core.List.{List}
+use mathlib.Core.Bool.{Bool}
+use native.Mathlib.Omega.{arith}
+use denote.Ref.{now}
+use Rattle.xdr.specs.Reading.{taken, refused}
+use Rattle.xdr.proofs.Answered.{word-taken, word-refused}
+use Rattle.xdr.proofs.Steps.{Reads, answered, ends, refused-within, part-read}
+use Rattle.xdr.proofs.Runs.{Progress, progress-none, progress-more, count-refused, element-refused}
+use Rattle.record.specs.Answers.{blockAnswer, arrayAnswer}
+use Rattle.record.specs.Block.{Block, block, blockCount}
+use Rattle.record.proofs.Arrays.{part-of, array-done}
+use Rattle.record.proofs.Answered.{block-taken, block-refused}
+use borrow.Author.Needs.{needs}
+use Rattle.record.proofs.block.read_blocks.Statement.{statement}
+use Rattle.record.proofs.block.read_blocks.Tie as tie
+
+abbrev Inv-loop : tie.InvT-loop
+Inv-loop s gone count first next₀ i₀ next i = Progress block s first i next × (i ≤ count)
+
+abbrev μ-loop : tie.MeasureT-loop
+μ-loop s gone count first next₀ i₀ next i = count - i
+
+-- from the loop to the place after the count was read
+abbrev counted : tie.At-loop Inv-loop μ-loop → tie.After-known-told Inv-loop μ-loop
+counted c = c .before
+
+-- what was given, and the count that was read with the place after it
+abbrev s : tie.After-known-told Inv-loop μ-loop → List ℕ
+s c = now (c .before .before .before .before .before .args .s)
+
+abbrev gone : tie.After-known-told Inv-loop μ-loop → Bool
+gone c = c .before .before .before .before .before .args .gone
+
+abbrev count : tie.After-known-told Inv-loop μ-loop → ℕ
+count c = c .before .answer .given .0 .0
+
+count-read : (c : tie.After-known-told Inv-loop μ-loop) → Reads (blockCount (gone c)) (s c) 0 (taken (count c) (c .before .answer .given .0 .1 .0))
+count-read c = word-taken (c .before .before .before .read-block-count .ensures) (c .before .answer .given .1)
+
+-- the next block, refused
+refused-there : (c : tie.After-refusal2 Inv-loop μ-loop)
+    → let l = c .before .before .before .before .before .before in
+    Reads block (s (counted l)) (l .loop .next) (refused (c .refusal2 .result .number) (l .loop .next + c .refusal2 .result .place))
+refused-there c =
+    let l = c .before .before .before .before .before .before in
+    part-read (block-refused (part-of blockAnswer block (s (counted l)) (l .loop .next) (c .before .before .before .read-block .ensures)) (c .before .enum-told2 .given .1) (c .refusal2 .ensures))
+
+-- the next block, read
+read-there : (c : tie.After-known-told2 Inv-loop μ-loop)
+    → let l = c .before .before .before .before .before .before in
+    (b : Block) × Reads block (s (counted l)) (l .loop .next) (taken b (l .loop .next + c .before .read .given .0 .1 .0))
+read-there c =
+    let l = c .before .before .before .before .before .before in
+    let q = block-taken (part-of blockAnswer block (s (counted l)) (l .loop .next) (c .before .before .before .read-block .ensures)) (c .before .read .given .1) in
+    (q .0, part-read (q .1))
+
+read-block-count-requires : tie.Need-read-block-count-requires Inv-loop μ-loop
+read-block-count-requires c κs = search needs
+
+enum-known-answer : tie.Need-enum-known-answer Inv-loop μ-loop
+enum-known-answer c = search needs
+
+enum-told : tie.Need-enum-told Inv-loop μ-loop
+enum-told c = search needs
+
+refusal-requires : tie.Need-refusal-requires Inv-loop μ-loop
+refusal-requires c κs = search needs
+
+returns : tie.Need-returns Inv-loop μ-loop
+returns c =
+    answered arrayAnswer (count-refused
+    (word-refused (c .before .before .before .read-block-count .ensures) (c .before .enum-told .given .1) (c .refusal .ensures)))
+
+loop-holds : tie.Need-loop-holds Inv-loop μ-loop
+loop-holds c = (progress-none (ends (omega arith) (count-read c) .1), omega arith)
+
+sub-read-block : tie.Need-sub-read-block Inv-loop μ-loop
+sub-read-block c = search needs
+
+part-read-block-start : tie.Need-part-read-block-start Inv-loop μ-loop
+part-read-block-start c = search needs
+
+part-read-block-end : tie.Need-part-read-block-end Inv-loop μ-loop
+part-read-block-end c = search needs
+
+read-block-requires : tie.Need-read-block-requires Inv-loop μ-loop
+read-block-requires c κs = search needs
+
+enum-known-read : tie.Need-enum-known-read Inv-loop μ-loop
+enum-known-read c = search needs
+
+enum-told-2 : tie.Need-enum-told-2 Inv-loop μ-loop
+enum-told-2 c = search needs
+
+refusal-requires-2 : tie.Need-refusal-requires-2 Inv-loop μ-loop
+refusal-requires-2 c κs = search needs
+
+add-t17 : tie.Need-add-t17 Inv-loop μ-loop
+add-t17 c =
+    let p = c .before .before .before .before .before .before .before .loop .inv .0 in
+    let w = refused-within (p .room) (refused-there (c .before)) in
+    omega arith
+
+returns-2 : tie.Need-returns-2 Inv-loop μ-loop
+returns-2 c =
+    let l = c .before .before .before .before .before .before .before in
+    let p = l .loop .inv .0 in
+    answered arrayAnswer (element-refused (count-read (counted l)) (p .run) (omega (arith, p .counted)) (refused-there (c .before)))
+
+add-next : tie.Need-add-next Inv-loop μ-loop
+add-next c =
+    let p = c .before .before .before .before .before .before .loop .inv .0 in
+    let w = ends (p .room) (read-there c .1) in
+    omega arith
+
+add-i : tie.Need-add-i Inv-loop μ-loop
+add-i c = search needs
+
+loop-less : tie.Need-loop-less Inv-loop μ-loop
+loop-less c = search needs
+
+loop-again : tie.Need-loop-again Inv-loop μ-loop
+loop-again c = (progress-more (c .before .before .before .before .before .before .loop .inv .0) (read-there c .1), omega arith)
+
+returns-3 : tie.Need-returns-3 Inv-loop μ-loop
+returns-3 c = array-done (count-read (counted (c .before))) (c .before .loop .inv .0) (omega arith)
+
+pub read-blocks-spec : {M : Type 1} → statement M
+read-blocks-spec =
+    tie.close
+    (tie.spec
+    Inv-loop
+    μ-loop
+    read-block-count-requires
+    enum-known-answer
+    enum-told
+    refusal-requires
+    returns
+    loop-holds
+    sub-read-block
+    part-read-block-start
+    part-read-block-end
+    read-block-requires
+    enum-known-read
+    enum-told-2
+    refusal-requires-2
+    add-t17
+    returns-2
+    add-next
+    add-i
+    loop-less
+    loop-again
+    returns-3)

@@ -1,0 +1,45 @@
+-- `record::block::read_size` meets its contract: the word's steps, and then its test.
+use Rattle.xdr.specs.Answers.{wordAnswer}
+use Rattle.xdr.proofs.Answered.{word-taken, word-refused}
+use Rattle.xdr.proofs.Steps.{answered, checked-refused, checked-failed, checked-passed}
+use Rattle.record.proofs.SizeRule.{size-fits, size-zero, size-large}
+use borrow.Author.Needs.{needs}
+use Rattle.record.proofs.block.read_size.Statement.{statement}
+use Rattle.record.proofs.block.read_size.Tie as tie
+
+read-word-requires : tie.Need-read-word-requires
+read-word-requires c κs = search needs
+
+enum-known-answer : tie.Need-enum-known-answer
+enum-known-answer c = search needs
+
+enum-told : tie.Need-enum-told
+enum-told c = search needs
+
+refusal-requires : tie.Need-refusal-requires
+refusal-requires c κs = search needs
+
+returns : tie.Need-returns
+returns c = answered wordAnswer (checked-refused (word-refused (c .before .before .before .read-word .ensures) (c .before .enum-told .given .1) (c .refusal .ensures)))
+
+returns-2 : tie.Need-returns-2
+returns-2 c = answered wordAnswer (checked-failed (word-taken (c .before .before .before .before .read-word .ensures) (c .before .before .answer .given .1)) (size-zero _ (c .if1 .taken)))
+
+returns-3 : tie.Need-returns-3
+returns-3 c = answered wordAnswer (checked-failed (word-taken (c .before .before .before .before .before .read-word .ensures) (c .before .before .before .answer .given .1)) (size-large _ (c .if2 .taken)))
+
+returns-4 : tie.Need-returns-4
+returns-4 c = answered wordAnswer (checked-passed (word-taken (c .before .before .before .before .before .read-word .ensures) (c .before .before .before .answer .given .1)) (size-fits _ (c .before .if1 .left) (c .if2 .left)))
+
+pub read-size-spec : {M : Type 1} → statement M
+read-size-spec =
+    tie.close
+    (tie.spec
+    read-word-requires
+    enum-known-answer
+    enum-told
+    refusal-requires
+    returns
+    returns-2
+    returns-3
+    returns-4)

@@ -1,0 +1,49 @@
+-- BlockInfo: a Length and a Hash.
+use Prim.Native.Nat.{ℕ, _+_}
+use mathlib.Core.List.{List, [], _∷_}
+use mathlib.Core.Path.{refl}
+use mathlib.Core.Bool.{Bool, true, cond, _&&_}
+use lib.Dec.{leb, eqb}
+use Rattle.xdr.specs.Format.{Format, bytes, array, pair, checked, via}
+use Rattle.xdr.specs.Fields.{word, upTo}
+use Rattle.record.specs.Limits.{blocksLimit, sizeLimit, hashLength}
+
+-- (`size` is the Length)
+pub record Block : Type 0 where
+  pub size : ℕ
+  pub hash : List ℕ
+
+-- 1 up to the limit
+abbrev pub isSize : ℕ → Bool
+isSize n = leb 1 n && leb n sizeLimit
+
+-- the Length of a block or of a Request
+abbrev pub size : Format ℕ
+size = checked 10 isSize word
+
+-- an opaque of exactly that length, which needs no pad
+abbrev pub hash : Format (List ℕ)
+hash = bytes (checked 9 (λ n. eqb n hashLength) word)
+
+abbrev pub toBlock : ℕ × List ℕ → Block
+toBlock p = record { size = p .0; hash = p .1 }
+
+abbrev pub fromBlock : Block → ℕ × List ℕ
+fromBlock b = (b .size, b .hash)
+
+-- a block: Length, Hash
+abbrev pub block : Format Block
+block = via toBlock fromBlock (λ p. refl) (λ b. refl) (pair size λ n. hash)
+
+-- the number of a file's blocks: none where the file is gone, that is deleted
+abbrev pub blockCount : Bool → Format ℕ
+blockCount gone = checked 12 (λ n. cond gone (eqb n 0) true) (upTo blocksLimit)
+
+-- the blocks of a file that is gone or not
+abbrev pub blocks : Bool → Format (List Block)
+blocks gone = array (blockCount gone) block
+
+-- the sum of their Lengths: the offset of the block after them
+abbrev pub totalSize : List Block → ℕ
+totalSize [] = 0
+totalSize (b ∷ l) = b .size + totalSize l

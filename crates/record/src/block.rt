@@ -1,0 +1,130 @@
+// BlockInfo: a Length and a Hash.
+ghost use mathlib.Core.Path.{_≡_};
+ghost use mathlib.Core.Bool.{true, cond};
+ghost use lib.Dec.{eqb};
+ghost use Rattle.xdr.specs.Answers.{wordAnswer, bytesAnswer};
+ghost use Rattle.xdr.specs.Format.{readAt};
+ghost use Rattle.record.specs.Answers.{blockAnswer, arrayAnswer};
+ghost use Rattle.record.specs.Block.{size, hash, block, blockCount, blocks};
+use crate::array::Array;
+use crate::array::read_count;
+use xdr::Bytes;
+use xdr::Refusal;
+use xdr::Word;
+
+const SIZE_LIMIT: u32 = 131072;
+
+const BLOCKS_LIMIT: u32 = 1024;
+
+// The Length of a block or of a Request at a place.
+pub fn read_size(s: &[u8], at: usize) -> Word
+    ensures { λ r. ⌜ r ≡ wordAnswer (readAt size (now (s .entry)) at) ⌝ }
+{
+    let answer = xdr::read_word(s, at);
+    let Word::Taken(n, next) = answer else {
+        return Word::Refused(answer.refusal());
+    };
+    if n == 0 {
+        return Word::Refused(Refusal {
+            number: 10,
+            place: at,
+        });
+    }
+    if SIZE_LIMIT < n {
+        return Word::Refused(Refusal {
+            number: 10,
+            place: at,
+        });
+    }
+    Word::Taken(n, next)
+}
+
+// The hash at a place: its 32 bytes begin 4 bytes after it, and it has no pad.
+pub fn read_hash(s: &[u8], at: usize) -> Bytes
+    ensures { λ r. ⌜ r ≡ bytesAnswer (readAt hash (now (s .entry)) at) ⌝ }
+{
+    let answer = xdr::read_word(s, at);
+    let Word::Taken(len, start) = answer else {
+        return Bytes::Refused(answer.refusal());
+    };
+    if len != 32 {
+        return Bytes::Refused(Refusal {
+            number: 9,
+            place: at,
+        });
+    }
+    if s.len() - start < 32 {
+        return Bytes::Refused(Refusal {
+            number: 1,
+            place: at,
+        });
+    }
+    Bytes::Taken(32, start + 32)
+}
+
+// The block at the front of a part.
+pub fn read_block(s: &[u8]) -> Word
+    ensures { λ r. ⌜ r ≡ blockAnswer (readAt block (now (s .entry)) 0) ⌝ }
+{
+    let length = read_size(s, 0);
+    let Word::Taken(n, hash_at) = length else {
+        return Word::Refused(length.refusal());
+    };
+    let bytes = read_hash(s, hash_at);
+    let Bytes::Taken(_, next) = bytes else {
+        return Word::Refused(bytes.refusal());
+    };
+    Word::Taken(n, next)
+}
+
+// Whether a file may have so many blocks: a deleted one has none.
+fn may_have(gone: bool, count: u32) -> bool
+    ensures { λ r. ⌜ r ≡ cond gone (eqb count 0) true ⌝ }
+{
+    if gone {
+        return count == 0;
+    }
+    true
+}
+
+// The block count at the front of a part.
+fn read_block_count(s: &[u8], gone: bool) -> Word
+    ensures { λ r. ⌜ r ≡ wordAnswer (readAt (blockCount gone) (now (s .entry)) 0) ⌝ }
+{
+    let answer = read_count(s, 0, BLOCKS_LIMIT);
+    let Word::Taken(count, first) = answer else {
+        return Word::Refused(answer.refusal());
+    };
+    if !may_have(gone, count) {
+        return Word::Refused(Refusal {
+            number: 12,
+            place: 0,
+        });
+    }
+    Word::Taken(count, first)
+}
+
+// The blocks at the front of a part, of a file that is gone, that is deleted, or not.
+pub fn read_blocks(s: &[u8], gone: bool) -> Array
+    ensures { λ r. ⌜ r ≡ arrayAnswer (readAt (blocks gone) (now (s .entry)) 0) ⌝ }
+{
+    let answer = read_block_count(s, gone);
+    let Word::Taken(count, first) = answer else {
+        return Array::Refused(answer.refusal());
+    };
+    let mut next = first;
+    let mut i = 0;
+    while i < count {
+        let read = read_block(&s[next..]);
+        let Word::Taken(_, used) = read else {
+            let refusal = read.refusal();
+            return Array::Refused(Refusal {
+                number: refusal.number,
+                place: next + refusal.place,
+            });
+        };
+        next += used;
+        i += 1;
+    }
+    Array::Taken(count, next)
+}

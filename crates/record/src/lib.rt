@@ -1,0 +1,31 @@
+// The records of a message: blocks, files and options, and arrays of them.
+pub mod array;
+pub mod block;
+pub mod file;
+pub mod option;
+pub mod outline;
+
+pub use array::Array;
+pub use block::read_block;
+pub use block::read_blocks;
+pub use block::read_hash;
+pub use block::read_size;
+pub use file::FileRead;
+pub use file::FileSpan;
+pub use file::is_deleted;
+pub use file::is_invalid;
+pub use file::mode;
+pub use file::read_file;
+pub use file::read_files;
+pub use file::read_flags;
+pub use file::read_name;
+pub use option::OptionRead;
+pub use option::OptionSpan;
+pub use option::read_option;
+pub use option::read_options;
+pub use outline::BlockOutline;
+pub use outline::Fields;
+pub use outline::Outline;
+pub use outline::block_at;
+pub use outline::offset_of;
+pub use outline::outline_at;

@@ -1,0 +1,20 @@
+-- Where a string that was read ends.
+use Prim.Native.Nat.{ℕ, _+_, _≤_}
+use mathlib.Core.List.{List}
+use mathlib.Core.Path.{_≡_, ap, _∙_}
+use mathlib.Core.Bool.{Bool}
+use native.Mathlib.Omega.{arith}
+use lib.ListN.{length}
+use Rattle.xdr.specs.Reading.{taken}
+use Rattle.xdr.specs.Pad.{padded}
+use Rattle.xdr.specs.Format.{bytes, checked}
+use Rattle.xdr.specs.Fields.{word}
+use Rattle.xdr.proofs.Steps.{Reads, opened, passed, ends-word}
+
+module _ {k : ℕ} {limited : ℕ → Bool} {s : List ℕ} {at : ℕ} {l : List ℕ} {m : ℕ} (h : Reads (bytes (checked k limited word)) s at (taken l m)) where
+  -- after its length word, its contents and their pad
+  pub string-ends : m ≡ at + 4 + padded (length l)
+  string-ends = let o = opened h in o .ends ∙ ap (λ (n : ℕ). n + padded (length l)) (ends-word (passed (o .size)) .0)
+
+  pub string-within : m ≤ length s
+  string-within = let o = opened h in let w = ends-word (passed (o .size)) .1 in omega (arith, o .ends, o .room)
