@@ -4,6 +4,7 @@ pub mod FlagBits
 pub mod Answered
 pub mod Arrays
 pub mod OutlineLaws
+pub mod OptionLaws
 pub mod BlockLaws
 pub mod FileLaws
 pub mod Sizes

@@ -4,4 +4,5 @@ pub mod File
 pub mod Modified
 pub mod KeyValue
 pub mod Outline
+pub mod OptionOutline
 pub mod Answers

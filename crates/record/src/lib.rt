@@ -3,6 +3,7 @@ pub mod array;
 pub mod block;
 pub mod file;
 pub mod option;
+pub mod option_outline;
 pub mod outline;
 
 pub use array::Array;
@@ -23,6 +24,9 @@ pub use option::OptionRead;
 pub use option::OptionSpan;
 pub use option::read_option;
 pub use option::read_options;
+pub use option_outline::OptionFields;
+pub use option_outline::OptionOutline;
+pub use option_outline::option_at;
 pub use outline::BlockOutline;
 pub use outline::Fields;
 pub use outline::Outline;

@@ -1,0 +1,66 @@
+// The records of a message that was read, one by one: by bounds checks alone.
+ghost use Prim.Native.Nat.{_≤_};
+ghost use mathlib.Core.Path.{_≡_};
+ghost use Rattle.record.specs.Outline.{outlineOf};
+ghost use Rattle.record.specs.OptionOutline.{optionOf};
+ghost use Rattle.bep.specs.Words.{fieldWords, fileWords, fileNumber, keyWords, optionWords, optionNumber};
+use record::Fields;
+use record::OptionFields;
+use record::OptionOutline;
+use record::Outline;
+
+fn field_words(f: Fields) -> [u64; 8]
+    requires { ⌜ f .name ≤ f .stop ⌝ }
+    ensures { λ r. ⌜ r ≡ fieldWords f ⌝ }
+{
+    [
+        f.past as u64,
+        f.name as u64,
+        (f.stop - f.name) as u64,
+        f.flags as u64,
+        f.modified,
+        f.version as u64,
+        f.blocks as u64,
+        f.first as u64,
+    ]
+}
+
+fn key_words(f: OptionFields) -> [u64; 5]
+    ensures { λ r. ⌜ r ≡ keyWords f ⌝ }
+{
+    [
+        f.past as u64,
+        f.key as u64,
+        f.key_length as u64,
+        f.value as u64,
+        f.value_length as u64,
+    ]
+}
+
+// The file at a place of an array whose reading was accepted.
+#[no_mangle]
+pub extern "C" fn bep_file(files: &[u8], at: usize, answer: &mut [u64; 8]) -> u32
+    ensures { λ r. ⌜ (r ≡ fileNumber (outlineOf (now (files .entry)) at)) × (now (answer .exit) ≡ fileWords (outlineOf (now (files .entry)) at)) ⌝ }
+{
+    let outline = record::outline_at(files, at);
+    let Outline::Whole(f) = outline else {
+        *answer = [0; 8];
+        return 1;
+    };
+    *answer = field_words(f);
+    0
+}
+
+// The option at a place of an array whose reading was accepted.
+#[no_mangle]
+pub extern "C" fn bep_option(options: &[u8], at: usize, answer: &mut [u64; 5]) -> u32
+    ensures { λ r. ⌜ (r ≡ optionNumber (optionOf (now (options .entry)) at)) × (now (answer .exit) ≡ optionWords (optionOf (now (options .entry)) at)) ⌝ }
+{
+    let outline = record::option_at(options, at);
+    let OptionOutline::Whole(f) = outline else {
+        *answer = [0; 5];
+        return 1;
+    };
+    *answer = key_words(f);
+    0
+}

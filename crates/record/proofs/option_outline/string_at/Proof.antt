@@ -1,0 +1,72 @@
+-- `record::option_outline::string_at` meets its contract: each return is one of the laws of an outline.
+use mathlib.Core.Path.{refl}
+use native.Mathlib.Omega.{arith}
+use denote.Ref.{now}
+use Rattle.record.specs.Outline.{wordAt}
+use Rattle.record.proofs.OutlineLaws.{There, word-there, word-missing}
+use Rattle.record.proofs.OptionLaws.{string-short, string-whole}
+use borrow.Author.Needs.{needs}
+use Rattle.record.proofs.option_outline.string_at.Statement.{statement}
+use Rattle.record.proofs.option_outline.string_at.Tie as tie
+
+-- the length of the contents
+length-there : (c : tie.After-known-told) → There 4 wordAt (now (c .before .before .before .before .before .args .s)) (c .before .before .before .before .before .args .at) (c .before .len .given .0 .0) (c .before .len .given .0 .1 .0)
+length-there c = word-there (c .before .before .before .read-word .ensures) (c .before .len .given .1)
+
+read-word-requires : tie.Need-read-word-requires
+read-word-requires c κs = search needs
+
+enum-known-len : tie.Need-enum-known-len
+enum-known-len c = search needs
+
+enum-told : tie.Need-enum-told
+enum-told c = search needs
+
+returns : tie.Need-returns
+returns c =
+    let a = c .before .before .before .before .args in
+    let h = word-missing (c .before .before .read-word .ensures) (c .enum-told .given .1) .cut in
+    string-short (now (a .s)) (a .at) (wordAt (now (a .s)) (a .at)) refl (omega (arith, h))
+
+cast-n : tie.Need-cast-n
+cast-n c = search needs
+
+pad-after-requires : tie.Need-pad-after-requires
+pad-after-requires c κs = search needs
+
+add-size : tie.Need-add-size
+add-size c = search needs
+
+sub-if1 : tie.Need-sub-if1
+sub-if1 c = length-there (c .before) .room
+
+returns-2 : tie.Need-returns-2
+returns-2 c =
+    let a = c .before .before .before .before .before .before .before .args in
+    let l = length-there (c .before .before) in
+    string-short (now (a .s)) (a .at) (c .before .before .before .len .given .0 .0) (l .is) (omega (arith, l .ends, l .room, c .before .pad-after .ensures))
+
+add-t8 : tie.Need-add-t8
+add-t8 c = search needs
+
+returns-3 : tie.Need-returns-3
+returns-3 c =
+    let a = c .before .before .before .before .before .before .before .args in
+    let l = length-there (c .before .before) in
+    string-whole (now (a .s)) (a .at) (c .before .before .before .len .given .0 .0) _ (l .is) (omega (arith, l .ends, c .before .pad-after .ensures)) (omega (arith, l .room))
+
+pub string-at-spec : {M : Type 1} → statement M
+string-at-spec =
+    tie.close
+    (tie.spec
+    read-word-requires
+    enum-known-len
+    enum-told
+    returns
+    cast-n
+    pad-after-requires
+    add-size
+    sub-if1
+    returns-2
+    add-t8
+    returns-3)
