@@ -64,7 +64,7 @@ readNumber (M.Refused r) = r .number
 
 -- a file: the place past it, its name's start and length, Flags, Modified, Version, the number of its blocks and the place of the first
 abbrev pub fieldWords : Fields → List ℕ
-fieldWords f = f .past ∷ f .name ∷ f .stop - f .name ∷ f .flags ∷ f .modified ∷ f .version ∷ f .blocks ∷ f .first ∷ []
+fieldWords f = f .past ∷ f .name ∷ (f .stop - f .name) ∷ f .flags ∷ f .modified ∷ f .version ∷ f .blocks ∷ f .first ∷ []
 
 abbrev pub fileWords : Outline → List ℕ
 fileWords (O.Whole f) = fieldWords f
