@@ -2,7 +2,6 @@
 ghost use mathlib.Core.Path.{_≡_};
 ghost use Rattle.record.specs.OptionOutline.{stringOf, optionOf};
 use xdr::Word;
-use xdr::pad_after;
 
 // The length of a string's contents, which begin 4 bytes after its place, and the place after its pad, where they are within the bytes.
 pub enum StringOutline {
@@ -34,7 +33,7 @@ fn string_at(s: &[u8], at: usize) -> StringOutline
         return StringOutline::Short;
     };
     let n = len as usize;
-    let size = n + pad_after(n);
+    let size = (n + 3) / 4 * 4;
     if s.len() - start < size {
         return StringOutline::Short;
     }

@@ -9,8 +9,11 @@ use borrow.Author.Needs.{needs}
 use Rattle.record.proofs.option_outline.string_at.Statement.{statement}
 use Rattle.record.proofs.option_outline.string_at.Tie as tie
 
+abbrev start : tie.After-known-told → tie.Start
+start c = c .before .before .before .before .before
+
 -- the length of the contents
-length-there : (c : tie.After-known-told) → There 4 wordAt (now (c .before .before .before .before .before .args .s)) (c .before .before .before .before .before .args .at) (c .before .len .given .0 .0) (c .before .len .given .0 .1 .0)
+length-there : (c : tie.After-known-told) → There 4 wordAt (now (start c .args .s)) (start c .args .at) (c .before .len .given .0 .0) (c .before .len .given .0 .1 .0)
 length-there c = word-there (c .before .before .before .read-word .ensures) (c .before .len .given .1)
 
 read-word-requires : tie.Need-read-word-requires
@@ -31,29 +34,29 @@ returns c =
 cast-n : tie.Need-cast-n
 cast-n c = search needs
 
-pad-after-requires : tie.Need-pad-after-requires
-pad-after-requires c κs = search needs
-
 add-size : tie.Need-add-size
 add-size c = search needs
 
+mul-size : tie.Need-mul-size
+mul-size c = search needs
+
 sub-if1 : tie.Need-sub-if1
-sub-if1 c = length-there (c .before) .room
+sub-if1 c = length-there c .room
 
 returns-2 : tie.Need-returns-2
 returns-2 c =
-    let a = c .before .before .before .before .before .before .before .args in
-    let l = length-there (c .before .before) in
-    string-short (now (a .s)) (a .at) (c .before .before .before .len .given .0 .0) (l .is) (omega (arith, l .ends, l .room, c .before .pad-after .ensures))
+    let a = start (c .before) .args in
+    let l = length-there (c .before) in
+    string-short (now (a .s)) (a .at) (c .before .before .len .given .0 .0) (l .is) (omega (arith, l .ends, l .room))
 
 add-t8 : tie.Need-add-t8
 add-t8 c = search needs
 
 returns-3 : tie.Need-returns-3
 returns-3 c =
-    let a = c .before .before .before .before .before .before .before .args in
-    let l = length-there (c .before .before) in
-    string-whole (now (a .s)) (a .at) (c .before .before .before .len .given .0 .0) _ (l .is) (omega (arith, l .ends, c .before .pad-after .ensures)) (omega (arith, l .room))
+    let a = start (c .before) .args in
+    let l = length-there (c .before) in
+    string-whole (now (a .s)) (a .at) (c .before .before .len .given .0 .0) _ (l .is) (omega (arith, l .ends)) (omega (arith, l .room))
 
 pub string-at-spec : {M : Type 1} → statement M
 string-at-spec =
@@ -64,8 +67,8 @@ string-at-spec =
     enum-told
     returns
     cast-n
-    pad-after-requires
     add-size
+    mul-size
     sub-if1
     returns-2
     add-t8
