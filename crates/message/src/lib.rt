@@ -9,4 +9,5 @@ pub use answer::OptionsSpan;
 pub use answer::RequestSpan;
 pub use answer::ResponseSpan;
 pub use answer::Span;
+pub use header::header_of;
 pub use reading::read;

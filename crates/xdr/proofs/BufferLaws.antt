@@ -9,7 +9,9 @@ use borrow.Author.Tests.{le-leb, lt-leb}
 use borrow.Rule.Slice.PartMut.{putMid}
 use lib.ListN.{length, take, drop, length-append, length-drop, take-append-drop}
 use lib.Seq.{take-at, drop-at, drop-drop, drop-append-le, drop-length, length-take-le}
-use Rattle.xdr.specs.Buffer.{filled, over, hasRoom, put, putCount}
+use Rattle.xdr.specs.Format.{bytes, encode}
+use Rattle.xdr.specs.Fields.{word}
+use Rattle.xdr.specs.Buffer.{filled, over, hasRoom, put, putCount, opaqueBytes}
 
 -- a part of the buffer that was lent and came back filled
 pub part-filled : (out : List ℕ) (at k : ℕ) (ys l : List ℕ) → length l ≤ k → at + k ≤ length out
@@ -81,9 +83,38 @@ pub put-stored : (out : List ℕ) (at : ℕ) (l ys : List ℕ) (n : ℕ) → at 
 put-stored out at l ys n h e y =
     (simp (le-leb (at + length l) (length out) h) e, part-filled out at (length out - at) ys l (omega arith) (omega arith) y ∙ simp (le-leb (at + length l) (length out) h))
 
--- a put right behind a filling, where there is room for it
-pub put-next : (out o l m : List ℕ) (at : ℕ) → length l ≡ at → at + length m ≤ length out → o ≡ filled out l → put o at m ≡ filled out (l ++ m)
-put-next out o l m at e h f =
-    let same : length o ≡ length out = ap length f ∙ length-filled out l (omega arith) in
-    simp (le-leb (at + length m) (length o) (omega arith))
-    (ap (λ (u : List ℕ). over u at m) f ∙ ap (λ (n : ℕ). over (filled out l) n m) (sym e) ∙ filled-next out l m (omega arith))
+-- an opaque whose length a word holds is put as it is encoded
+pub opaque-bytes : (l : List ℕ) → length l ≤ 4294967295 → opaqueBytes l ≡ encode (bytes word) l
+opaque-bytes l h = simp (le-leb (length l) 4294967295 h)
+
+-- a buffer that is filled up to a place, and a put right there, where there is room for it
+pub record FilledTo (out o l : List ℕ) (at : ℕ) : Type 0 where
+  pub fills : o ≡ filled out l
+  pub long : length l ≡ at
+
+pub filled-none : (out : List ℕ) → FilledTo out out [] 0
+filled-none out = record { fills = refl; long = refl }
+
+module _ {out o l : List ℕ} {at : ℕ} (f : FilledTo out o l at) where
+  same-room : at ≤ length out → length o ≡ length out
+  same-room h = ap length (f .fills) ∙ length-filled out l (omega (arith, f .long))
+
+  -- bytes of which there are k
+  pub put-next : (m : List ℕ) {k : ℕ} {p : List ℕ} → length m ≡ k → at + k ≤ length out → p ≡ put o at m → FilledTo out p (l ++ m) (at + k)
+  put-next m {k} e h q = record {
+    fills =
+        q ∙ simp (le-leb (at + length m) (length o) (omega (arith, same-room (omega arith))))
+        (ap (λ (u : List ℕ). over u at m) (f .fills) ∙ ap (λ (n : ℕ). over (filled out l) n m) (sym (f .long)) ∙ filled-next out l m (omega (arith, f .long)));
+    long = length-append l m ∙ omega (arith, f .long);
+  }
+
+  -- an opaque whose length a word holds: how many bytes it took, and the buffer with it
+  pub opaque-count : (s : List ℕ) {r : ℕ} → length s ≤ 4294967295 → at + length (encode (bytes word) s) ≤ length out → r ≡ putCount o at (opaqueBytes s) → r ≡ length (encode (bytes word) s)
+  opaque-count s small h q =
+      q ∙ ap (putCount o at) (opaque-bytes s small) ∙ simp (le-leb (at + length (encode (bytes word) s)) (length o) (omega (arith, same-room (omega arith))))
+
+  pub opaque-next : (s : List ℕ) {r : ℕ} {p : List ℕ} → length s ≤ 4294967295 → at + length (encode (bytes word) s) ≤ length out → r ≡ putCount o at (opaqueBytes s) → p ≡ put o at (opaqueBytes s)
+      → FilledTo out p (l ++ encode (bytes word) s) (at + r)
+  opaque-next s small h c q =
+      let count = opaque-count s small h c in
+      put-next (encode (bytes word) s) (sym count) (omega (arith, count)) (q ∙ ap (put o at) (opaque-bytes s small))

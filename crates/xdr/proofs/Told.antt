@@ -159,6 +159,11 @@ told-at-start : {A : Type 0} {F : Format A} {s : List ℕ} {r : Reading A} → r
 unfolding readAt
 told-at-start {F = F} {s = s} e = record { is = shifted-zero (read F s) ∙ e }
 
+pub number-alone : (k n : ℕ) → Reads (number (suc k)) (encode (number (suc k)) n) 0 (taken n (suc k))
+unfolding encode readBack
+number-alone k n =
+    told-at-start (ap (read (number (suc k))) (sym (append-nil (encode (number (suc k)) n))) ∙ told-number (suc k) n (omega arith) .reads [])
+
 module _ {k : ℕ} {test : ℕ → Bool} (l : List ℕ) where
   bytes-alone : Reads (bytes (checked k test word)) (encode (bytes word) l) 0 (cond (test (length l)) (taken l (4 + padded (length l))) (refused k 0))
   bytes-alone = told-at-start (ap (read (bytes (checked k test word))) (sym (append-nil (encode (bytes word) l))) ∙ bytes-told k test l [])
@@ -186,3 +191,17 @@ encoded-at {F = F} a {s = s} {at = at} p t w e long h =
     let alike : read F (drop at s) ≡ read F (encode F a) =
     ap (read F) there ∙ told F a w .reads t ∙ sym (told F a w .reads []) ∙ ap (read F) (append-nil (encode F a)) in
     part-read (record { is = ap (shifted 0) alike ∙ h .is })
+
+-- a string that stands behind some bytes and was taken there is the one that was encoded
+pub told-there : {k : ℕ} {test : ℕ → Bool} (l : List ℕ) {m : List ℕ} {at n : ℕ} (p t : List ℕ) → length p ≡ at
+    → Reads (bytes (checked k test word)) (p ++ (encode (bytes word) l ++ t)) at (taken m n) → (m ≡ l) × (n ≡ at + (4 + padded (length l))) × (test (length l) ≡ true)
+unfolding encode Wide
+told-there {k} {test} l {m} {at} {n} p t e h = go (test (length l)) refl
+  where
+    go : (b : Bool) → test (length l) ≡ b → (m ≡ l) × (n ≡ at + (4 + padded (length l))) × (test (length l) ≡ true)
+    go true q =
+        let w = sym (h .is) ∙ encoded-at {F = bytes (checked k test word)} l p t (omega arith) refl e (told-taken l q) .is in
+        (cc, cc, q)
+    go false q =
+        let z : _≡_ {A = ℕ} 0 1 = cc (sym (h .is) ∙ encoded-at {F = bytes (checked k test word)} l p t (omega arith) refl e (told-refused l q) .is) in
+        absurd (omega arith)

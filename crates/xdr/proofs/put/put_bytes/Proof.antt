@@ -4,7 +4,7 @@ use mathlib.Core.Path.{_≡_, sym, ap, _∙_}
 use mathlib.Core.List.{List, []}
 use native.Mathlib.Omega.{arith}
 use borrow.Author.Needs.{needs}
-use borrow.Author.Tests.{le-leb, lt-leb}
+use borrow.Author.Tests.{lt-leb}
 use denote.Ref.{now}
 use lib.ListN.{length}
 use Rattle.xdr.specs.Buffer.{opaqueBytes}
@@ -12,14 +12,11 @@ use Rattle.xdr.specs.Format.{bytes, encode}
 use Rattle.xdr.specs.Fields.{word}
 use Rattle.xdr.specs.Pad.{padded}
 use Rattle.xdr.proofs.EncodedSize.{number-size, bytes-size}
-use Rattle.xdr.proofs.BufferLaws.{put-refused, put-stored, put-nothing}
+use Rattle.xdr.proofs.BufferLaws.{put-refused, put-stored, put-nothing, opaque-bytes}
 use Rattle.xdr.proofs.put.put_bytes.Statement.{statement}
 use Rattle.xdr.proofs.put.put_bytes.Tie as tie
 
--- with a length that a word holds, and with another
-within : (l : List ℕ) → length l ≤ 4294967295 → opaqueBytes l ≡ encode (bytes word) l
-within l h = simp (le-leb (length l) 4294967295 h)
-
+-- with a length that no word holds
 beyond : (l : List ℕ) → 4294967295 < length l → opaqueBytes l ≡ []
 beyond l h = simp (lt-leb (length l) 4294967295 h)
 
@@ -41,7 +38,7 @@ add-size-2 c = search needs
 returns-2 : tie.Need-returns-2
 returns-2 c =
     let src = now (c .before .before .before .before .before .args .src) in
-    rw (within src (search needs)) (put-refused _ _ (encode (bytes word) src) (omega (arith, size src, c .before .pad-after .ensures)))
+    rw (opaque-bytes src (search needs)) (put-refused _ _ (encode (bytes word) src) (omega (arith, size src, c .before .pad-after .ensures)))
 
 sub-if3 : tie.Need-sub-if3
 sub-if3 c = search needs
@@ -49,7 +46,7 @@ sub-if3 c = search needs
 returns-3 : tie.Need-returns-3
 returns-3 c =
     let src = now (c .before .before .before .before .before .before .args .src) in
-    rw (within src (search needs)) (put-refused _ _ (encode (bytes word) src) (omega (arith, size src, c .before .before .pad-after .ensures)))
+    rw (opaque-bytes src (search needs)) (put-refused _ _ (encode (bytes word) src) (omega (arith, size src, c .before .before .pad-after .ensures)))
 
 sub-store-bytes : tie.Need-sub-store-bytes
 sub-store-bytes c = search needs
@@ -71,7 +68,7 @@ returns-4 c =
     let a = c .before .before .before .before .before .before .before .before .before .before .args in
     let src = now (a .src) in
     let pad = c .before .before .before .before .before .before .pad-after .ensures in
-    rw (within src (search needs))
+    rw (opaque-bytes src (search needs))
     (put-stored (now (a .out)) (a .at) (encode (bytes word) src) _ _ (omega (arith, size src, pad)) (omega (arith, size src, pad)) (c .before .before .store-bytes .ensures))
 
 pub put-bytes-spec : {M : Type 1} → statement M

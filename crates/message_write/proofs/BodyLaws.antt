@@ -1,0 +1,81 @@
+-- What the reading of a body behind its header tells of the fields that it was made of.
+use Prim.Native.Nat.{ℕ, _+_, _≤_}
+use mathlib.Core.List.{List, [], _∷_, _++_, append-assoc, append-nil}
+use mathlib.Core.Path.{_≡_, refl, sym, ap, subst, _∙_}
+use native.Mathlib.Omega.{arith}
+use borrow.Author.Tests.{leb-true, eqb-true}
+use lib.ListN.{length, take, length-append}
+use lib.Seq.{take-append-add}
+use Rattle.xdr.specs.Reading.{taken}
+use Rattle.xdr.specs.Pad.{padded}
+use Rattle.xdr.specs.Format.{nothing, bytes, read, readAt, encode}
+use Rattle.xdr.specs.Fields.{word, hyper}
+use Rattle.xdr.proofs.EncodedSize.{number-size}
+use Rattle.xdr.proofs.Parts.{pair-parts}
+use Rattle.xdr.proofs.Steps.{Reads, passed, ends, ends-word}
+use Rattle.xdr.proofs.Told.{told-there}
+use Rattle.record.specs.Block.{hash as hashField}
+use Rattle.record.specs.File.{File}
+use Rattle.record.specs.KeyValue.{KeyValue, options}
+use Rattle.message.specs.Limits.{optionsLimit}
+use Rattle.message.specs.Message.{index, request, response}
+use Rattle.message_write.specs.Writing.{indexBytes, requestBytes}
+use Rattle.message_write.proofs.Behind.{behind, string-size, behind-string}
+use Rattle.message_write.proofs.RequestLaws.{request-size, request-grouped}
+
+-- Ping and Pong: nothing behind the header
+pub nothing-parts : {v : Unit {0}} {n : ℕ} → Reads nothing (behind []) 4 (taken v n) → n ≡ 4
+unfolding read readAt
+nothing-parts h = cc (sym (h .is))
+
+-- Options: the array ends within the bytes that were given
+pub options-parts : (b : List ℕ) {v : List KeyValue} {n : ℕ} → Reads (options optionsLimit) (behind b) 4 (taken v n) → (4 ≤ n) × (n ≤ 4 + length b)
+options-parts b h = let w = ends (omega arith) h in (w .0, omega arith)
+
+-- a Response: its data, whole
+pub response-parts : (l : List ℕ) {v : List ℕ} {n : ℕ} → Reads response (behind (encode (bytes word) l)) 4 (taken v n) → (length l ≤ 131072) × (n ≡ 4 + length (encode (bytes word) l))
+response-parts l {v} {n} h =
+    let q = told-there l (0 ∷ 0 ∷ 0 ∷ 0 ∷ []) [] refl (subst (λ (x : List ℕ). Reads response (behind x) 4 (taken v n)) (sym (append-nil (encode (bytes word) l))) h) in
+    (leb-true (length l) 131072 (q .2), omega (arith, q .1, string-size l))
+
+-- an Index or an IndexUpdate: its repository, and files that end within the bytes that were given
+pub index-parts : (r f : List ℕ) {v : List ℕ × List File} {n : ℕ} → Reads index (behind (indexBytes r f)) 4 (taken v n)
+    → (length r ≤ 64) × (8 + padded (length r) ≤ n) × (n ≤ 8 + padded (length r) + length f)
+index-parts r f h =
+    let q = pair-parts h in
+    let s = told-there r (0 ∷ 0 ∷ 0 ∷ 0 ∷ []) f refl (passed (q .1)) in
+    let size = length-append (encode (bytes word) r) f in
+    let w = ends (omega (arith, s .1, size, string-size r)) (q .2) in
+    (leb-true (length r) 64 (s .2), omega (arith, s .1, w .0), omega (arith, s .1, w .1, size, string-size r))
+
+-- a Request: its strings within their limits, and all of its bytes
+pub request-parts : (r n : List ℕ) (o s : ℕ) (h : List ℕ) {v : List ℕ × (List ℕ × (ℕ × (ℕ × List ℕ)))} {e : ℕ} → Reads request (behind (requestBytes r n o s h)) 4 (taken v e)
+    → (length r ≤ 64) × (length n ≤ 255) × (length h ≤ 32) × (e ≡ 4 + length (requestBytes r n o s h))
+request-parts r n o s h {v} {e} w =
+    let R : List ℕ = encode (bytes word) r in
+    let N : List ℕ = encode (bytes word) n in
+    let O : List ℕ = encode hyper o in
+    let L : List ℕ = encode word s in
+    let H : List ℕ = encode (bytes word) h in
+    let front : List ℕ = ((((0 ∷ 0 ∷ 0 ∷ 0 ∷ []) ++ R) ++ N) ++ O) ++ L in
+    let a = pair-parts w in
+    let b = pair-parts (a .2) in
+    let c = pair-parts (b .2) in
+    let d = pair-parts (c .2) in
+    let repository = told-there r (0 ∷ 0 ∷ 0 ∷ 0 ∷ []) (N ++ (O ++ (L ++ H))) refl (passed (a .1)) in
+    let name = told-there n (behind R) (O ++ (L ++ H)) (behind-string r (4 + padded (length r)) refl ∙ sym (repository .1)) (passed (passed (b .1))) in
+    let offset = ends-word (c .1) .0 in
+    let size = ends-word (passed (d .1)) .0 in
+    let long : length front ≡ d .0 =
+    simp length-append (omega (arith, repository .1, name .1, offset, size, string-size r, string-size n, number-size 8 o, number-size 4 s)) in
+    let whole : behind (requestBytes r n o s h) ≡ front ++ (H ++ []) = sym (request-grouped (0 ∷ 0 ∷ 0 ∷ 0 ∷ []) R N O L H) ∙ ap (λ (x : List ℕ). front ++ x) (sym (append-nil H)) in
+    let hash = told-there h front [] long (subst (λ (x : List ℕ). Reads hashField x (d .0) (taken (v .1 .1 .1 .1) e)) whole (d .2)) in (
+      leb-true (length r) 64 (repository .2),
+      leb-true (length n) 255 (name .2),
+      omega (arith, eqb-true (length h) 32 (hash .2)),
+      omega (arith, repository .1, name .1, offset, size, hash .1, string-size r, string-size n, string-size h, request-size r n o s h),
+    )
+
+-- the first bytes of a list of which a part is taken whole
+pub take-behind : (p q : List ℕ) (n u : ℕ) → n ≡ length p + u → take n (p ++ q) ≡ p ++ take u q
+take-behind p q n u e = ap (λ (k : ℕ). take k (p ++ q)) e ∙ take-append-add p q u

@@ -1,0 +1,73 @@
+-- `message_write::check::check_options` meets its contract: the array stands right behind the header.
+use Prim.Native.Nat.{ℕ, _+_, _≤_}
+use mathlib.Core.List.{List, [], _∷_, _++_, append-nil, append-assoc}
+use mathlib.Core.Path.{_≡_, refl, sym, ap, subst, _∙_}
+use native.Mathlib.Omega.{arith}
+use borrow.Author.Needs.{needs}
+use denote.Ref.{now}
+use lib.ListN.{length, drop, length-append}
+use Rattle.xdr.specs.Reading.{Reading, taken, refused, shifted}
+use Rattle.xdr.specs.Pad.{padded}
+use Rattle.xdr.specs.Format.{Format, bytes, encode, readAt}
+use Rattle.xdr.specs.Fields.{word, hyper, opaque, text}
+use Rattle.xdr.proofs.Answered.{bytes-taken, bytes-refused}
+use Rattle.xdr.proofs.Steps.{Reads, passed, first-refused, both-read, ends, refused-within}
+use Rattle.xdr.proofs.Told.{Wide, encoded-at}
+use Rattle.message_write.specs.Writing.{fittedAnswer, indexBytes, responseBytes}
+use Rattle.message_write.proofs.Behind.{behind, fits-body, last-at, string-size, string-refused, string-taken}
+use Rattle.record.specs.KeyValue.{KeyValue, options}
+use Rattle.record.proofs.Answered.{array-taken, array-refused}
+use Rattle.message.specs.Limits.{optionsLimit}
+use Rattle.message_write.proofs.check.check_options.Statement.{statement}
+use Rattle.message_write.proofs.check.check_options.Tie as tie
+
+-- the array, refused or read
+options-refused : (c : tie.After-refusal) → Reads (options optionsLimit) (now (c .before .before .before .before .before .args .options)) 0 (refused (c .refusal .result .number) (c .refusal .result .place))
+options-refused c = array-refused (c .before .before .before .read-options .ensures) (c .before .enum-told .given .1) (c .refusal .ensures)
+
+options-read : (c : tie.After-known-told)
+    → (l : List KeyValue) × Reads (options optionsLimit) (now (c .before .before .before .before .before .args .options)) 0 (taken l (c .before .array .given .0 .1 .0)) × (length l ≡ c .before .array .given .0 .0)
+options-read c = array-taken (c .before .before .before .read-options .ensures) (c .before .array .given .1)
+
+read-options-requires : tie.Need-read-options-requires
+read-options-requires c κs = search needs
+
+enum-known-array : tie.Need-enum-known-array
+enum-known-array c = search needs
+
+enum-told : tie.Need-enum-told
+enum-told c = search needs
+
+refusal-requires : tie.Need-refusal-requires
+refusal-requires c κs = search needs
+
+refused-at-requires : tie.Need-refused-at-requires
+refused-at-requires c κs =
+    let w = refused-within (omega arith) (options-refused c) in omega (arith, c .before .before .before .before .before .good .0 .1)
+
+returns : tie.Need-returns
+returns c = c .refused-at .ensures ∙ fits-body (c .before .before .before .before .before .before .args .room) (last-at (0 ∷ 0 ∷ 0 ∷ 0 ∷ []) (now (c .before .before .before .before .before .before .args .options)) refl refl (options-refused (c .before)))
+
+add-fit : tie.Need-add-fit
+add-fit c =
+    let w = ends (omega arith) (options-read c .1) in omega (arith, c .before .before .before .before .before .good .0 .1)
+
+fit-requires : tie.Need-fit-requires
+fit-requires c κs = search needs
+
+returns-2 : tie.Need-returns-2
+returns-2 c = c .fit .ensures ∙ fits-body (c .before .before .before .before .before .before .args .room) (last-at (0 ∷ 0 ∷ 0 ∷ 0 ∷ []) (now (c .before .before .before .before .before .before .args .options)) refl refl (options-read (c .before) .1))
+
+pub check-options-spec : {M : Type 1} → statement M
+check-options-spec =
+    tie.close
+    (tie.spec
+    read-options-requires
+    enum-known-array
+    enum-told
+    refusal-requires
+    refused-at-requires
+    returns
+    add-fit
+    fit-requires
+    returns-2)

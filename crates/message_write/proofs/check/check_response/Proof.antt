@@ -1,0 +1,71 @@
+-- `message_write::check::check_response` meets its contract: the data stand right behind the header.
+use Prim.Native.Nat.{ℕ, _+_, _≤_}
+use mathlib.Core.List.{List, [], _∷_, _++_, append-nil, append-assoc}
+use mathlib.Core.Path.{_≡_, refl, sym, ap, subst, _∙_}
+use native.Mathlib.Omega.{arith}
+use borrow.Author.Needs.{needs}
+use denote.Ref.{now}
+use lib.ListN.{length, drop, length-append}
+use Rattle.xdr.specs.Reading.{Reading, taken, refused, shifted}
+use Rattle.xdr.specs.Pad.{padded}
+use Rattle.xdr.specs.Format.{Format, bytes, encode, readAt}
+use Rattle.xdr.specs.Fields.{word, hyper, opaque, text}
+use Rattle.xdr.proofs.Answered.{bytes-taken, bytes-refused}
+use Rattle.xdr.proofs.Steps.{Reads, passed, first-refused, both-read, ends, refused-within}
+use Rattle.xdr.proofs.Told.{Wide, encoded-at}
+use Rattle.message_write.specs.Writing.{fittedAnswer, indexBytes, responseBytes}
+use Rattle.message_write.proofs.Behind.{behind, fits-body, last-at, string-size, string-refused, string-taken}
+use Rattle.message.specs.Limits.{dataLimit}
+use Rattle.message_write.proofs.check.check_response.Statement.{statement}
+use Rattle.message_write.proofs.check.check_response.Tie as tie
+
+-- the data, refused or read
+data-refused : (c : tie.After-refusal) → Reads (opaque dataLimit) (encode (bytes word) (now (c .before .before .before .before .before .args .«data»))) 0 (refused (c .refusal .result .number) (c .refusal .result .place))
+data-refused c = bytes-refused (c .before .before .before .check-bytes .ensures) (c .before .enum-told .given .1) (c .refusal .ensures)
+
+data-read : (c : tie.After-known-told)
+    → (l : List ℕ) × Reads (opaque dataLimit) (encode (bytes word) (now (c .before .before .before .before .before .args .«data»))) 0 (taken l (c .before .opaque .given .0 .1 .0)) × (length l ≡ c .before .opaque .given .0 .0)
+data-read c = bytes-taken (c .before .before .before .check-bytes .ensures) (c .before .opaque .given .1)
+
+check-bytes-requires : tie.Need-check-bytes-requires
+check-bytes-requires c κs = search needs
+
+enum-known-opaque : tie.Need-enum-known-opaque
+enum-known-opaque c = search needs
+
+enum-told : tie.Need-enum-told
+enum-told c = search needs
+
+refusal-requires : tie.Need-refusal-requires
+refusal-requires c κs = search needs
+
+refused-at-requires : tie.Need-refused-at-requires
+refused-at-requires c κs =
+    let w = string-refused (now (c .before .before .before .before .before .args .«data»)) (data-refused c) in omega (arith, c .before .before .before .before .before .good .0 .1)
+
+returns : tie.Need-returns
+returns c = c .refused-at .ensures ∙ fits-body (c .before .before .before .before .before .before .args .room) (last-at (0 ∷ 0 ∷ 0 ∷ 0 ∷ []) (encode (bytes word) (now (c .before .before .before .before .before .before .args .«data»))) refl refl (data-refused (c .before)))
+
+add-fit : tie.Need-add-fit
+add-fit c =
+    let w = string-taken (now (c .before .before .before .before .before .args .«data»)) (data-read c .1) in omega arith
+
+fit-requires : tie.Need-fit-requires
+fit-requires c κs = search needs
+
+returns-2 : tie.Need-returns-2
+returns-2 c = c .fit .ensures ∙ fits-body (c .before .before .before .before .before .before .args .room) (last-at (0 ∷ 0 ∷ 0 ∷ 0 ∷ []) (encode (bytes word) (now (c .before .before .before .before .before .before .args .«data»))) refl refl (data-read (c .before) .1))
+
+pub check-response-spec : {M : Type 1} → statement M
+check-response-spec =
+    tie.close
+    (tie.spec
+    check-bytes-requires
+    enum-known-opaque
+    enum-told
+    refusal-requires
+    refused-at-requires
+    returns
+    add-fit
+    fit-requires
+    returns-2)

@@ -1,0 +1,71 @@
+-- `message_write::check::check_text` meets its contract: the opaque's step, and then the test of its contents.
+use Prim.Native.Nat.{ℕ, _+_}
+use mathlib.Core.List.{List}
+use mathlib.Core.Path.{_≡_, sym, ap, subst, _∙_}
+use borrow.Author.Needs.{needs}
+use borrow.Author.Tests.{eq-eqb, ne-eqb}
+use denote.Ref.{now}
+use lib.ListN.{length}
+use Rattle.xdr.specs.Reading.{taken}
+use Rattle.xdr.specs.Text.{soundUpTo}
+use Rattle.xdr.specs.Fields.{word, opaque}
+use Rattle.xdr.specs.Format.{bytes, encode}
+use Rattle.xdr.specs.Answers.{bytesAnswer}
+use Rattle.xdr.specs.declared.answer.Bytes.the-variants as B
+use Rattle.xdr.proofs.Answered.{bytes-taken, bytes-refused}
+use Rattle.xdr.proofs.Steps.{Reads, answered, checked-refused, checked-failed, checked-passed}
+use Rattle.xdr.proofs.Told.{told-same}
+use Rattle.message_write.proofs.check.check_text.Statement.{statement}
+use Rattle.message_write.proofs.check.check_text.Tie as tie
+
+-- the opaque that was read: its contents are those that were given
+opaque-read : (c : tie.After-known-told)
+    → let a = c .before .before .before .before .before .args in
+    Reads (opaque (a .limit)) (encode (bytes word) (now (a .l))) 0 (taken (now (a .l)) (c .before .answer .given .0 .1 .0)) × (length (now (a .l)) ≡ c .before .answer .given .0 .0)
+opaque-read c =
+    let l = now (c .before .before .before .before .before .args .l) in
+    let q = bytes-taken (c .before .before .before .check-bytes .ensures) (c .before .answer .given .1) in
+    let same : q .0 ≡ l = told-same l (q .1) .0 in
+    (subst (λ (x : List ℕ). Reads (opaque (c .before .before .before .before .before .args .limit)) (encode (bytes word) l) 0 (taken x (c .before .answer .given .0 .1 .0))) same (q .1), sym (ap length same) ∙ q .2)
+
+check-bytes-requires : tie.Need-check-bytes-requires
+check-bytes-requires c κs = search needs
+
+enum-known-answer : tie.Need-enum-known-answer
+enum-known-answer c = search needs
+
+enum-told : tie.Need-enum-told
+enum-told c = search needs
+
+refusal-requires : tie.Need-refusal-requires
+refusal-requires c κs = search needs
+
+returns : tie.Need-returns
+returns c = answered bytesAnswer (checked-refused (bytes-refused (c .before .before .before .check-bytes .ensures) (c .before .enum-told .given .1) (c .refusal .ensures)))
+
+sound-up-to-requires : tie.Need-sound-up-to-requires
+sound-up-to-requires c κs = search needs
+
+returns-2 : tie.Need-returns-2
+returns-2 c =
+    let k = c .before .before in
+    ap (λ (n : ℕ). B.Taken n (k .before .answer .given .0 .1 .0)) (sym (opaque-read k .1))
+    ∙ answered bytesAnswer (checked-passed (opaque-read k .0) (eq-eqb _ _ (sym (c .before .sound-up-to .ensures) ∙ c .if1 .taken ∙ sym (opaque-read k .1))))
+
+returns-3 : tie.Need-returns-3
+returns-3 c =
+    let k = c .before .before in
+    answered bytesAnswer (checked-failed (opaque-read k .0) (ne-eqb _ _ (λ e. c .if1 .left (c .before .sound-up-to .ensures ∙ e ∙ opaque-read k .1))))
+
+pub check-text-spec : {M : Type 1} → statement M
+check-text-spec =
+    tie.close
+    (tie.spec
+    check-bytes-requires
+    enum-known-answer
+    enum-told
+    refusal-requires
+    returns
+    sound-up-to-requires
+    returns-2
+    returns-3)

@@ -1,0 +1,37 @@
+-- `message_write::write::store_raw` meets its contract: the bytes go right behind the header.
+use Prim.Native.Nat.{ℕ, _+_, _≤_}
+use mathlib.Core.List.{List, [], _++_, append-assoc}
+use mathlib.Core.Path.{_≡_, refl, sym, ap, subst, _∙_}
+use native.Mathlib.Omega.{arith}
+use borrow.Author.Needs.{needs}
+use denote.Ref.{now}
+use lib.ListN.{length, length-append}
+use Rattle.xdr.specs.Pad.{padded}
+use Rattle.xdr.specs.Format.{bytes, encode}
+use Rattle.xdr.specs.Fields.{word, hyper}
+use Rattle.xdr.specs.Buffer.{filled, put, putCount}
+use Rattle.xdr.proofs.EncodedSize.{number-size}
+use Rattle.xdr.proofs.BufferLaws.{FilledTo, filled-none, put-next, opaque-count, opaque-next}
+use Rattle.message_write.proofs.write.store_raw.Statement.{statement}
+use Rattle.message_write.proofs.write.store_raw.Tie as tie
+
+-- the buffer once the header is there
+head-put : (c : tie.After-put-word) → let a = c .before .before .before .before .args in FilledTo (now (a .out)) (c .put-word .last .0) (encode word (a .head)) 4
+head-put c =
+    let a = c .before .before .before .before .args in
+    put-next (filled-none (now (a .out))) (encode word (a .head)) (number-size 4 (a .head)) (omega arith) (c .put-word .ensures .1)
+
+put-word-requires : tie.Need-put-word-requires
+put-word-requires c κs = search needs
+
+put-raw-requires : tie.Need-put-raw-requires
+put-raw-requires c κs = search needs
+
+same-length : tie.Need-same-length
+same-length c = search needs
+
+returns : tie.Need-returns
+returns c = put-next (head-put (c .before .before .before .before .before .before)) (now (c .before .before .before .before .before .before .before .before .before .before .args .b)) refl (omega arith) (c .before .before .put-raw .ensures .1) .fills
+
+pub store-raw-spec : {M : Type 1} → statement M
+store-raw-spec = tie.close (tie.spec put-word-requires put-raw-requires same-length returns)

@@ -1,0 +1,196 @@
+// The checks of a message's fields before anything is written: what reading the message would answer, places counted in it.
+ghost use mathlib.Core.Path.{_≡_};
+ghost use Prim.Native.Nat.{ℕ, _+_, _<_};
+ghost use Rattle.xdr.specs.Reading.{taken};
+ghost use Rattle.xdr.specs.Answers.{bytesAnswer};
+ghost use Rattle.xdr.specs.Fields.{word, opaque, text};
+ghost use Rattle.xdr.specs.Format.{bytes, encode, readAt};
+ghost use Rattle.record.specs.Block.{isSize, hash as hashField};
+ghost use Rattle.record.specs.File.{name as nameField};
+ghost use Rattle.record.specs.KeyValue.{options as optionsField};
+ghost use Rattle.message.specs.Limits.{optionsLimit};
+ghost use Rattle.message.specs.Message.{index, request, response};
+ghost use Rattle.message_write.specs.Writing.{indexBytes, requestBytes, responseBytes, fittedAnswer, bodyFitted};
+use crate::answer::Written;
+use record::Array;
+use xdr::Bytes;
+use xdr::Refusal;
+
+const NAME_LIMIT: u32 = 255;
+
+const SIZE_LIMIT: u32 = 131072;
+
+const REPOSITORY_LIMIT: u32 = 64;
+
+const FILES_LIMIT: u32 = 512;
+
+const DATA_LIMIT: u32 = 131072;
+
+const OPTIONS_LIMIT: u32 = 64;
+
+// Contents that are to become an opaque: their length and the bytes that it will take.
+pub fn check_bytes(l: &[u8], limit: u32) -> Bytes
+    ensures { λ r. ⌜ r ≡ bytesAnswer (readAt (opaque limit) (encode (bytes word) (now (l .entry))) 0) ⌝ }
+{
+    let n = l.len();
+    if (limit as usize) < n {
+        return Bytes::Refused(Refusal {
+            number: 5,
+            place: 0,
+        });
+    }
+    Bytes::Taken(n, 4 + n + xdr::pad_after(n))
+}
+
+// The same for a string.
+pub fn check_text(l: &[u8], limit: u32) -> Bytes
+    ensures { λ r. ⌜ r ≡ bytesAnswer (readAt (text limit) (encode (bytes word) (now (l .entry))) 0) ⌝ }
+{
+    let answer = check_bytes(l, limit);
+    let Bytes::Taken(n, size) = answer else {
+        return Bytes::Refused(answer.refusal());
+    };
+    if xdr::sound_up_to(l) == n {
+        Bytes::Taken(n, size)
+    } else {
+        Bytes::Refused(Refusal {
+            number: 7,
+            place: 0,
+        })
+    }
+}
+
+// The same for a name.
+pub fn check_name(l: &[u8]) -> Bytes
+    ensures { λ r. ⌜ r ≡ bytesAnswer (readAt nameField (encode (bytes word) (now (l .entry))) 0) ⌝ }
+{
+    let answer = check_text(l, NAME_LIMIT);
+    let Bytes::Taken(n, size) = answer else {
+        return Bytes::Refused(answer.refusal());
+    };
+    if n == 0 {
+        return Bytes::Refused(Refusal {
+            number: 8,
+            place: 0,
+        });
+    }
+    Bytes::Taken(n, size)
+}
+
+// The same for a hash.
+pub fn check_hash(l: &[u8]) -> Bytes
+    ensures { λ r. ⌜ r ≡ bytesAnswer (readAt hashField (encode (bytes word) (now (l .entry))) 0) ⌝ }
+{
+    if l.len() != 32 {
+        return Bytes::Refused(Refusal {
+            number: 9,
+            place: 0,
+        });
+    }
+    Bytes::Taken(32, 36)
+}
+
+// Whether the Length of a Request is in its range.
+pub fn is_size(n: u32) -> bool
+    ensures { λ r. ⌜ r ≡ isSize n ⌝ }
+{
+    if n == 0 {
+        return false;
+    }
+    n <= SIZE_LIMIT
+}
+
+// A message of so many bytes, into so much room.
+pub fn fit(n: usize, room: usize) -> Written
+    ensures { λ r. ⌜ r ≡ fittedAnswer room (taken n n) ⌝ }
+{
+    if n <= room {
+        return Written::Filled(n);
+    }
+    Written::Refused(Refusal {
+        number: 14,
+        place: 0,
+    })
+}
+
+// A refusal of a field that begins at a place.
+fn refused_at(r: Refusal, at: usize) -> Written
+    requires { ⌜ at + r .place < 18446744073709551616 ⌝ }
+    ensures { λ w. ⌜ w ≡ Written.Refused (record { number = r .number; place = at + r .place }) ⌝ }
+{
+    Written::Refused(Refusal {
+        number: r.number,
+        place: at + r.place,
+    })
+}
+
+// The body of an Index or an IndexUpdate, into so much room.
+pub fn check_index(repository: &[u8], files: &[u8], room: usize) -> Written
+    ensures { λ r. ⌜ r ≡ bodyFitted index (indexBytes (now (repository .entry)) (now (files .entry))) room ⌝ }
+{
+    let text = check_text(repository, REPOSITORY_LIMIT);
+    let Bytes::Taken(_, size) = text else {
+        return refused_at(text.refusal(), 4);
+    };
+    let array = record::read_files(files, FILES_LIMIT);
+    let Array::Taken(_, used) = array else {
+        return refused_at(array.refusal(), 4 + size);
+    };
+    fit(4 + size + used, room)
+}
+
+// The body of a Request, whatever its offset.
+pub fn check_request(
+    repository: &[u8],
+    name: &[u8],
+    length: u32,
+    hash: &[u8],
+    room: usize,
+) -> Written
+    ensures { λ r. ⌜ ((offset : ℕ) → r ≡ bodyFitted request (requestBytes (now (repository .entry)) (now (name .entry)) offset length (now (hash .entry))) room) ⌝ }
+{
+    let first = check_text(repository, REPOSITORY_LIMIT);
+    let Bytes::Taken(_, repository_size) = first else {
+        return refused_at(first.refusal(), 4);
+    };
+    let name_at = 4 + repository_size;
+    let second = check_name(name);
+    let Bytes::Taken(_, name_size) = second else {
+        return refused_at(second.refusal(), name_at);
+    };
+    let size_at = name_at + name_size + 8;
+    if !is_size(length) {
+        return Written::Refused(Refusal {
+            number: 10,
+            place: size_at,
+        });
+    }
+    let hash_at = size_at + 4;
+    let third = check_hash(hash);
+    let Bytes::Taken(_, hash_size) = third else {
+        return refused_at(third.refusal(), hash_at);
+    };
+    fit(hash_at + hash_size, room)
+}
+
+// The body of a Response.
+pub fn check_response(data: &[u8], room: usize) -> Written
+    ensures { λ r. ⌜ r ≡ bodyFitted response (responseBytes (now («data» .entry))) room ⌝ }
+{
+    let opaque = check_bytes(data, DATA_LIMIT);
+    let Bytes::Taken(_, size) = opaque else {
+        return refused_at(opaque.refusal(), 4);
+    };
+    fit(4 + size, room)
+}
+
+// The body of an Options message.
+pub fn check_options(options: &[u8], room: usize) -> Written
+    ensures { λ r. ⌜ r ≡ bodyFitted (optionsField optionsLimit) (now (options .entry)) room ⌝ }
+{
+    let array = record::read_options(options, OPTIONS_LIMIT);
+    let Array::Taken(_, used) = array else {
+        return refused_at(array.refusal(), 4);
+    };
+    fit(4 + used, room)
+}
