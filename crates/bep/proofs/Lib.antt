@@ -1,0 +1,2 @@
+-- Laws of the answers as words.
+mod WriteLaws

@@ -1,0 +1,21 @@
+-- `bep::write::give` meets its contract: by the variant that the answer is.
+use mathlib.Core.Path.{sym, ap}
+use Rattle.bep.specs.Writers.{writtenNumber, writtenWords}
+use borrow.Author.Needs.{needs}
+use Rattle.bep.proofs.write.give.Statement.{statement}
+use Rattle.bep.proofs.write.give.Tie as tie
+
+enum-known-w : tie.Need-enum-known-w
+enum-known-w c = search needs
+
+enum-known-w-2 : tie.Need-enum-known-w-2
+enum-known-w-2 c = search needs
+
+returns : tie.Need-returns
+returns c = let e = sym (c .before .before .w .given .1) in (ap writtenNumber e, ap writtenWords e)
+
+returns-2 : tie.Need-returns-2
+returns-2 c = let e = sym (c .before .before .w2 .given .1) in (ap writtenNumber e, ap writtenWords e)
+
+pub give-spec : {M : Type 1} → statement M
+give-spec = tie.close (tie.spec enum-known-w enum-known-w-2 returns returns-2)

@@ -1,0 +1,117 @@
+// Writing a message into a lent buffer: the answer is the number of bytes written or the place of the refusal, and only a message that is
+// accepted changes the buffer, and only its first bytes, as many as the answer says.
+ghost use mathlib.Core.List.{[]};
+ghost use mathlib.Core.Path.{_≡_};
+ghost use Rattle.message_write.specs.Writing.{indexBytes, requestBytes, responseBytes};
+ghost use Rattle.bep.specs.Writers.{writtenWords, writtenNumber, Wrote};
+use message_write::Written;
+
+// Fills the answer of a writer, and gives its number.
+fn give(w: Written, answer: &mut [u64; 1]) -> u32
+    ensures { λ r. ⌜ (r ≡ writtenNumber w) × (now (answer .exit) ≡ writtenWords w) ⌝ }
+{
+    match w {
+        Written::Filled(n) => {
+            *answer = [n as u64];
+            0
+        }
+        Written::Refused(r) => {
+            *answer = [r.place as u64];
+            r.number
+        }
+    }
+}
+
+// An Index: its files are an encoded array, and bytes after the array's end do not count.
+#[no_mangle]
+pub extern "C" fn bep_write_index(
+    out: &mut [u8],
+    id: u32,
+    repository: &[u8],
+    files: &[u8],
+    answer: &mut [u64; 1],
+) -> u32
+    ensures { λ r. ⌜ Wrote id 1 (indexBytes (now (repository .entry)) (now (files .entry))) (now (out .entry)) r (now (answer .exit)) (now (out .exit)) ⌝ }
+{
+    let w = message_write::write_index(out, id, repository, files);
+    give(w, answer)
+}
+
+// An IndexUpdate, likewise.
+#[no_mangle]
+pub extern "C" fn bep_write_index_update(
+    out: &mut [u8],
+    id: u32,
+    repository: &[u8],
+    files: &[u8],
+    answer: &mut [u64; 1],
+) -> u32
+    ensures { λ r. ⌜ Wrote id 6 (indexBytes (now (repository .entry)) (now (files .entry))) (now (out .entry)) r (now (answer .exit)) (now (out .exit)) ⌝ }
+{
+    let w = message_write::write_index_update(out, id, repository, files);
+    give(w, answer)
+}
+
+// A Request.
+#[no_mangle]
+pub extern "C" fn bep_write_request(
+    out: &mut [u8],
+    id: u32,
+    repository: &[u8],
+    name: &[u8],
+    offset: u64,
+    length: u32,
+    hash: &[u8],
+    answer: &mut [u64; 1],
+) -> u32
+    ensures { λ r. ⌜ Wrote id 2 (requestBytes (now (repository .entry)) (now (name .entry)) offset length (now (hash .entry))) (now (out .entry)) r (now (answer .exit)) (now (out .exit)) ⌝ }
+{
+    let w = message_write::write_request(out, id, repository, name, offset, length, hash);
+    give(w, answer)
+}
+
+// A Response: one without data says that the block is not available.
+#[no_mangle]
+pub extern "C" fn bep_write_response(
+    out: &mut [u8],
+    id: u32,
+    data: &[u8],
+    answer: &mut [u64; 1],
+) -> u32
+    ensures { λ r. ⌜ Wrote id 3 (responseBytes (now («data» .entry))) (now (out .entry)) r (now (answer .exit)) (now (out .exit)) ⌝ }
+{
+    let w = message_write::write_response(out, id, data);
+    give(w, answer)
+}
+
+// A Ping.
+#[no_mangle]
+pub extern "C" fn bep_write_ping(out: &mut [u8], id: u32, answer: &mut [u64; 1]) -> u32
+    ensures { λ r. ⌜ Wrote id 4 [] (now (out .entry)) r (now (answer .exit)) (now (out .exit)) ⌝ }
+{
+    let w = message_write::write_ping(out, id);
+    give(w, answer)
+}
+
+// A Pong.
+#[no_mangle]
+pub extern "C" fn bep_write_pong(out: &mut [u8], id: u32, answer: &mut [u64; 1]) -> u32
+    ensures { λ r. ⌜ Wrote id 5 [] (now (out .entry)) r (now (answer .exit)) (now (out .exit)) ⌝ }
+{
+    let w = message_write::write_pong(out, id);
+    give(w, answer)
+}
+
+// An Options message: its options are an encoded array, and bytes after the array's end do not count.
+#[no_mangle]
+pub extern "C" fn bep_write_options(
+    out: &mut [u8],
+    id: u32,
+    options: &[u8],
+    answer: &mut [u64; 1],
+) -> u32
+    ensures { λ r. ⌜ Wrote id 7 (now (options .entry)) (now (out .entry)) r (now (answer .exit)) (now (out .exit)) ⌝ }
+{
+    let w = message_write::write_options(out, id, options);
+    give(w, answer)
+}
