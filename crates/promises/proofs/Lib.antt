@@ -1,0 +1,3 @@
+-- The promises.
+pub mod Worked
+pub mod Messages

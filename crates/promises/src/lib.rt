@@ -1,0 +1,1 @@
+// No code: the promises of the library as theorems over its definitions, in proofs/.
