@@ -1,6 +1,7 @@
 // The public face for programs in other languages: numbers and slices only.
 //
-// Each function takes any bytes, returns 0 where it accepts and else the number of the refusal, and fills the whole answer.
+// Each function takes any bytes, returns 0 where it accepts and else the number of the refusal, and fills the whole answer. What is lent for
+// an answer or a message overlaps nothing else that the call is given.
 pub mod outline;
 pub mod read;
 pub mod write;

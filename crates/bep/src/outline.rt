@@ -1,4 +1,5 @@
-// The records of a message that was read, one by one: by bounds checks alone.
+// The records of an array that was read, one by one: by bounds checks alone. Where a record is not wholly there, the number is 1 and the
+// answer zeros.
 ghost use Prim.Native.Nat.{_≤_};
 ghost use mathlib.Core.Path.{_≡_};
 ghost use Rattle.record.specs.Outline.{outlineOf};
@@ -9,6 +10,7 @@ use record::OptionFields;
 use record::OptionOutline;
 use record::Outline;
 
+// The name's length is the way from its start to its end.
 fn field_words(f: Fields) -> [u64; 8]
     requires { ⌜ f .name ≤ f .stop ⌝ }
     ensures { λ r. ⌜ r ≡ fieldWords f ⌝ }
@@ -37,7 +39,7 @@ fn key_words(f: OptionFields) -> [u64; 5]
     ]
 }
 
-// The file at a place of an array whose reading was accepted.
+// The file at a place.
 #[no_mangle]
 pub extern "C" fn bep_file(files: &[u8], at: usize, answer: &mut [u64; 8]) -> u32
     ensures { λ r. ⌜ (r ≡ fileNumber (outlineOf (now (files .entry)) at)) × (now (answer .exit) ≡ fileWords (outlineOf (now (files .entry)) at)) ⌝ }
@@ -51,7 +53,7 @@ pub extern "C" fn bep_file(files: &[u8], at: usize, answer: &mut [u64; 8]) -> u3
     0
 }
 
-// The option at a place of an array whose reading was accepted.
+// The option at a place.
 #[no_mangle]
 pub extern "C" fn bep_option(options: &[u8], at: usize, answer: &mut [u64; 5]) -> u32
     ensures { λ r. ⌜ (r ≡ optionNumber (optionOf (now (options .entry)) at)) × (now (answer .exit) ≡ optionWords (optionOf (now (options .entry)) at)) ⌝ }

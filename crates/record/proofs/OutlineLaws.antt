@@ -106,11 +106,9 @@ module _ (s : List ℕ) (at : ℕ) where
   unfolding outlineOf
   outline-cut n e h = fields-cut s (at + 4) (at + 4 + wordAt s at) (at + 4 + padded (wordAt s at)) (rw (← e) (omega arith))
 
-  pub outline-is : (n name pad : ℕ) → n ≡ wordAt s at → name ≡ at + 4 → pad ≡ padded n - n → outlineFrom s name (name + n) (name + n + pad) ≡ outlineOf s at
+  pub outline-is : (n name : ℕ) → n ≡ wordAt s at → name ≡ at + 4 → outlineFrom s name (name + n) (name + padded n) ≡ outlineOf s at
   unfolding outlineOf
-  outline-is n name pad e f g =
-      let rest : name + n + pad ≡ at + 4 + padded n = omega arith in
-      rw (rest, f, e) refl
+  outline-is n name e f = rw (f, e) refl
 
 module _ (s : List ℕ) (first i : ℕ) where
   pub block-short : length s < blockPlace first i + 40 → B.Short ≡ blockOf s first i

@@ -3,7 +3,6 @@ ghost use mathlib.Core.Path.{_≡_};
 ghost use Rattle.record.specs.Outline.{outlineFrom, outlineOf, blockOf, offsetOf};
 use xdr::Hyper;
 use xdr::Word;
-use xdr::pad::pad_after;
 
 const BLOCK_BYTES: usize = 40;
 
@@ -74,12 +73,11 @@ pub fn outline_at(s: &[u8], at: usize) -> Outline
         return Outline::Short;
     };
     let n = len as usize;
-    let pad = pad_after(n);
-    if s.len() - name < n + pad {
+    let size = (n + 3) / 4 * 4;
+    if s.len() - name < size {
         return Outline::Short;
     }
-    let stop = name + n;
-    outline_from(s, name, stop, stop + pad)
+    outline_from(s, name, name + n, name + size)
 }
 
 // Block i, the first being at a place.

@@ -1,5 +1,4 @@
 -- `bep::read::read_number` meets its contract: by the variant that the message is.
-use Prim.Native.Nat.{ℕ}
 use mathlib.Core.List.{[], _∷_}
 use mathlib.Core.Path.{_≡_, refl}
 use types.Run.{OneOf, miss}
