@@ -1,0 +1,44 @@
+-- The order of records: that of their keys, equal only of a record and itself.
+use Prim.Native.Nat.{ℕ}
+use mathlib.Core.List.{List, _∷_, _++_}
+use mathlib.Core.Path.{_≡_, refl, sym, ap, _∙_}
+use Rattle.xdr.specs.Format.{encode, Valid}
+use Rattle.record.specs.File.{File, name, file, fromFlags}
+use Rattle.record.specs.declared.outline.Fields.{Fields}
+use Rattle.record.proofs.FileLaws.{split-encoding, same-file}
+use Rattle.table.specs.Order.{compareLists}
+use Rattle.table.specs.Newest.{key, keyAt, compareFiles, compareAt}
+use Rattle.table.specs.declared.order.Order.{Order}
+use Rattle.table.specs.declared.order.Order.the-variants.{Less, Equal, Greater}
+use Rattle.table.proofs.OrderLaws.{Compared, turned, compare-turned, equal-same, below-trans, same-equal}
+
+pub by-key : (f g : File) → compareFiles f g ≡ compareLists (key f) (key g)
+unfolding compareFiles
+by-key f g = refl
+
+-- at places of some bytes
+pub compared-at : (s : List ℕ) (f : Fields) (t : List ℕ) (g : Fields) {o : Order} → Compared (keyAt s f) (keyAt t g) o → o ≡ compareAt s f t g
+unfolding compareAt
+compared-at s f t g c = c .is
+
+-- two records of one name that tie throughout are equal
+
+pub same-key : (f g : File) → Valid file f → Valid file g → f .name ≡ g .name → key f ≡ key g → f ≡ g
+same-key f g v w n k =
+    let rest : fromFlags f ≡ fromFlags g = cc in
+    same-file f g v w (split-encoding f ∙ ap (λ (l : List ℕ). encode name l ++ fromFlags f) n ∙ ap (λ (l : List ℕ). encode name (g .name) ++ l) rest ∙ sym (split-encoding g))
+
+pub tie-equal : (f g : File) → Valid file f → Valid file g → f .name ≡ g .name → compareFiles f g ≡ Equal → f ≡ g
+tie-equal f g v w n e = same-key f g v w n (equal-same (key f) (key g) (sym (by-key f g) ∙ e))
+
+pub newest-turned : (f g : File) → compareFiles g f ≡ turned (compareFiles f g)
+unfolding compareFiles
+newest-turned f g = compare-turned (key f) (key g)
+
+pub newest-trans : (f g h : File) → compareFiles f g ≡ Less → compareFiles g h ≡ Less → compareFiles f h ≡ Less
+unfolding compareFiles
+newest-trans f g h p q = below-trans (key f) (key g) (key h) p q
+
+pub newest-same : (f : File) → compareFiles f f ≡ Equal
+unfolding compareFiles
+newest-same f = same-equal (key f)

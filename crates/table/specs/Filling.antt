@@ -1,0 +1,22 @@
+-- What a call does that fills a lent buffer.
+use Prim.Native.Nat.{ℕ}
+use mathlib.Core.List.{List}
+use lib.ListN.{length}
+use Rattle.xdr.specs.Buffer.{filled}
+use Rattle.table.specs.declared.filling.Filling.{Filling}
+use Rattle.table.specs.declared.filling.Filling.the-variants as F
+
+-- it fills in these bytes, or refuses
+pub data Outcome : Type 0 where
+  accepted : List ℕ → Outcome
+  refused : (number place : ℕ) → Outcome
+
+-- what it answers: how many bytes it filled in, or the refusal
+abbrev pub fillingAnswer : Outcome → Filling
+fillingAnswer (accepted l) = F.Filled (length l)
+fillingAnswer (refused k p) = F.Refused (record { number = k; place = p })
+
+-- what the buffer then holds
+abbrev pub bufferAfter : Outcome → List ℕ → List ℕ
+bufferAfter (accepted l) out = filled out l
+bufferAfter (refused k p) out = out
