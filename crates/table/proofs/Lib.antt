@@ -5,3 +5,5 @@ pub mod NewestLaws
 pub mod WordLaws
 pub mod RisingLaws
 pub mod CheckLaws
+pub mod TableLaws
+pub mod WalkLaws

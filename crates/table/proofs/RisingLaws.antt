@@ -10,6 +10,7 @@ use Rattle.table.specs.Order.{isLess, compareLists}
 use Rattle.table.specs.Table.{isAbove, isRising}
 use Rattle.table.specs.declared.order.Order.{Order}
 use Rattle.table.specs.declared.order.Order.the-variants.{Less, Equal, Greater}
+use Rattle.table.proofs.OrderLaws.{Below}
 
 -- the name of the last record, or none
 abbrev pub lastName : List File → List ℕ
@@ -58,3 +59,27 @@ pub is-less : (o : Order) → isLess o ≡ true → o ≡ Less
 is-less Less e = refl
 is-less Equal e = let z : _≡_ {A = ℕ} 0 1 = cc in absurd (omega arith)
 is-less Greater e = let z : _≡_ {A = ℕ} 0 1 = cc in absurd (omega arith)
+
+abbrev pub Above : List ℕ → List File → Type 0
+Above n [] = Unit {0}
+Above n (f ∷ fs) = Below n (f .name)
+
+abbrev pub Rising : List File → Type 0
+Rising [] = Unit {0}
+Rising (f ∷ fs) = Above (f .name) fs × Rising fs
+
+above-is : (n : List ℕ) (l : List File) → isAbove n l ≡ true → Above n l
+above-is n [] e = tt
+above-is n (f ∷ fs) e = is-less (compareLists n (f .name)) e
+
+pub rising-is : (l : List File) → isRising l ≡ true → Rising l
+rising-is [] e = tt
+rising-is (f ∷ fs) e = let q = both-true (isAbove (f .name) fs) (isRising fs) e in (above-is (f .name) fs (q .0), rising-is fs (q .1))
+
+above-test : (n : List ℕ) (l : List File) → Above n l → isAbove n l ≡ true
+above-test n [] a = refl
+above-test n (f ∷ fs) a = ap isLess a
+
+pub rising-test : (l : List File) → Rising l → isRising l ≡ true
+rising-test [] r = refl
+rising-test (f ∷ fs) r = rw (above-test (f .name) fs (r .0), rising-test fs (r .1)) refl
