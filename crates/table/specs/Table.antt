@@ -24,6 +24,10 @@ abbrev pub isRising : List File → Bool
 isRising [] = true
 isRising (f ∷ fs) = isAbove (f .name) fs && isRising fs
 
+-- so many records in so many bytes are within the limits
+abbrev pub isWithin : (count size : ℕ) → Bool
+isWithin count size = leb count recordsLimit && leb size bytesLimit
+
 -- the records fill so many bytes exactly, their names rise, and the bytes are within the limit
 abbrev pub goodReading : ℕ → Reading (List File) → Bool
 goodReading size (taken fs used) = eqb used size && (isRising fs && leb size bytesLimit)

@@ -1,6 +1,6 @@
 // Good tables.
 ghost use mathlib.Core.Path.{_≡_};
-ghost use Rattle.table.specs.Table.{isGood};
+ghost use Rattle.table.specs.Table.{isGood, isWithin};
 use crate::order::compare_bytes;
 use record::FileRead;
 use xdr::Word;
@@ -8,6 +8,16 @@ use xdr::Word;
 const RECORDS_LIMIT: u32 = 512;
 
 const BYTES_LIMIT: usize = 65536;
+
+// Whether so many records in so many bytes are within the limits of a table.
+pub fn within_limits(count: u32, size: usize) -> bool
+    ensures { λ r. ⌜ r ≡ isWithin count size ⌝ }
+{
+    if RECORDS_LIMIT < count {
+        return false;
+    }
+    size <= BYTES_LIMIT
+}
 
 // Whether bytes are a good table: each record is read once, and its name compared with the one before it.
 pub fn is_good(table: &[u8]) -> bool

@@ -89,7 +89,7 @@ pub fn compare_bytes(a: &[u8], b: &[u8]) -> Order
 }
 
 // The bytes from one place to another, as far as there are any.
-fn part(s: &[u8], from: usize, to: usize) -> &[u8]
+pub fn part(s: &[u8], from: usize, to: usize) -> &[u8]
     ensures { λ r. ⌜ now r ≡ partOf (now (s .entry)) from to ⌝ }
 {
     let len = s.len();

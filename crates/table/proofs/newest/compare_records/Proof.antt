@@ -8,7 +8,7 @@ use denote.Ref.{now}
 use Rattle.record.specs.File.{isDeleted, isInvalid}
 use Rattle.record.specs.Modified.{raised}
 use Rattle.record.specs.declared.outline.Fields.{Fields}
-use Rattle.table.specs.Order.{compareNumbers}
+use Rattle.table.specs.Order.{compareNumbers, part}
 use Rattle.table.specs.Newest.{bit}
 use Rattle.table.specs.declared.order.Order.{Order}
 use Rattle.table.proofs.OrderLaws.{Compared, decides, passes}
@@ -28,6 +28,11 @@ deleted-compared : (c : tie.After-compare-bits2)
     → let a = c .before .before .before .before .before .before .before .before .before .before .before .before .before .before .before .before .before .before .args in
     c .compare-bits2 .result ≡ compareNumbers (bit (isDeleted (a .f .flags))) (bit (isDeleted (a .g .flags)))
 deleted-compared c = c .compare-bits2 .ensures ∙ rw (c .before .before .is-deleted .ensures, c .before .is-deleted2 .ensures)
+
+parts-compared : (c : tie.After-compare-parts)
+    → let a = c .before .before .before .before .before .before .before .before .before .before .before .before .before .before .before .before .before .before .before .before .before .args in
+    Compared (part (now (a .s)) (a .f .rest) (a .f .past)) (part (now (a .t)) (a .g .rest) (a .g .past)) (c .compare-parts .result)
+parts-compared c = record { is = c .compare-parts .ensures }
 
 -- past each field that is the same in both
 
@@ -131,7 +136,7 @@ returns-5 c =
     let c1 = c2 .before .before .before .before .before in
     let a = c1 .before .before .before .before .before .args in
     compared-at (now (a .s)) (a .f) (now (a .t)) (a .g)
-    (past-modified c1 (past-version c2 (past-valid c3 (past-deleted c4 (record { is = c .compare-parts .ensures })))))
+    (past-modified c1 (past-version c2 (past-valid c3 (past-deleted c4 (parts-compared c)))))
 
 pub compare-records-spec : {M : Type 1} → statement M
 compare-records-spec =
