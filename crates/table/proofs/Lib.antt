@@ -7,3 +7,4 @@ pub mod RisingLaws
 pub mod CheckLaws
 pub mod TableLaws
 pub mod WalkLaws
+pub mod FillingLaws

@@ -5,7 +5,6 @@ use borrow.Author.Needs.{needs}
 use Rattle.table.proofs.good.within_limits.Statement.{statement}
 use Rattle.table.proofs.good.within_limits.Tie as tie
 
-
 returns : tie.Need-returns
 returns c = simp (lt-leb (c .before .args .count) recordsLimit (c .if1 .taken))
 

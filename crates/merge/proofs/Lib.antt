@@ -1,0 +1,6 @@
+-- Laws of merged tables.
+pub mod TwoLaws
+pub mod NextLaws
+pub mod StepLaws
+pub mod LoopLaws
+pub mod AnswerLaws
