@@ -4,3 +4,5 @@ pub mod NextLaws
 pub mod StepLaws
 pub mod LoopLaws
 pub mod AnswerLaws
+pub mod HighestLaws
+pub mod MergeLaws

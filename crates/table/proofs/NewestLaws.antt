@@ -10,7 +10,7 @@ use Rattle.table.specs.Order.{compareLists}
 use Rattle.table.specs.Newest.{key, keyAt, compareFiles, compareAt}
 use Rattle.table.specs.declared.order.Order.{Order}
 use Rattle.table.specs.declared.order.Order.the-variants.{Less, Equal, Greater}
-use Rattle.table.proofs.OrderLaws.{Compared, turned, compare-turned, equal-same, below-trans, same-equal}
+use Rattle.table.proofs.OrderLaws.{Compared, turned, compare-turned, equal-same, below-trans, same-equal, below-irrefl, below-asym, at-most-same, at-most-trans}
 
 pub by-key : (f g : File) → compareFiles f g ≡ compareLists (key f) (key g)
 unfolding compareFiles
@@ -42,3 +42,21 @@ newest-trans f g h p q = below-trans (key f) (key g) (key h) p q
 pub newest-same : (f : File) → compareFiles f f ≡ Equal
 unfolding compareFiles
 newest-same f = same-equal (key f)
+
+-- a record that is at least as high as another: not below it
+
+pub at-least-itself : (f : File) → compareFiles f f ≡ Less → ⊥
+unfolding compareFiles
+at-least-itself f h = below-irrefl (key f) h
+
+pub at-least-turned : (f g : File) → compareFiles f g ≡ Less → compareFiles g f ≡ Less → ⊥
+unfolding compareFiles
+at-least-turned f g h k = below-asym (key f) (key g) h k
+
+pub at-least-trans : (f g h : File) → (compareFiles g f ≡ Less → ⊥) → (compareFiles h g ≡ Less → ⊥) → compareFiles h f ≡ Less → ⊥
+unfolding compareFiles
+at-least-trans f g h p q = at-most-trans (key f) (key g) (key h) p q
+
+pub at-least-same : (f g : File) → Valid file f → Valid file g → f .name ≡ g .name → (compareFiles f g ≡ Less → ⊥) → (compareFiles g f ≡ Less → ⊥) → f ≡ g
+unfolding compareFiles
+at-least-same f g v w n p q = same-key f g v w n (at-most-same (key f) (key g) q p)
