@@ -41,41 +41,33 @@ Steps a i fs b j gs (Take s) = Took a fs b gs (i + j) s
 higher-first : (f g : File) (fs gs : List File) (o : Order) → compareLists (f .name) (g .name) ≡ Equal → compareFiles f g ≡ o → merged (f ∷ fs) (g ∷ gs) ≡ higherBy o f g ∷ merged fs gs
 higher-first f g fs gs o e h = merged-equal f g fs gs e ∙ ap (λ (p : Order). higherBy p f g ∷ merged fs gs) h
 
+-- the record f at a place of one of the tables, which heads what is merged, is taken
+taking : {a b : List ℕ} {sum : ℕ} {f : File} {fs gs ls rs ms : List File} {t : List ℕ} {at : ℕ} (s : Step) → Standing t at f ms → merged fs gs ≡ f ∷ merged ls rs → stepBytes a b s ≡ part t at (fieldsOf at f .past)
+    → s .start ≡ at → s .end ≡ fieldsOf at f .past → At a (s .i) ls → At b (s .j) rs → sum + fieldsOf at f .past ≤ s .i + s .j + at → Took a fs b gs sum s
+taking {f = f} {ls = ls} {rs = rs} s p m e h k u w l =
+    record {
+      head = f;
+      lefts = ls;
+      rights = rs;
+      merges = m;
+      bytes-are = e ∙ p .bytes-are;
+      sized = omega (arith, p .sized);
+      some = omega (arith, p .sized);
+      left = u;
+      right = w;
+      grows = omega (arith, p .sized);
+    }
+
 module _ {a : List ℕ} {i : ℕ} {b : List ℕ} {j : ℕ} where
-  -- the first record of the first table is taken
+  -- it stands in the first table
   takes-left : {f : File} {fs gs : List File} (rs : List File) (y : ℕ) → At a i (f ∷ fs) → At b y rs → j ≤ y → merged (f ∷ fs) gs ≡ f ∷ merged fs rs
       → Steps a i (f ∷ fs) b j gs (fromLeft i (fieldsOf i f .past) y)
-  takes-left {f} {fs} {gs} rs y u w h m =
-      let p = standing u in
-      record {
-        head = f;
-        lefts = fs;
-        rights = rs;
-        merges = m;
-        bytes-are = p .bytes-are;
-        sized = p .sized;
-        some = omega (arith, p .sized);
-        left = p .next;
-        right = w;
-        grows = omega (arith, p .sized);
-      }
+  takes-left rs y u w h m = let p = standing u in taking _ p m refl refl refl (p .next) w (omega arith)
 
+  -- it stands in the second
   takes-right : {g : File} {fs gs : List File} (ls : List File) (x : ℕ) → At a x ls → At b j (g ∷ gs) → i ≤ x → merged fs (g ∷ gs) ≡ g ∷ merged ls gs
       → Steps a i fs b j (g ∷ gs) (fromRight j (fieldsOf j g .past) x)
-  takes-right {g} {fs} {gs} ls x u w h m =
-      let p = standing w in
-      record {
-        head = g;
-        lefts = ls;
-        rights = gs;
-        merges = m;
-        bytes-are = p .bytes-are;
-        sized = p .sized;
-        some = omega (arith, p .sized);
-        left = u;
-        right = p .next;
-        grows = omega (arith, p .sized);
-      }
+  takes-right ls x u w h m = let p = standing w in taking _ p m refl refl refl u (p .next) (omega arith)
 
   takes : {f g : File} {fs gs : List File} → At a i (f ∷ fs) → At b j (g ∷ gs) → (n o : Order) → compareLists (f .name) (g .name) ≡ n → compareFiles f g ≡ o
       → Steps a i (f ∷ fs) b j (g ∷ gs) (chosen i j (fieldsOf i f .past) (fieldsOf j g .past) n o)

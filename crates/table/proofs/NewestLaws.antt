@@ -1,16 +1,19 @@
 -- The order of records: that of their keys, equal only of a record and itself.
-use Prim.Native.Nat.{ℕ}
+use Prim.Native.Nat.{ℕ, _^_, _<_}
 use mathlib.Core.List.{List, _∷_, _++_}
 use mathlib.Core.Path.{_≡_, refl, sym, ap, _∙_}
+use lib.Signed.{_<ℤ_}
 use Rattle.xdr.specs.Format.{encode, Valid}
 use Rattle.record.specs.File.{File, name, file, fromFlags}
+use Rattle.record.specs.Modified.{signed, raised}
 use Rattle.record.specs.declared.outline.Fields.{Fields}
 use Rattle.record.proofs.FileLaws.{split-encoding, same-file}
+use Rattle.record.proofs.SignedOrder.{raised-order}
 use Rattle.table.specs.Order.{compareLists}
 use Rattle.table.specs.Newest.{key, keyAt, compareFiles, compareAt}
 use Rattle.table.specs.declared.order.Order.{Order}
 use Rattle.table.specs.declared.order.Order.the-variants.{Less, Equal, Greater}
-use Rattle.table.proofs.OrderLaws.{Compared, turned, compare-turned, equal-same, below-trans, same-equal, below-irrefl, below-asym, at-most-same, at-most-trans}
+use Rattle.table.proofs.OrderLaws.{number-less, heads, Compared, turned, compare-turned, equal-same, below-trans, same-equal, below-irrefl, below-asym, at-most-same, at-most-trans}
 
 pub by-key : (f g : File) → compareFiles f g ≡ compareLists (key f) (key g)
 unfolding compareFiles
@@ -20,6 +23,13 @@ by-key f g = refl
 pub compared-at : (s : List ℕ) (f : Fields) (t : List ℕ) (g : Fields) {o : Order} → Compared (keyAt s f) (keyAt t g) o → o ≡ compareAt s f t g
 unfolding compareAt
 compared-at s f t g c = c .is
+
+-- Modified decides as the signed number that it is
+pub lower-modified : (f g : File) → f .modified < 2 ^ 64 → g .modified < 2 ^ 64 → signed (f .modified) <ℤ signed (g .modified) → compareFiles f g ≡ Less
+unfolding compareFiles
+lower-modified f g h k l =
+    let less = raised-order (f .modified) (g .modified) h k .1 l in
+    heads (raised (f .modified)) (raised (g .modified)) _ _ ∙ rw (number-less (raised (f .modified)) (raised (g .modified)) less) refl
 
 -- two records of one name that tie throughout are equal
 

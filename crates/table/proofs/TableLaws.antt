@@ -82,3 +82,13 @@ table-good t fs g =
     ap (λ (l : List ℕ). goodReading (length t) (read table l)) (g .is)
     ∙ ap (goodReading (length t)) (table-read fs (g .valid) (g .few))
     ∙ rw (eq-eqb (length (tableOf fs)) (length t) (sym (ap length (g .is))), rising-test fs (g .rising), le-leb (length t) bytesLimit (g .short)) refl
+
+-- the empty table is four zero bytes, and no bytes are no table
+
+pub empty-good : isGood (0 ∷ 0 ∷ 0 ∷ 0 ∷ []) ≡ true
+unfolding isGood read
+empty-good = refl
+
+pub nothing-bad : isGood [] ≡ false
+unfolding isGood read
+nothing-bad = refl
