@@ -20,7 +20,7 @@ use Rattle.merge.specs.Answer.{mergedRecords}
 use Rattle.merge.specs.Next.{nextOf, stepBytes}
 use Rattle.merge.specs.declared.next.Step.{Step}
 use Rattle.merge.specs.declared.next.Next.{Next}
-use Rattle.merge.specs.declared.next.Next.the-variants.{End, Take}
+use Rattle.merge.specs.declared.next.Next.the-variants.{End, More}
 use Rattle.merge.proofs.TwoLaws.{merged, merged-two}
 use Rattle.merge.proofs.StepLaws.{Took, Steps, steps}
 
@@ -54,7 +54,7 @@ begun a b p q g h =
 module _ {a b : List ℕ} {i j : ℕ} (l : Left a b i j) where
   -- the next step, by the answer that was given
 
-  pub took : {r : Next} {s : Step} → r ≡ nextOf a i b j → r ≡ Take s → Took a (l .fs) b (l .gs) (i + j) s
+  pub took : {r : Next} {s : Step} → r ≡ nextOf a i b j → r ≡ More s → Took a (l .fs) b (l .gs) (i + j) s
   took e f = subst (Steps a i (l .fs) b j (l .gs)) (sym e ∙ f) (steps (l .fs) (l .gs) (l .left) (l .right))
 
   pub none-left : {r : Next} → r ≡ nextOf a i b j → r ≡ End → rest l ≡ []

@@ -99,6 +99,12 @@ merged-merged ts us ok =
     highest-same (joined ts ++ joined us) (joined (ts ++ us)) (mergedOf (mergedOf ts ∷ mergedOf us ∷ [])) (mergedOf (ts ++ us)) ok j (merged-highest (ts ++ us))
     (λ f m. subst (λ (l : List File). f ∈ l) (sym (joined-append ts us)) m) (λ f m. subst (λ (l : List File). f ∈ l) (joined-append ts us) m)
 
+-- two tables that are merged tables of others
+pub merged-origins : (a b : List ℕ) (ts us : List (List File)) → records a ≡ mergedOf ts → records b ≡ mergedOf us → AllOK (joined (ts ++ us)) → mergedRecords a b ≡ mergedOf (ts ++ us)
+unfolding mergedRecords
+merged-origins a b ts us e f ok =
+    ap (λ (l : List File). mergedOf (l ∷ records b ∷ [])) e ∙ ap (λ (l : List File). mergedOf (mergedOf ts ∷ l ∷ [])) f ∙ merged-merged ts us ok
+
 pub merged-repeated : (ts : List (List File)) → AllOK (joined ts) → mergedOf (ts ++ ts) ≡ mergedOf ts
 merged-repeated ts ok =
     merged-same (ts ++ ts) ts ok

@@ -16,7 +16,7 @@ use Rattle.merge.specs.Merged.{higherBy, higher}
 use Rattle.merge.specs.Next.{fromLeft, fromRight, chosen, nextBy, nextOf, stepBytes}
 use Rattle.merge.specs.declared.next.Step.{Step}
 use Rattle.merge.specs.declared.next.Next.{Next}
-use Rattle.merge.specs.declared.next.Next.the-variants.{End, Take}
+use Rattle.merge.specs.declared.next.Next.the-variants.{End, More}
 use Rattle.merge.proofs.TwoLaws.{merged, merged-less, merged-equal, merged-greater, merged-left, merged-right}
 use Rattle.merge.proofs.NextLaws.{next-by, by-records}
 
@@ -35,7 +35,7 @@ pub record Took (a : List ℕ) (fs : List File) (b : List ℕ) (gs : List File) 
 
 abbrev pub Steps : List ℕ → ℕ → List File → List ℕ → ℕ → List File → Next → Type 0
 Steps a i fs b j gs End = merged fs gs ≡ []
-Steps a i fs b j gs (Take s) = Took a fs b gs (i + j) s
+Steps a i fs b j gs (More s) = Took a fs b gs (i + j) s
 
 -- of one name, the higher record comes first
 higher-first : (f g : File) (fs gs : List File) (o : Order) → compareLists (f .name) (g .name) ≡ Equal → compareFiles f g ≡ o → merged (f ∷ fs) (g ∷ gs) ≡ higherBy o f g ∷ merged fs gs

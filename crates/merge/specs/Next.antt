@@ -12,14 +12,14 @@ use Rattle.table.specs.declared.order.Order.{Order}
 use Rattle.table.specs.declared.order.Order.the-variants.{Less, Equal, Greater}
 use Rattle.merge.specs.declared.next.Step.{Step}
 use Rattle.merge.specs.declared.next.Next.{Next}
-use Rattle.merge.specs.declared.next.Next.the-variants.{End, Take}
+use Rattle.merge.specs.declared.next.Next.the-variants.{End, More}
 
 -- the record of the first table at i up to x, the second going on at j; and the other way round
 abbrev pub fromLeft : (i x j : ℕ) → Next
-fromLeft i x j = Take (record { left = true; start = i; end = x; i = x; j = j })
+fromLeft i x j = More (record { left = true; start = i; end = x; i = x; j = j })
 
 abbrev pub fromRight : (j y i : ℕ) → Next
-fromRight j y i = Take (record { left = false; start = j; end = y; i = i; j = y })
+fromRight j y i = More (record { left = false; start = j; end = y; i = i; j = y })
 
 -- records at i up to x and at j up to y, by how their names compare, and where these are the same by which is the higher
 abbrev pub chosen : (i j x y : ℕ) → (names records : Order) → Next

@@ -30,7 +30,7 @@ fn measure(a: &[u8], b: &[u8]) -> Size
     let mut count = 0;
     let mut bytes = 4;
     loop {
-        let Next::Take(step) = next_at(a, i, b, j) else {
+        let Next::More(step) = next_at(a, i, b, j) else {
             return Size { count, bytes };
         };
         bytes += step.end - step.start;
@@ -50,7 +50,7 @@ fn write_records(a: &[u8], b: &[u8], out: &mut [u8])
     let mut j = 4;
     let mut at = 4;
     loop {
-        let Next::Take(step) = next_at(a, i, b, j) else {
+        let Next::More(step) = next_at(a, i, b, j) else {
             return;
         };
         at += put_step(a, b, step, out, at);

@@ -17,13 +17,13 @@ pub struct Step {
 
 pub enum Next {
     End,
-    Take(Step),
+    More(Step),
 }
 
 fn from_left(i: usize, x: usize, j: usize) -> Next
     ensures { λ r. ⌜ r ≡ fromLeft i x j ⌝ }
 {
-    Next::Take(Step {
+    Next::More(Step {
         left: true,
         start: i,
         end: x,
@@ -35,7 +35,7 @@ fn from_left(i: usize, x: usize, j: usize) -> Next
 fn from_right(j: usize, y: usize, i: usize) -> Next
     ensures { λ r. ⌜ r ≡ fromRight j y i ⌝ }
 {
-    Next::Take(Step {
+    Next::More(Step {
         left: false,
         start: j,
         end: y,
