@@ -204,9 +204,3 @@ module _ (a b : List ℕ) (i : ℕ) where
   pub both-ended : length a ≤ i → length b ≤ i → compareLists (drop i a) (drop i b) ≡ Equal
   unfolding compareLists
   both-ended h k = rw (drop-of-length-le a {i = i} h, drop-of-length-le b {i = i} k) refl
-
--- a front that is the same decides nothing
-pub past-front : (p a b : List ℕ) → compareLists (p ++ a) (p ++ b) ≡ compareLists a b
-unfolding compareLists
-past-front [] a b = refl
-past-front (x ∷ p) a b = rw (number-same x x refl) (past-front p a b)

@@ -46,30 +46,12 @@ pub fn compare_numbers(m: u64, n: u64) -> Order
     Order::Equal
 }
 
-// How many bytes at the front are the same, counted eight at a time.
-fn same_words(a: &[u8], b: &[u8]) -> usize
-    ensures { λ r. ⌜ (r ≤ length (now (a .entry))) × (r ≤ length (now (b .entry))) × (compareLists (now (a .entry)) (now (b .entry)) ≡ compareLists (drop r (now (a .entry))) (drop r (now (b .entry)))) ⌝ }
+// What is left from a place on, byte by byte.
+fn compare_rest(a: &[u8], b: &[u8], from: usize) -> Order
+    requires { ⌜ (from ≤ length (now a)) × (from ≤ length (now b)) ⌝ }
+    ensures { λ r. ⌜ r ≡ compareLists (drop from (now (a .entry))) (drop from (now (b .entry))) ⌝ }
 {
-    let mut i = 0;
-    loop {
-        let Hyper::Taken(x, next) = xdr::read_hyper(a, i) else {
-            return i;
-        };
-        let Hyper::Taken(y, _) = xdr::read_hyper(b, i) else {
-            return i;
-        };
-        if x != y {
-            return i;
-        }
-        i = next;
-    }
-}
-
-// Two runs of bytes.
-pub fn compare_bytes(a: &[u8], b: &[u8]) -> Order
-    ensures { λ r. ⌜ r ≡ compareLists (now (a .entry)) (now (b .entry)) ⌝ }
-{
-    let mut i = same_words(a, b);
+    let mut i = from;
     while i < a.len() {
         if b.len() <= i {
             return Order::Greater;
@@ -86,6 +68,25 @@ pub fn compare_bytes(a: &[u8], b: &[u8]) -> Order
         return Order::Less;
     }
     Order::Equal
+}
+
+// Two runs of bytes: eight at a time, as long as both have so many.
+pub fn compare_bytes(a: &[u8], b: &[u8]) -> Order
+    ensures { λ r. ⌜ r ≡ compareLists (now (a .entry)) (now (b .entry)) ⌝ }
+{
+    let mut i = 0;
+    loop {
+        let Hyper::Taken(x, next) = xdr::read_hyper(a, i) else {
+            return compare_rest(a, b, i);
+        };
+        let Hyper::Taken(y, _) = xdr::read_hyper(b, i) else {
+            return compare_rest(a, b, i);
+        };
+        if x != y {
+            return compare_numbers(x, y);
+        }
+        i = next;
+    }
 }
 
 // The bytes from one place to another, as far as there are any.

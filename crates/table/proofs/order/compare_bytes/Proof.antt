@@ -1,13 +1,17 @@
 -- `table::order::compare_bytes` meets its contract. The loop's invariant: what is left of the two compares as they do.
-use Prim.Native.Nat.{ℕ, _+_, _-_, _≤_, _<_}
+use Prim.Native.Nat.{ℕ, _+_, _-_, _≤_}
 use mathlib.Core.List.{List}
 use mathlib.Core.Path.{_≡_, refl, sym, ap, _∙_}
 use native.Mathlib.Omega.{arith}
 use denote.Ref.{now}
-use lib.ListN.{length, drop, getD}
-use Rattle.table.specs.Order.{orElse, compareNumbers, compareLists}
-use Rattle.table.specs.declared.order.Order.{Order}
-use Rattle.table.proofs.OrderLaws.{number-less, number-greater, number-same, both-there, first-ended, second-ended, both-ended}
+use lib.ListN.{length, drop}
+use Rattle.xdr.specs.Reading.{taken}
+use Rattle.xdr.specs.Fields.{hyper}
+use Rattle.xdr.proofs.Answered.{hyper-taken}
+use Rattle.xdr.proofs.Steps.{Reads, ends-word}
+use Rattle.xdr.proofs.Parts.{number-value}
+use Rattle.table.specs.Order.{compareNumbers, compareLists}
+use Rattle.table.proofs.WordLaws.{word-same, word-differs}
 use borrow.Author.Needs.{needs}
 use Rattle.table.proofs.order.compare_bytes.Statement.{statement}
 use Rattle.table.proofs.order.compare_bytes.Tie as tie
@@ -19,72 +23,86 @@ abbrev μ-loop : tie.MeasureT-loop
 μ-loop a b i₀ i = length a - i
 
 abbrev left : tie.At-loop Inv-loop μ-loop → List ℕ
-left l = now (l .before .before .before .before .args .a)
+left l = now (l .before .before .before .args .a)
 
 abbrev right : tie.At-loop Inv-loop μ-loop → List ℕ
-right l = now (l .before .before .before .before .args .b)
+right l = now (l .before .before .before .args .b)
 
--- how the two compare, by the next byte of each
-by-byte : (l : tie.At-loop Inv-loop μ-loop) (o : Order) → l .loop .i < length (left l) → l .loop .i < length (right l)
-    → compareNumbers (getD (left l) (l .loop .i) 0) (getD (right l) (l .loop .i) 0) ≡ o
-    → compareLists (left l) (right l) ≡ orElse o (compareLists (drop (l .loop .i + 1) (left l)) (drop (l .loop .i + 1) (right l)))
-by-byte l o h k e =
-    l .loop .inv .2 ∙ both-there (left l) (right l) (l .loop .i) h k
-    ∙ ap (λ (o : Order). orElse o (compareLists (drop (l .loop .i + 1) (left l)) (drop (l .loop .i + 1) (right l)))) e
+-- the next eight bytes of each
+abbrev at-loop : tie.After-known-told2 Inv-loop μ-loop → tie.At-loop Inv-loop μ-loop
+at-loop c = c .before .before .before .before .before .before .before .before
 
-same-words-requires : tie.Need-same-words-requires Inv-loop μ-loop
-same-words-requires c κs = search needs
+abbrev first : tie.After-known-told2 Inv-loop μ-loop → tie.After-known-told Inv-loop μ-loop
+first c = c .before .before .before .before
+
+first-read : (c : tie.After-known-told2 Inv-loop μ-loop) → Reads hyper (left (at-loop c)) (at-loop c .loop .i) (taken (first c .before .x .given .0 .0) (first c .before .x .given .0 .1 .0))
+first-read c = hyper-taken (first c .before .before .before .read-hyper .ensures) (first c .before .x .given .1)
+
+second-read : (c : tie.After-known-told2 Inv-loop μ-loop) → Reads hyper (right (at-loop c)) (at-loop c .loop .i) (taken (c .before .y .given .0 .0) (c .before .y .given .0 .1 .0))
+second-read c = hyper-taken (c .before .before .before .read-hyper2 .ensures) (c .before .y .given .1)
 
 loop-holds : tie.Need-loop-holds Inv-loop μ-loop
-loop-holds c = c .same-words .ensures
+loop-holds c = (omega arith, omega arith, refl)
+
+read-hyper-requires : tie.Need-read-hyper-requires Inv-loop μ-loop
+read-hyper-requires c κs = search needs
+
+enum-known-x : tie.Need-enum-known-x Inv-loop μ-loop
+enum-known-x c = search needs
+
+enum-told : tie.Need-enum-told Inv-loop μ-loop
+enum-told c = search needs
+
+compare-rest-requires : tie.Need-compare-rest-requires Inv-loop μ-loop
+compare-rest-requires c κs = search needs
 
 returns : tie.Need-returns Inv-loop μ-loop
-returns c =
-    let l = c .before .before in
-    sym (l .loop .inv .2 ∙ second-ended (left l) (right l) (l .loop .i) (omega arith) (omega arith))
+returns c = c .compare-rest .ensures ∙ sym (c .before .before .before .before .loop .inv .2)
 
-shared-slice-read-if2 : tie.Need-shared-slice-read-if2 Inv-loop μ-loop
-shared-slice-read-if2 c = search needs
+read-hyper-requires-2 : tie.Need-read-hyper-requires-2 Inv-loop μ-loop
+read-hyper-requires-2 c κs = search needs
 
-shared-slice-read-if2-2 : tie.Need-shared-slice-read-if2-2 Inv-loop μ-loop
-shared-slice-read-if2-2 c = search needs
+enum-known-y : tie.Need-enum-known-y Inv-loop μ-loop
+enum-known-y c = search needs
+
+enum-told-2 : tie.Need-enum-told-2 Inv-loop μ-loop
+enum-told-2 c = search needs
+
+compare-rest-requires-2 : tie.Need-compare-rest-requires-2 Inv-loop μ-loop
+compare-rest-requires-2 c κs = search needs
 
 returns-2 : tie.Need-returns-2 Inv-loop μ-loop
-returns-2 c =
-    let l = c .before .before .before .before .before in
-    sym (by-byte l _ (omega arith) (omega arith) (number-less _ _ (c .if2 .taken)))
+returns-2 c = c .compare-rest2 .ensures ∙ sym (c .before .before .before .before .before .before .before .before .loop .inv .2)
 
-shared-slice-read-if3 : tie.Need-shared-slice-read-if3 Inv-loop μ-loop
-shared-slice-read-if3 c = search needs
-
-shared-slice-read-if3-2 : tie.Need-shared-slice-read-if3-2 Inv-loop μ-loop
-shared-slice-read-if3-2 c = search needs
+compare-numbers-requires : tie.Need-compare-numbers-requires Inv-loop μ-loop
+compare-numbers-requires c κs = search needs
 
 returns-3 : tie.Need-returns-3 Inv-loop μ-loop
 returns-3 c =
-    let l = c .before .before .before .before .before .before .before .before in
-    sym (by-byte l _ (omega arith) (omega arith) (number-greater _ _ (c .if3 .taken)))
-
-add-i : tie.Need-add-i Inv-loop μ-loop
-add-i c = search needs
+    let r = c .before .before in
+    let l = at-loop r in
+    let p = ends-word (first-read r) in
+    let q = ends-word (second-read r) in
+    c .compare-numbers .ensures
+    ∙ sym (l .loop .inv .2 ∙ word-differs 8 (left l) (right l) (l .loop .i) (λ i. l .before .before .shared-slice-known .given i .fits) (λ i. l .before .shared-slice-known2 .given i .fits)
+    (omega (arith, p .0, p .1)) (omega (arith, q .0, q .1)) (number-value (first-read r)) (number-value (second-read r)) (c .before .if1 .taken))
 
 loop-less : tie.Need-loop-less Inv-loop μ-loop
-loop-less c = search needs
+loop-less c = let p = ends-word (first-read (c .before)) in omega (arith, p .0, p .1)
 
 loop-again : tie.Need-loop-again Inv-loop μ-loop
 loop-again c =
-    let l = c .before .before .before .before .before .before .before .before in
-    (omega arith, omega arith, by-byte l _ (omega arith) (omega arith) (number-same (getD (left l) (l .loop .i) 0) (getD (right l) (l .loop .i) 0) (omega arith)))
-
-returns-4 : tie.Need-returns-4 Inv-loop μ-loop
-returns-4 c =
-    let l = c .before .before in
-    sym (l .loop .inv .2 ∙ first-ended (left l) (right l) (l .loop .i) (omega arith) (omega arith))
-
-returns-5 : tie.Need-returns-5 Inv-loop μ-loop
-returns-5 c =
-    let l = c .before .before in
-    sym (l .loop .inv .2 ∙ both-ended (left l) (right l) (l .loop .i) (omega arith) (omega arith))
+    let r = c .before in
+    let l = at-loop r in
+    let p = ends-word (first-read r) in
+    let q = ends-word (second-read r) in (
+      omega (arith, p .1),
+      omega (arith, p .0, q .0, q .1),
+      l .loop .inv .2
+          ∙ word-same 8 (left l) (right l) (l .loop .i) (λ i. l .before .before .shared-slice-known .given i .fits) (λ i. l .before .shared-slice-known2 .given i .fits)
+          (omega (arith, p .0, p .1)) (omega (arith, q .0, q .1)) (number-value (first-read r)) (number-value (second-read r)) (c .if1 .left)
+          ∙ ap (λ (n : ℕ). compareLists (drop n (left l)) (drop n (right l))) (sym (p .0)),
+    )
 
 pub compare-bytes-spec : {M : Type 1} → statement M
 compare-bytes-spec =
@@ -92,17 +110,18 @@ compare-bytes-spec =
     (tie.spec
     Inv-loop
     μ-loop
-    same-words-requires
     loop-holds
+    read-hyper-requires
+    enum-known-x
+    enum-told
+    compare-rest-requires
     returns
-    shared-slice-read-if2
-    shared-slice-read-if2-2
+    read-hyper-requires-2
+    enum-known-y
+    enum-told-2
+    compare-rest-requires-2
     returns-2
-    shared-slice-read-if3
-    shared-slice-read-if3-2
+    compare-numbers-requires
     returns-3
-    add-i
     loop-less
-    loop-again
-    returns-4
-    returns-5)
+    loop-again)
