@@ -1,7 +1,7 @@
 -- Merging changes nothing but what the records change: order, grouping and repetition of the tables don't matter, and a merged table is good
 -- where it is within the limits.
 use Prim.Native.Nat.{ℕ, _≤_}
-use mathlib.Core.List.{List, [], _∷_, _++_, List·Memᴰ, List·Memᴰ·head, List·Memᴰ·tail, List·Memᴰ·cases-cons, List·Memᴰ·not-nil, List·Memᴰ·append-cases, Memᴰ·append-left, Memᴰ·append-right, append-assoc, append-nil}
+use mathlib.Core.List.{List, [], _∷_, _++_, List·Memᴰ·head, List·Memᴰ·tail, List·Memᴰ·cases-cons, List·Memᴰ·not-nil, List·Memᴰ·append-cases, Memᴰ·append-left, Memᴰ·append-right, append-assoc, append-nil}
 use mathlib.Core.Path.{_≡_, refl, sym, ap, subst, _∙_}
 use mathlib.Core.Logic.{_⊎_, inl, inr, ⊎-elim}
 use mathlib.Core.Bool.{Bool, true, false, cond}
@@ -14,14 +14,14 @@ use Rattle.xdr.specs.Format.{Valid}
 use Rattle.record.specs.File.{File, file}
 use Rattle.table.specs.Limits.{recordsLimit, bytesLimit}
 use Rattle.table.specs.Table.{isGood, isWithin, records, tableOf}
-use Rattle.table.specs.Filling.{Outcome, accepted, refused, tableInto}
+use Rattle.table.specs.Filling.{accepted, refused}
 use Rattle.table.proofs.RisingLaws.{Rising, rising-is, both-true}
 use Rattle.table.proofs.TableLaws.{AllValid, GoodTable, good-table}
 use Rattle.merge.specs.Merged.{mergedOf}
-use Rattle.merge.specs.Highest.{joined, AtLeast, Topped, Highest}
+use Rattle.merge.specs.Highest.{joined, Topped, Highest}
 use Rattle.merge.specs.Answer.{mergedRecords, mergeOutcome}
 use Rattle.merge.proofs.TwoLaws.{insert-none}
-use Rattle.merge.proofs.HighestLaws.{_∈_, itself, through, AllOK, Within, merged-highest, highest-same}
+use Rattle.merge.proofs.HighestLaws.{_∈_, through, AllOK, Within, merged-highest, highest-same}
 
 -- valid records, as a list and one by one
 

@@ -1,7 +1,7 @@
 -- Which record is next, by the outlines at the two places, and what is put of it.
 use Prim.Native.Nat.{ℕ}
 use mathlib.Core.List.{List}
-use mathlib.Core.Path.{_≡_, refl, sym, ap, _∙_}
+use mathlib.Core.Path.{_≡_, sym, ap, _∙_}
 use mathlib.Core.Bool.{Bool, cond}
 use Rattle.xdr.specs.Buffer.{put, putCount}
 use Rattle.record.specs.Outline.{outlineOf}

@@ -1,19 +1,19 @@
 -- What the next step of a merge takes, where records of both tables are left: the head of what is merged of them, and where the rest stands.
 use Prim.Native.Nat.{ℕ, _+_, _-_, _≤_, _<_}
-use mathlib.Core.List.{List, [], _∷_, _++_}
+use mathlib.Core.List.{List, [], _∷_}
 use mathlib.Core.Path.{_≡_, refl, sym, ap, subst, _∙_}
 use native.Mathlib.Omega.{arith}
-use lib.ListN.{length, take, drop}
+use lib.ListN.{length}
 use Rattle.xdr.specs.Format.{encode}
 use Rattle.record.specs.File.{File, file}
-use Rattle.record.specs.Outline.{outlineOf, fieldsOf}
+use Rattle.record.specs.Outline.{fieldsOf}
 use Rattle.table.specs.Order.{compareLists, part}
-use Rattle.table.specs.Newest.{compareFiles, compareAt}
+use Rattle.table.specs.Newest.{compareFiles}
 use Rattle.table.specs.declared.order.Order.{Order}
 use Rattle.table.specs.declared.order.Order.the-variants.{Less, Equal, Greater}
 use Rattle.table.proofs.WalkLaws.{At, at-end, Standing, standing, compared-there}
-use Rattle.merge.specs.Merged.{higherBy, higher}
-use Rattle.merge.specs.Next.{fromLeft, fromRight, chosen, nextBy, nextOf, stepBytes}
+use Rattle.merge.specs.Merged.{higherBy}
+use Rattle.merge.specs.Next.{fromLeft, fromRight, chosen, nextOf, stepBytes}
 use Rattle.merge.specs.declared.next.Step.{Step}
 use Rattle.merge.specs.declared.next.Next.{Next}
 use Rattle.merge.specs.declared.next.Next.the-variants.{End, More}

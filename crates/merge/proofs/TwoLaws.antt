@@ -1,6 +1,6 @@
 -- Merging two tables record by record, and that it gives their merged table.
 use Prim.Native.Nat.{ℕ}
-use mathlib.Core.List.{List, [], _∷_, _++_}
+use mathlib.Core.List.{List, [], _∷_}
 use mathlib.Core.Path.{_≡_, refl, sym, ap, _∙_}
 use Rattle.record.specs.File.{File}
 use Rattle.table.specs.Order.{compareLists}

@@ -3,7 +3,7 @@ ghost use mathlib.Core.Path.{_≡_};
 ghost use mathlib.Core.Bool.{true};
 ghost use Prim.Native.Nat.{_≤_};
 ghost use lib.ListN.{length};
-ghost use Rattle.xdr.specs.Buffer.{over, filled};
+ghost use Rattle.xdr.specs.Buffer.{over};
 ghost use Rattle.xdr.specs.Format.{encode, encodeAll};
 ghost use Rattle.record.specs.File.{file};
 ghost use Rattle.table.specs.Table.{isGood, tableOf};

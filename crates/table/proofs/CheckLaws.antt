@@ -8,9 +8,8 @@ use borrow.Author.Tests.{le-leb, lt-leb, leb-true}
 use lib.ListN.{length, take, drop, length-append}
 use lib.Dec.{leb, eqb}
 use Rattle.xdr.specs.Reading.{Reading, taken, refused, shifted, mapped, many}
-use Rattle.xdr.specs.Format.{Format, array, read, readAt}
+use Rattle.xdr.specs.Format.{Format, read, readAt}
 use Rattle.xdr.specs.Fields.{upTo}
-use Rattle.xdr.specs.Pad.{padded}
 use Rattle.xdr.specs.declared.answer.Refusal.{Refusal}
 use Rattle.xdr.proofs.Steps.{Reads, ends, part-read, shifted-zero, then-taken}
 use Rattle.xdr.proofs.Runs.{Run, run-none, run-more, array-read, count-refused, element-refused}

@@ -1,6 +1,6 @@
 -- The order of records: that of their keys, equal only of a record and itself.
 use Prim.Native.Nat.{ℕ, _^_, _<_}
-use mathlib.Core.List.{List, _∷_, _++_}
+use mathlib.Core.List.{List, _++_}
 use mathlib.Core.Path.{_≡_, refl, sym, ap, _∙_}
 use lib.Signed.{_<ℤ_}
 use Rattle.xdr.specs.Format.{encode, Valid}
@@ -12,7 +12,7 @@ use Rattle.record.proofs.SignedOrder.{raised-order}
 use Rattle.table.specs.Order.{compareLists}
 use Rattle.table.specs.Newest.{key, keyAt, compareFiles, compareAt}
 use Rattle.table.specs.declared.order.Order.{Order}
-use Rattle.table.specs.declared.order.Order.the-variants.{Less, Equal, Greater}
+use Rattle.table.specs.declared.order.Order.the-variants.{Less, Equal}
 use Rattle.table.proofs.OrderLaws.{number-less, heads, Compared, turned, compare-turned, equal-same, below-trans, same-equal, below-irrefl, below-asym, at-most-same, at-most-trans}
 
 pub by-key : (f g : File) → compareFiles f g ≡ compareLists (key f) (key g)

@@ -1,12 +1,11 @@
 -- Walking a table by outlines: what stands at a place where records begin, and where the next one begins.
-use Prim.Native.Nat.{ℕ, _+_, _-_, _≤_, _<_}
-use mathlib.Core.List.{List, [], _∷_, _++_}
+use Prim.Native.Nat.{ℕ, _+_, _-_, _≤_}
+use mathlib.Core.List.{List, [], _∷_}
 use mathlib.Core.Path.{_≡_, refl, sym, ap, _∙_}
 use native.Mathlib.Omega.{arith}
 use lib.ListN.{length, take, drop, length-append, length-drop}
 use lib.Seq.{drop-drop, drop-at, take-at}
-use Rattle.xdr.specs.Number.{IsBytes}
-use Rattle.xdr.specs.Format.{encode, Valid}
+use Rattle.xdr.specs.Format.{encode}
 use Rattle.xdr.specs.Fields.{word}
 use Rattle.record.specs.File.{File, file, fromFlags}
 use Rattle.record.specs.Outline.{wordAt, outlineOf, fieldsOf}
@@ -15,8 +14,7 @@ use Rattle.record.proofs.FileLaws.{encoding-parts, encoding-rest}
 use Rattle.record.proofs.OutlineLaws.{outline-cut}
 use Rattle.table.specs.Order.{part}
 use Rattle.table.specs.Newest.{key, keyAt, compareFiles, compareAt}
-use Rattle.table.specs.Table.{isGood, records, tableOf}
-use Rattle.table.proofs.TableLaws.{bytesOf, AllValid, GoodTable, good-table, table-bytes, table-length, word-bytes}
+use Rattle.table.proofs.TableLaws.{bytesOf, AllValid, GoodTable, table-bytes, table-length, word-bytes}
 
 -- from a place on, the bytes are those of the records
 pub record At (t : List ℕ) (at : ℕ) (fs : List File) : Type 0 where

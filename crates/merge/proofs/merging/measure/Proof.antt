@@ -1,6 +1,5 @@
 -- `merge::merging::measure` meets its contract. The loop's invariant: what was counted and what is left make up the merged table.
-use Prim.Native.Nat.{ℕ, _+_, _-_, _≤_}
-use mathlib.Core.List.{List}
+use Prim.Native.Nat.{_+_, _-_}
 use native.Mathlib.Omega.{arith}
 use denote.Ref.{now}
 use lib.ListN.{length}

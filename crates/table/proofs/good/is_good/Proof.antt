@@ -1,8 +1,7 @@
 -- `table::good::is_good` meets its contract. The loop's invariant: the records so far rise, and the last name is where it was found.
-use Prim.Native.Nat.{ℕ, _+_, _-_, _≤_}
+use Prim.Native.Nat.{ℕ, _-_, _≤_}
 use mathlib.Core.List.{List}
-use mathlib.Core.Path.{_≡_, sym, ap, _∙_}
-use mathlib.Core.Bool.{true, false}
+use mathlib.Core.Path.{sym, ap, _∙_}
 use native.Mathlib.Omega.{arith}
 use borrow.Author.Tests.{not-true, not-false}
 use denote.Ref.{now}
@@ -12,7 +11,7 @@ use Rattle.xdr.specs.Fields.{upTo}
 use Rattle.xdr.proofs.Answered.{word-taken, word-refused}
 use Rattle.xdr.proofs.Steps.{Reads, ends}
 use Rattle.table.specs.Limits.{recordsLimit}
-use Rattle.table.specs.Order.{isLess, compareLists, part}
+use Rattle.table.specs.Order.{isLess}
 use Rattle.table.proofs.CheckLaws.{NextFile, next-file, next-refused, Checked, checked-none, checked-more, checked-broken, checked-refused, checked-all, count-bad, good-long}
 use borrow.Author.Needs.{needs}
 use Rattle.table.proofs.good.is_good.Statement.{statement}

@@ -1,7 +1,6 @@
 -- `table::good::within_limits` meets its contract.
 use borrow.Author.Tests.{le-leb, lt-leb}
-use Rattle.table.specs.Limits.{recordsLimit, bytesLimit}
-use borrow.Author.Needs.{needs}
+use Rattle.table.specs.Limits.{recordsLimit}
 use Rattle.table.proofs.good.within_limits.Statement.{statement}
 use Rattle.table.proofs.good.within_limits.Tie as tie
 

@@ -7,7 +7,6 @@ use borrow.Author.Tests.{not-true, not-false}
 use denote.Ref.{now}
 use Rattle.record.specs.File.{isDeleted, isInvalid}
 use Rattle.record.specs.Modified.{raised}
-use Rattle.record.specs.declared.outline.Fields.{Fields}
 use Rattle.table.specs.Order.{compareNumbers, part}
 use Rattle.table.specs.Newest.{bit}
 use Rattle.table.specs.declared.order.Order.{Order}

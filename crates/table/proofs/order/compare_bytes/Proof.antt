@@ -1,5 +1,5 @@
 -- `table::order::compare_bytes` meets its contract. The loop's invariant: what is left of the two compares as they do.
-use Prim.Native.Nat.{ℕ, _+_, _-_, _≤_}
+use Prim.Native.Nat.{ℕ, _-_, _≤_}
 use mathlib.Core.List.{List}
 use mathlib.Core.Path.{_≡_, refl, sym, ap, _∙_}
 use native.Mathlib.Omega.{arith}
@@ -10,7 +10,7 @@ use Rattle.xdr.specs.Fields.{hyper}
 use Rattle.xdr.proofs.Answered.{hyper-taken}
 use Rattle.xdr.proofs.Steps.{Reads, ends-word}
 use Rattle.xdr.proofs.Parts.{number-value}
-use Rattle.table.specs.Order.{compareNumbers, compareLists}
+use Rattle.table.specs.Order.{compareLists}
 use Rattle.table.proofs.WordLaws.{word-same, word-differs}
 use borrow.Author.Needs.{needs}
 use Rattle.table.proofs.order.compare_bytes.Statement.{statement}

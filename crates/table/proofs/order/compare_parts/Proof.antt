@@ -1,9 +1,7 @@
 -- `table::order::compare_parts` meets its contract.
-use mathlib.Core.List.{List}
-use mathlib.Core.Path.{ap, _∙_}
-use Prim.Native.Nat.{ℕ}
+use mathlib.Core.Path.{_∙_}
 use borrow.Author.Needs.{needs}
-use Rattle.table.specs.Order.{compareLists, part}
+use Rattle.table.specs.Order.{part}
 use Rattle.table.proofs.order.compare_parts.Statement.{statement}
 use Rattle.table.proofs.order.compare_parts.Tie as tie
 
