@@ -85,7 +85,7 @@ name-bytes : (l : List ℕ) → length (encode name l) ≡ 4 + padded (length l)
 unfolding encode
 name-bytes l = bytes-size (upTo nameLimit) l
 
-split-encoding : (f : File) → encode file f ≡ encode name (f .name) ++ fromFlags f
+pub split-encoding : (f : File) → encode file f ≡ encode name (f .name) ++ fromFlags f
 unfolding encode
 split-encoding f = refl
 

@@ -1,0 +1,8 @@
+-- Laws of merged tables.
+pub mod TwoLaws
+pub mod NextLaws
+pub mod StepLaws
+pub mod LoopLaws
+pub mod AnswerLaws
+pub mod HighestLaws
+pub mod MergeLaws

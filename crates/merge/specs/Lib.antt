@@ -1,0 +1,4 @@
+pub mod Merged
+pub mod Highest
+pub mod Next
+pub mod Answer

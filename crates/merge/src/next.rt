@@ -1,0 +1,86 @@
+// Which record a merge takes next.
+ghost use mathlib.Core.Path.{_≡_};
+ghost use Rattle.xdr.specs.Buffer.{put, putCount};
+ghost use Rattle.merge.specs.Next.{fromLeft, fromRight, chosenOf, nextOf, stepBytes};
+use record::Fields;
+use record::Outline;
+use table::Order;
+
+// A record that is taken: of the first table or of the second, at start..end; the merge goes on at i of the first and j of the second.
+pub struct Step {
+    pub left: bool,
+    pub start: usize,
+    pub end: usize,
+    pub i: usize,
+    pub j: usize,
+}
+
+pub enum Next {
+    End,
+    More(Step),
+}
+
+fn from_left(i: usize, x: usize, j: usize) -> Next
+    ensures { λ r. ⌜ r ≡ fromLeft i x j ⌝ }
+{
+    Next::More(Step {
+        left: true,
+        start: i,
+        end: x,
+        i: x,
+        j,
+    })
+}
+
+fn from_right(j: usize, y: usize, i: usize) -> Next
+    ensures { λ r. ⌜ r ≡ fromRight j y i ⌝ }
+{
+    Next::More(Step {
+        left: false,
+        start: j,
+        end: y,
+        i,
+        j: y,
+    })
+}
+
+// Of two records the one with the lower name, and of one name the higher record.
+fn choose(a: &[u8], i: usize, f: Fields, b: &[u8], j: usize, g: Fields) -> Next
+    ensures { λ r. ⌜ r ≡ chosenOf (now (a .entry)) i f (now (b .entry)) j g ⌝ }
+{
+    match table::compare_parts(a, f.name, f.stop, b, g.name, g.stop) {
+        Order::Less => from_left(i, f.past, j),
+        Order::Greater => from_right(j, g.past, i),
+        Order::Equal => match table::compare_records(a, f, b, g) {
+            Order::Less => from_right(j, g.past, f.past),
+            Order::Equal => from_left(i, f.past, g.past),
+            Order::Greater => from_left(i, f.past, g.past),
+        },
+    }
+}
+
+// The next record, at a place of each table.
+pub fn next_at(a: &[u8], i: usize, b: &[u8], j: usize) -> Next
+    ensures { λ r. ⌜ r ≡ nextOf (now (a .entry)) i (now (b .entry)) j ⌝ }
+{
+    match record::outline_at(a, i) {
+        Outline::Short => match record::outline_at(b, j) {
+            Outline::Short => Next::End,
+            Outline::Whole(g) => from_right(j, g.past, i),
+        },
+        Outline::Whole(f) => match record::outline_at(b, j) {
+            Outline::Short => from_left(i, f.past, j),
+            Outline::Whole(g) => choose(a, i, f, b, j, g),
+        },
+    }
+}
+
+// Puts the bytes that are taken at a place of the buffer.
+pub fn put_step(a: &[u8], b: &[u8], step: Step, out: &mut [u8], at: usize) -> usize
+    ensures { λ r. ⌜ (r ≡ putCount (now (out .entry)) at (stepBytes (now (a .entry)) (now (b .entry)) step)) × (now (out .exit) ≡ put (now (out .entry)) at (stepBytes (now (a .entry)) (now (b .entry)) step)) ⌝ }
+{
+    if step.left {
+        return xdr::put_raw(out, at, table::part(a, step.start, step.end));
+    }
+    xdr::put_raw(out, at, table::part(b, step.start, step.end))
+}

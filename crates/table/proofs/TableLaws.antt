@@ -1,0 +1,94 @@
+-- A good table is the bytes of its records, and records within the limits whose names rise make a good table.
+use Prim.Native.Nat.{ℕ, _+_, _≤_}
+use mathlib.Core.List.{List, [], _∷_, _++_, append-nil}
+use mathlib.Core.Path.{_≡_, refl, sym, ap, _∙_}
+use mathlib.Core.Bool.{true, false, _&&_}
+use native.Mathlib.Omega.{arith}
+use borrow.Author.Tests.{le-leb, leb-true, eq-eqb, eqb-true}
+use lib.ListN.{length, length-append}
+use lib.Dec.{leb, eqb}
+use Rattle.xdr.specs.Reading.{Reading, taken, refused}
+use Rattle.xdr.specs.Number.{IsBytes}
+use Rattle.xdr.specs.Format.{read, encode, encodeAll, AllOf, Valid}
+use Rattle.xdr.specs.Fields.{word}
+use Rattle.xdr.proofs.NumberLaws.{length-digits}
+use Rattle.xdr.proofs.RoundTrip.{round}
+use Rattle.xdr.proofs.Corollaries.{read-whole}
+use Rattle.record.specs.File.{File, file}
+use Rattle.table.specs.Limits.{recordsLimit, bytesLimit}
+use Rattle.table.specs.Table.{table, isRising, goodReading, isGood, recordsRead, records, tableOf}
+use Rattle.table.proofs.RisingLaws.{both-true, Rising, rising-is, rising-test}
+
+-- the bytes of records, one after another
+abbrev pub bytesOf : List File → List ℕ
+bytesOf fs = encodeAll (λ f. encode file f) fs
+
+abbrev pub AllValid : List File → Type 0
+AllValid fs = AllOf (λ f. Valid file f) fs
+
+-- the count, and then the records
+pub table-bytes : (fs : List File) → tableOf fs ≡ encode word (length fs) ++ bytesOf fs
+unfolding tableOf encode
+table-bytes fs = refl
+
+pub word-bytes : (n : ℕ) → length (encode word n) ≡ 4
+unfolding encode
+word-bytes n = length-digits 4 n
+
+pub table-length : (fs : List File) → length (tableOf fs) ≡ 4 + length (bytesOf fs)
+table-length fs = ap length (table-bytes fs) ∙ length-append (encode word (length fs)) (bytesOf fs) ∙ ap (λ (n : ℕ). n + length (bytesOf fs)) (word-bytes (length fs))
+
+-- what a good table is
+pub record GoodTable (t : List ℕ) (fs : List File) : Type 0 where
+  pub is : t ≡ tableOf fs
+  pub valid : AllValid fs
+  pub few : length fs ≤ recordsLimit
+  pub rising : Rising fs
+  pub short : length t ≤ bytesLimit
+
+valid-parts : (fs : List File) → Valid table fs → AllValid fs × (length fs ≤ recordsLimit)
+unfolding Valid
+valid-parts fs v = (v .1, leb-true (length fs) recordsLimit (v .0 .1))
+
+pub good-table : (t : List ℕ) → IsBytes t → isGood t ≡ true → GoodTable t (records t)
+unfolding isGood records tableOf
+good-table t b e = go (read table t) refl e
+  where
+    go : (r : Reading (List File)) → read table t ≡ r → goodReading (length t) r ≡ true → GoodTable t (recordsRead r)
+    go (taken fs n) q h =
+        let p = both-true (eqb n (length t)) (isRising fs && leb (length t) bytesLimit) h in
+        let s = both-true (isRising fs) (leb (length t) bytesLimit) (p .1) in
+        let w = read-whole table t fs b (q ∙ ap (λ (k : ℕ). taken fs k) (eqb-true n (length t) (p .0))) in
+        let v = valid-parts fs (w .1) in
+        record { is = w .0; valid = v .0; few = v .1; rising = rising-is fs (s .0); short = leb-true (length t) bytesLimit (s .1) }
+    go (refused k p) q h = let z : _≡_ {A = ℕ} 0 1 = cc in absurd (omega arith)
+
+valid-table : (fs : List File) → AllValid fs → length fs ≤ recordsLimit → Valid table fs
+unfolding Valid
+valid-table fs v h = ((omega arith, le-leb (length fs) recordsLimit h), v)
+
+table-read : (fs : List File) → AllValid fs → length fs ≤ recordsLimit → read table (tableOf fs) ≡ taken fs (length (tableOf fs))
+unfolding tableOf
+table-read fs v h = ap (read table) (sym (append-nil (encode table fs))) ∙ round table fs [] (valid-table fs v h)
+
+-- records that make a good table are its records
+pub records-of : (t : List ℕ) (fs : List File) → GoodTable t fs → records t ≡ fs
+unfolding records
+records-of t fs g = ap (λ (l : List ℕ). recordsRead (read table l)) (g .is) ∙ ap recordsRead (table-read fs (g .valid) (g .few))
+
+pub table-good : (t : List ℕ) (fs : List File) → GoodTable t fs → isGood t ≡ true
+unfolding isGood
+table-good t fs g =
+    ap (λ (l : List ℕ). goodReading (length t) (read table l)) (g .is)
+    ∙ ap (goodReading (length t)) (table-read fs (g .valid) (g .few))
+    ∙ rw (eq-eqb (length (tableOf fs)) (length t) (sym (ap length (g .is))), rising-test fs (g .rising), le-leb (length t) bytesLimit (g .short)) refl
+
+-- the empty table is four zero bytes, and no bytes are no table
+
+pub empty-good : isGood (0 ∷ 0 ∷ 0 ∷ 0 ∷ []) ≡ true
+unfolding isGood read
+empty-good = refl
+
+pub nothing-bad : isGood [] ≡ false
+unfolding isGood read
+nothing-bad = refl

@@ -1,0 +1,5 @@
+pub mod Order
+pub mod Newest
+pub mod Limits
+pub mod Table
+pub mod Filling
