@@ -14,13 +14,14 @@ use Rattle.xdr.specs.Format.{Valid}
 use Rattle.record.specs.File.{File, file}
 use Rattle.table.specs.Limits.{recordsLimit, bytesLimit}
 use Rattle.table.specs.Table.{isGood, isWithin, records, tableOf}
-use Rattle.table.specs.Filling.{accepted, refused}
+use Rattle.table.specs.Filling.{accepted, refused, tableInto}
 use Rattle.table.proofs.RisingLaws.{Rising, rising-is, both-true}
 use Rattle.table.proofs.TableLaws.{AllValid, GoodTable, good-table}
 use Rattle.merge.specs.Merged.{mergedOf}
 use Rattle.merge.specs.Highest.{joined, Topped, Highest}
 use Rattle.merge.specs.Answer.{mergedRecords, mergeOutcome}
 use Rattle.merge.proofs.TwoLaws.{insert-none}
+use Rattle.merge.proofs.AnswerLaws.{both-good}
 use Rattle.merge.proofs.HighestLaws.{_∈_, through, AllOK, Within, merged-highest, highest-same}
 
 -- valid records, as a list and one by one
@@ -104,6 +105,11 @@ pub merged-origins : (a b : List ℕ) (ts us : List (List File)) → records a �
 unfolding mergedRecords
 merged-origins a b ts us e f ok =
     ap (λ (l : List File). mergedOf (l ∷ records b ∷ [])) e ∙ ap (λ (l : List File). mergedOf (mergedOf ts ∷ l ∷ [])) f ∙ merged-merged ts us ok
+
+-- so merging them goes by the merged table of all the others
+pub outcome-by-origins : (a b : List ℕ) (room : ℕ) (ts us : List (List File)) → isGood a ≡ true → isGood b ≡ true → records a ≡ mergedOf ts → records b ≡ mergedOf us → AllOK (joined (ts ++ us))
+    → mergeOutcome a b room ≡ tableInto (mergedOf (ts ++ us)) room
+outcome-by-origins a b room ts us g h e f ok = both-good a b room g h ∙ ap (λ (l : List File). tableInto l room) (merged-origins a b ts us e f ok)
 
 pub merged-repeated : (ts : List (List File)) → AllOK (joined ts) → mergedOf (ts ++ ts) ≡ mergedOf ts
 merged-repeated ts ok =
