@@ -1,0 +1,256 @@
+//! How long the library and the reference need for the same calls, side by side.
+//!
+//! `cargo bench` prints a table in nanoseconds a call. A figure is the best of several runs, so that
+//! other work on the machine shows as little as possible; the runs of the two alternate. Both are
+//! called through pointers the compiler can't see through, as functions of another library are.
+
+#[path = "../tests/reference/mod.rs"]
+mod reference;
+#[path = "../tests/support/mod.rs"]
+mod support;
+
+use fordtrumpet::Message;
+use std::hint::black_box;
+use std::time::{Duration, Instant};
+use support::draft::{Body, Draft};
+use support::encode::{Block, Encoding, File};
+
+const RUNS: usize = 100;
+const RUN: Duration = Duration::from_millis(1);
+
+fn main() {
+    println!(
+        "{:<44}{:>12}{:>14}{:>8}",
+        "operation", "library ns", "reference ns", "ratio"
+    );
+    let drafts = drafts();
+    for (what, draft) in &drafts {
+        compare_reading(what, draft);
+    }
+    for (what, draft) in &drafts {
+        compare_writing(what, draft);
+    }
+    compare_walking_files("walk 512 files", &index(512, 0, "directory/file name"));
+    compare_walking_options("walk 64 options", &options(64));
+    time_copying();
+}
+
+/// The messages that are read and written.
+fn drafts() -> Vec<(&'static str, Draft)> {
+    let mut update = index(1, 2, "directory/file name");
+    let Body::Index { update: flag, .. } = &mut update.body else {
+        unreachable!()
+    };
+    *flag = true;
+    vec![
+        (
+            "Index, 1 file of 2 blocks",
+            index(1, 2, "directory/file name"),
+        ),
+        ("IndexUpdate, 1 file of 2 blocks", update),
+        ("Request", request()),
+        ("Response, 100 bytes", response(100)),
+        ("Ping", draft(Body::Ping)),
+        ("Pong", draft(Body::Pong)),
+        ("Options, 2", options(2)),
+        (
+            "Index, 4 files of 400 blocks (64 KB)",
+            index(4, 400, "directory/file name"),
+        ),
+        (
+            "Index, 512 files without blocks",
+            index(512, 0, "directory/file name"),
+        ),
+        (
+            "Index, 512 files, names not ASCII",
+            index(512, 0, "каталог/имя"),
+        ),
+        ("Response, 131,072 bytes", response(131_072)),
+        ("Options, 64", options(64)),
+    ]
+}
+
+fn draft(body: Body) -> Draft {
+    Draft { id: 77, body }
+}
+
+fn index(count: usize, blocks: usize, name: &str) -> Draft {
+    let block = Block {
+        length: 131_072,
+        hash: [0xA7; 32],
+    };
+    let file = |number| File {
+        name: format!("{name} {number:04}").into_bytes(),
+        flags: 0o644,
+        modified: 1_700_000_000,
+        version: 1,
+        blocks: vec![block; blocks],
+    };
+    let mut files = Encoding::new();
+    files.files(&(0..count).map(file).collect::<Vec<_>>());
+    draft(Body::Index {
+        update: false,
+        repository: b"default".to_vec(),
+        files,
+    })
+}
+
+fn request() -> Draft {
+    draft(Body::Request {
+        repository: b"default".to_vec(),
+        name: b"directory/file name 0001".to_vec(),
+        offset: 131_072,
+        length: 131_072,
+        hash: vec![0xA7; 32],
+    })
+}
+
+fn response(len: usize) -> Draft {
+    draft(Body::Response {
+        data: vec![0xA7; len],
+    })
+}
+
+fn options(count: usize) -> Draft {
+    let option = |number| {
+        (
+            format!("option {number:02}").into_bytes(),
+            b"its value".to_vec(),
+        )
+    };
+    let mut options = Encoding::new();
+    options.options(&(0..count).map(option).collect::<Vec<_>>());
+    draft(Body::Options { options })
+}
+
+fn compare_reading(what: &str, draft: &Draft) {
+    let message = draft.encode().bytes;
+    type Library = fn(&[u8]) -> Result<fordtrumpet::Read<'_>, fordtrumpet::Refusal>;
+    type Reference = fn(&[u8]) -> Result<reference::Message, reference::Refusal>;
+    let library: Library = black_box(fordtrumpet::read);
+    let reference: Reference = black_box(reference::read);
+    assert_eq!(library(&message).unwrap().used, message.len());
+    assert_eq!(reference(&message).unwrap().end, message.len());
+    compare(
+        &format!("read {what}"),
+        &mut [],
+        |_| keep(&library(black_box(&message))),
+        |_| keep(&reference(black_box(&message))),
+    );
+}
+
+fn compare_writing(what: &str, draft: &Draft) {
+    let len = draft.encode().bytes.len();
+    let mut out = vec![0; len];
+    type Library = fn(&Draft, &mut [u8]) -> Result<usize, fordtrumpet::Refusal>;
+    type Reference = fn(&Draft, &mut [u8]) -> Result<usize, reference::Refusal>;
+    let library: Library = black_box(Draft::write_with_library);
+    let reference: Reference = black_box(Draft::write_with_reference);
+    assert_eq!(library(draft, &mut out), Ok(len));
+    assert_eq!(reference(draft, &mut out), Ok(len));
+    compare(
+        &format!("write {what}"),
+        &mut out,
+        |out| keep(&library(black_box(draft), out)),
+        |out| keep(&reference(black_box(draft), out)),
+    );
+}
+
+fn compare_walking_files(what: &str, draft: &Draft) {
+    let message = draft.encode().bytes;
+    let Message::Index(index) = fordtrumpet::read(&message).unwrap().message else {
+        unreachable!()
+    };
+    let array = index.files.as_bytes();
+    compare(
+        what,
+        &mut [],
+        |_| {
+            for file in black_box(index.files) {
+                keep(&file);
+            }
+        },
+        |_| {
+            let mut at = 4;
+            while let Some(file) = reference::file_at(black_box(array), at) {
+                keep(&file);
+                at = file.end;
+            }
+        },
+    );
+}
+
+fn compare_walking_options(what: &str, draft: &Draft) {
+    let message = draft.encode().bytes;
+    let Message::Options(message) = fordtrumpet::read(&message).unwrap().message else {
+        unreachable!()
+    };
+    let array = message.options.as_bytes();
+    compare(
+        what,
+        &mut [],
+        |_| {
+            for option in black_box(message.options) {
+                keep(&option);
+            }
+        },
+        |_| {
+            let mut at = 4;
+            while let Some(option) = reference::option_at(black_box(array), at) {
+                keep(&option);
+                at = option.end;
+            }
+        },
+    );
+}
+
+/// What moving bytes costs at all, for scale.
+fn time_copying() {
+    const LEN: usize = 65_536;
+    // Half a page apart, since processors slow down when the two places look alike in their low bits.
+    let mut bytes = vec![0xA7; LEN + 2048 + LEN];
+    let (from, to) = bytes.split_at_mut(LEN + 2048);
+    let copy = |to: &mut [u8]| to.copy_from_slice(black_box(&from[..LEN]));
+    let calls = calls_in_a_run(to, &copy);
+    let best = (0..RUNS)
+        .map(|_| time(calls, to, &copy))
+        .fold(f64::MAX, f64::min);
+    println!("{:<44}{best:>12.1}", "copy 65,536 bytes (memcpy)");
+}
+
+/// Makes the compiler believe that an answer is used, without moving it.
+fn keep<T>(answer: &T) {
+    black_box(answer);
+}
+
+/// Times both and prints a line. They share the buffer, as its place in memory matters.
+fn compare(what: &str, out: &mut [u8], library: impl Fn(&mut [u8]), reference: impl Fn(&mut [u8])) {
+    let library_calls = calls_in_a_run(out, &library);
+    let reference_calls = calls_in_a_run(out, &reference);
+    let (mut library_best, mut reference_best) = (f64::MAX, f64::MAX);
+    for _ in 0..RUNS {
+        library_best = library_best.min(time(library_calls, out, &library));
+        reference_best = reference_best.min(time(reference_calls, out, &reference));
+    }
+    let ratio = library_best / reference_best;
+    println!("{what:<44}{library_best:>12.1}{reference_best:>14.1}{ratio:>8.2}");
+}
+
+/// As many calls as fill one run. Finding out warms up caches and clock.
+fn calls_in_a_run(out: &mut [u8], call: &impl Fn(&mut [u8])) -> u64 {
+    let run = RUN.as_secs_f64() * 1e9;
+    let mut calls = 1;
+    while time(calls, out, call) * calls as f64 <= run {
+        calls *= 2;
+    }
+    calls
+}
+
+/// The time of one call in nanoseconds when `calls` are made.
+fn time(calls: u64, out: &mut [u8], call: &impl Fn(&mut [u8])) -> f64 {
+    let start = Instant::now();
+    for _ in 0..calls {
+        call(black_box(out));
+    }
+    start.elapsed().as_secs_f64() * 1e9 / calls as f64
+}

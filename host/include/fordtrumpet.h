@@ -1,0 +1,172 @@
+/*
+ * Messages of the Block Exchange Protocol v1.0, as exported by libbep.a.
+ *
+ * Slices. A run of bytes is given as a pointer and a length. The pointer must never be NULL, not
+ * even where the length is 0: point at any byte then. A lent buffer (out) must not overlap any
+ * input, and an answer neither of them; an answer must have the size it is declared with.
+ *
+ * Answers. Every function returns 0 when it accepts, else the number of the refusal, and fills the
+ * whole answer. A refusal comes with a place: the first byte of the field at fault, counted from
+ * the start of the message that was read or would have been written. The header word is one field;
+ * the place of a string or opaque is its length word; the place of a field that isn't there is
+ * where it would begin. A refused call leaves the lent buffer as it was. An accepted one changes
+ * only its first bytes, as many as it reports.
+ *
+ * Numbers. Each is given exactly when its check is the first to fail.
+ *
+ *    1  the field isn't wholly there
+ *    2  version not 0
+ *    3  type not 1 to 7
+ *    4  reserved not 0
+ *    5  a length or count is above its limit; in writing, first of all, a Message ID above 4095
+ *       (place 0)
+ *    6  a pad byte isn't zero
+ *    7  text rule broken
+ *    8  empty Name
+ *    9  hash length isn't 32
+ *   10  the Length of a block or Request is 0 or above 131,072
+ *   11  a reserved flag is set
+ *   12  a deleted file with a block count above 0 (the place is that of the block count)
+ *   13  a name stands twice in the message (never in reading or writing)
+ *   14  the answer is longer than the lent buffer (the place is 0, as for all that follow)
+ *   15  bytes given as a table aren't a good table
+ *   16  outstanding count equals the window
+ *   17  outstanding bytes plus Length exceed the allowance
+ *   18  the message is of another type than the call accepts
+ *   19  the resulting table is above 512 records or 65,536 bytes
+ *   20  the Response's ID isn't that of the oldest outstanding request, or none is outstanding
+ *   21  another Repository than the call names
+ *   22  window not 1 to 16, or the outstanding requests given aren't sound
+ *
+ * Reading gives 1 to 12, writing 1 and 5 to 12 and 14.
+ *
+ * Limits. Name 1 to 255 bytes, Repository up to 64, Key up to 64, Value up to 255; 512 files in a
+ * message, 1,024 blocks in a file, 64 options; Length of a block or Request 1 to 131,072; Data up
+ * to 131,072 bytes.
+ */
+#ifndef FORDTRUMPET_H
+#define FORDTRUMPET_H
+
+#include <stddef.h>
+#include <stdint.h>
+
+#ifdef __cplusplus
+extern "C" {
+#endif
+
+/* The types of messages. */
+enum {
+    BEP_INDEX = 1,
+    BEP_REQUEST = 2,
+    BEP_RESPONSE = 3,
+    BEP_PING = 4,
+    BEP_PONG = 5,
+    BEP_INDEX_UPDATE = 6,
+    BEP_OPTIONS = 7
+};
+
+/* Flags of a file. The low 12 bits are the Unix mode. */
+enum {
+    BEP_DELETED = 4096,
+    BEP_INVALID = 8192
+};
+
+/*
+ * Reads the message at the start of the input. Bytes after its end belong to the next message and
+ * change no answer.
+ *
+ * Refused: answer[0] is the place, all others are 0.
+ * Accepted: answer[0] is the number of bytes used, [1] the type, [2] the ID. By type follow these;
+ * those not named are 0. A start is a place in the input, that of a string, hash or Data being its
+ * first byte after the length word.
+ *   Index, IndexUpdate:  [3] [4] start and length of the Repository
+ *                        [5] [6] start and length of the FileInfo array, its count word included
+ *                        [7]     number of files
+ *   Request:             [3] [4] start and length of the Repository
+ *                        [5] [6] start and length of the Name
+ *                        [7]     Offset
+ *                        [8]     Length
+ *                        [9] [10] start and length of the hash (32)
+ *   Response:            [3] [4] start and length of the Data
+ *   Ping, Pong:          none
+ *   Options:             [5] [6] start and length of the array, its count word included
+ *                        [7]     number of options
+ */
+uint32_t bep_read(const uint8_t *input, size_t input_len, uint64_t answer[11]);
+
+/*
+ * The writers. Each checks the ID (5 at 0), then gives what reading the message would give, then 14
+ * if it is longer than the lent buffer. answer[0] is the number of bytes written, or the place of
+ * the refusal.
+ */
+
+/*
+ * Writes an Index. The files are an encoded FileInfo array, count word first, in any order; bytes
+ * after its end don't count.
+ */
+uint32_t bep_write_index(uint8_t *out, size_t out_len, uint32_t id,
+                         const uint8_t *repository, size_t repository_len,
+                         const uint8_t *files, size_t files_len, uint64_t answer[1]);
+
+/* Writes an IndexUpdate. Its fields are those of an Index. */
+uint32_t bep_write_index_update(uint8_t *out, size_t out_len, uint32_t id,
+                                const uint8_t *repository, size_t repository_len,
+                                const uint8_t *files, size_t files_len, uint64_t answer[1]);
+
+/* Writes a Request. A hash of another length than 32 is refused (9). */
+uint32_t bep_write_request(uint8_t *out, size_t out_len, uint32_t id,
+                           const uint8_t *repository, size_t repository_len,
+                           const uint8_t *name, size_t name_len,
+                           uint64_t offset, uint32_t length,
+                           const uint8_t *hash, size_t hash_len, uint64_t answer[1]);
+
+/* Writes a Response. No data says that the block isn't available. */
+uint32_t bep_write_response(uint8_t *out, size_t out_len, uint32_t id,
+                            const uint8_t *data, size_t data_len, uint64_t answer[1]);
+
+/* Writes a Ping. */
+uint32_t bep_write_ping(uint8_t *out, size_t out_len, uint32_t id, uint64_t answer[1]);
+
+/* Writes a Pong. */
+uint32_t bep_write_pong(uint8_t *out, size_t out_len, uint32_t id, uint64_t answer[1]);
+
+/*
+ * Writes an Options message. The options are an encoded array, count word first; bytes after its
+ * end don't count.
+ */
+uint32_t bep_write_options(uint8_t *out, size_t out_len, uint32_t id,
+                           const uint8_t *options, size_t options_len, uint64_t answer[1]);
+
+/*
+ * The file at a place of a FileInfo array whose reading was accepted. The array is given from its
+ * count word on, so the first file is at 4 and each next one at the place past the one before.
+ *
+ *   [0]      the place past it
+ *   [1] [2]  start and length of its name in the array
+ *   [3]      flags
+ *   [4]      modified, the 64 bits of a signed number
+ *   [5]      version
+ *   [6]      number of blocks
+ *   [7]      the place of the first block; each has 40 bytes: a word with its length, a word with
+ *            the hash's length, and the 32 bytes of the hash
+ *
+ * It checks bounds alone. Returns 0, or 1 and all zeros where the fields aren't wholly there.
+ */
+uint32_t bep_file(const uint8_t *files, size_t files_len, size_t at, uint64_t answer[8]);
+
+/*
+ * The option at a place of an array whose reading was accepted, as bep_file does for files.
+ *
+ *   [0]      the place past it
+ *   [1] [2]  start and length of its key in the array
+ *   [3] [4]  start and length of its value in the array
+ *
+ * It checks bounds alone. Returns 0, or 1 and all zeros where the fields aren't wholly there.
+ */
+uint32_t bep_option(const uint8_t *options, size_t options_len, size_t at, uint64_t answer[5]);
+
+#ifdef __cplusplus
+}
+#endif
+
+#endif

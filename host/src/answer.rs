@@ -1,0 +1,30 @@
+//! From the words of an answer to Rust's own types.
+
+use crate::Refusal;
+
+/// A place or a length. Both are bounded by the length of a slice, so they fit.
+pub(crate) fn size(word: u64) -> usize {
+    usize::try_from(word).expect("a place lies within its slice")
+}
+
+/// A field of 32 bits.
+pub(crate) fn word(word: u64) -> u32 {
+    u32::try_from(word).expect("a 32-bit field has 32 bits")
+}
+
+/// The bytes of the span with this start and length.
+pub(crate) fn span(bytes: &[u8], start: u64, len: u64) -> &[u8] {
+    &bytes[size(start)..][..size(len)]
+}
+
+/// What a writer answered: the bytes written, or the refusal with its place.
+pub(crate) fn written(number: u32, answer: [u64; 1]) -> Result<usize, Refusal> {
+    let size = size(answer[0]);
+    match number {
+        0 => Ok(size),
+        _ => Err(Refusal {
+            number,
+            place: size,
+        }),
+    }
+}

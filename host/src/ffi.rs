@@ -1,0 +1,105 @@
+//! What the static library exports. `include/fordtrumpet.h` says the same in C.
+//!
+//! A slice passes as its pointer and its length. The pointer of an empty slice must not be null; a
+//! dangling one such as Rust's own is fine. A lent buffer must not overlap any input, and an answer
+//! neither of them. Every call fills its whole answer and gives 0 when it accepts, else the number
+//! of the refusal.
+
+unsafe extern "C" {
+    /// Reads the message at the start of the input.
+    ///
+    /// Refused, `answer[0]` is the place and the rest is 0. Accepted, `answer[0]` is the number of
+    /// bytes used, `[1]` the type and `[2]` the ID; by type follow (unused ones are 0):
+    /// - Index, IndexUpdate: `[3]` and `[4]` start and length of the repository, `[5]` and `[6]` of
+    ///   the FileInfo array from its count word on, `[7]` the number of files;
+    /// - Request: `[3]` and `[4]` repository, `[5]` and `[6]` name, `[7]` offset, `[8]` length,
+    ///   `[9]` and `[10]` hash;
+    /// - Response: `[3]` and `[4]` data;
+    /// - Options: `[5]` and `[6]` the array from its count word on, `[7]` the number of options.
+    pub fn bep_read(input: *const u8, input_len: usize, answer: *mut [u64; 11]) -> u32;
+
+    /// Writes an Index. `answer[0]` of this and every writer is the number of bytes written, or the
+    /// place of the refusal.
+    pub fn bep_write_index(
+        out: *mut u8,
+        out_len: usize,
+        id: u32,
+        repository: *const u8,
+        repository_len: usize,
+        files: *const u8,
+        files_len: usize,
+        answer: *mut [u64; 1],
+    ) -> u32;
+
+    /// Writes an IndexUpdate.
+    pub fn bep_write_index_update(
+        out: *mut u8,
+        out_len: usize,
+        id: u32,
+        repository: *const u8,
+        repository_len: usize,
+        files: *const u8,
+        files_len: usize,
+        answer: *mut [u64; 1],
+    ) -> u32;
+
+    /// Writes a Request.
+    pub fn bep_write_request(
+        out: *mut u8,
+        out_len: usize,
+        id: u32,
+        repository: *const u8,
+        repository_len: usize,
+        name: *const u8,
+        name_len: usize,
+        offset: u64,
+        length: u32,
+        hash: *const u8,
+        hash_len: usize,
+        answer: *mut [u64; 1],
+    ) -> u32;
+
+    /// Writes a Response.
+    pub fn bep_write_response(
+        out: *mut u8,
+        out_len: usize,
+        id: u32,
+        data: *const u8,
+        data_len: usize,
+        answer: *mut [u64; 1],
+    ) -> u32;
+
+    /// Writes a Ping.
+    pub fn bep_write_ping(out: *mut u8, out_len: usize, id: u32, answer: *mut [u64; 1]) -> u32;
+
+    /// Writes a Pong.
+    pub fn bep_write_pong(out: *mut u8, out_len: usize, id: u32, answer: *mut [u64; 1]) -> u32;
+
+    /// Writes an Options message.
+    pub fn bep_write_options(
+        out: *mut u8,
+        out_len: usize,
+        id: u32,
+        options: *const u8,
+        options_len: usize,
+        answer: *mut [u64; 1],
+    ) -> u32;
+
+    /// The record at a place of a FileInfo array whose reading was accepted, by bounds checks alone.
+    ///
+    /// `answer[0]` is the place past it, `[1]` and `[2]` start and length of its name, `[3]` the
+    /// flags, `[4]` the 64 bits of modified, `[5]` the version, `[6]` the number of blocks and `[7]`
+    /// the place of the first. Gives 1, and zeros, where the fields aren't wholly there.
+    pub fn bep_file(files: *const u8, files_len: usize, at: usize, answer: *mut [u64; 8]) -> u32;
+
+    /// The option at a place of an array whose reading was accepted, by bounds checks alone.
+    ///
+    /// `answer[0]` is the place past it, `[1]` and `[2]` start and length of its key, `[3]` and
+    /// `[4]` of its value. Gives 1, and zeros, where the fields aren't wholly there.
+    pub fn bep_option(
+        options: *const u8,
+        options_len: usize,
+        at: usize,
+        answer: *mut [u64; 5],
+    ) -> u32;
+}

@@ -1,0 +1,59 @@
+//! Messages of the Block Exchange Protocol v1.0.
+//!
+//! The reading and the writing are done by a verified static library, `libbep.a`; this crate gives
+//! them in Rust's own terms. What the library asks of its callers, such as pointers that aren't null
+//! and buffers that don't overlap, follows here from the types.
+//!
+//! [`read`] gives a [`Message`] that borrows its fields from the input. The `write_*` functions fill
+//! the start of a lent buffer; they are given arrays encoded, as [`FilesBuilder`] and
+//! [`OptionsBuilder`] make them. What is refused comes back as a [`Refusal`] with a number and a place.
+//!
+//! Names and other strings are bytes: the protocol's text rule lets through some that aren't UTF-8.
+//!
+//! ```
+//! use fordtrumpet::{read, write_index, FilesBuilder, Flags, Message};
+//!
+//! let mut files = FilesBuilder::new();
+//! files.push(b"notes.txt", Flags(0o644), 1_700_000_000, 0, []);
+//! let mut out = [0; 100];
+//! let length = write_index(&mut out, 1, b"default", files.as_bytes())?;
+//!
+//! let read = read(&out[..length])?;
+//! assert_eq!(read.used, length);
+//! let Message::Index(index) = read.message else { panic!("not an Index") };
+//! assert_eq!(index.repository, b"default");
+//! for file in index.files {
+//!     assert_eq!(file.name, b"notes.txt");
+//!     assert_eq!(file.flags.mode(), 0o644);
+//! }
+//! # Ok::<(), fordtrumpet::Refusal>(())
+//! ```
+//!
+//! A buffer that overlaps an input is refused by the compiler:
+//!
+//! ```compile_fail,E0502
+//! let mut bytes = [0; 100];
+//! fordtrumpet::write_response(&mut bytes[..50], 0, &bytes[20..30]);
+//! ```
+
+#![deny(missing_docs)]
+
+mod answer;
+mod builders;
+mod ffi;
+mod message;
+mod records;
+mod refusal;
+mod write;
+
+pub use builders::{FilesBuilder, OptionsBuilder};
+pub use message::{read, Index, Message, Options, Ping, Pong, Read, Request, Response};
+pub use records::{
+    Block, Blocks, BlocksIter, FileInfo, Files, FilesIter, Flags, KeyValue, KeyValues,
+    KeyValuesIter,
+};
+pub use refusal::Refusal;
+pub use write::{
+    write_index, write_index_update, write_options, write_ping, write_pong, write_request,
+    write_response,
+};

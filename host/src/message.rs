@@ -1,0 +1,179 @@
+//! Reading a message, and what it holds.
+
+use crate::answer::{size, span, word};
+use crate::{ffi, Files, KeyValues, Refusal};
+
+/// Reads the message at the start of `input`.
+///
+/// The fields borrow from `input`. There is no message length on the wire, so `input` may hold more
+/// than the message: [`Read::used`] says where the next one begins, and bytes after that change no
+/// answer. A message that is cut short is refused with number 1; a host that reads from a stream can
+/// wait for more bytes and read again.
+///
+/// # Errors
+///
+/// The first check that fails, from the left: numbers 1 to 12.
+///
+/// ```
+/// use fordtrumpet::{read, Message};
+///
+/// // A Ping with the ID 7, and the first byte of the next message.
+/// let read = read(&[0, 7, 4, 0, 0]).unwrap();
+/// assert_eq!(read.used, 4);
+/// assert_eq!(read.message.id(), 7);
+/// assert!(matches!(read.message, Message::Ping(_)));
+/// ```
+pub fn read(input: &[u8]) -> Result<Read<'_>, Refusal> {
+    let mut answer = [0; 11];
+    // SAFETY: pointer and length are those of one slice, and the answer has the size asked for.
+    let number = unsafe { ffi::bep_read(input.as_ptr(), input.len(), &mut answer) };
+    if number != 0 {
+        let place = size(answer[0]);
+        return Err(Refusal { number, place });
+    }
+    let id = word(answer[2]);
+    let message = match answer[1] {
+        1 => Message::Index(index(input, id, &answer)),
+        2 => Message::Request(Request {
+            id,
+            repository: span(input, answer[3], answer[4]),
+            name: span(input, answer[5], answer[6]),
+            offset: answer[7],
+            length: word(answer[8]),
+            hash: span(input, answer[9], answer[10])
+                .try_into()
+                .expect("an accepted hash has 32 bytes"),
+        }),
+        3 => Message::Response(Response {
+            id,
+            data: span(input, answer[3], answer[4]),
+        }),
+        4 => Message::Ping(Ping { id }),
+        5 => Message::Pong(Pong { id }),
+        6 => Message::IndexUpdate(index(input, id, &answer)),
+        7 => Message::Options(Options {
+            id,
+            options: KeyValues::new(span(input, answer[5], answer[6]), size(answer[7])),
+        }),
+        kind => unreachable!("an accepted message has no type {kind}"),
+    };
+    Ok(Read {
+        message,
+        used: size(answer[0]),
+    })
+}
+
+fn index<'a>(input: &'a [u8], id: u32, answer: &[u64; 11]) -> Index<'a> {
+    Index {
+        id,
+        repository: span(input, answer[3], answer[4]),
+        files: Files::new(span(input, answer[5], answer[6]), size(answer[7])),
+    }
+}
+
+/// A message and the number of bytes it was read from.
+#[derive(Clone, Copy, Debug)]
+pub struct Read<'a> {
+    /// The message.
+    pub message: Message<'a>,
+    /// The number of bytes the message occupies. Later bytes belong to the next message.
+    pub used: usize,
+}
+
+/// A message of one of the seven types.
+#[derive(Clone, Copy, Debug)]
+pub enum Message<'a> {
+    /// The whole contents of the sender's repository.
+    Index(Index<'a>),
+    /// A block is asked for.
+    Request(Request<'a>),
+    /// The answer to a Request.
+    Response(Response<'a>),
+    /// Asks whether the connection is alive.
+    Ping(Ping),
+    /// The answer to a Ping.
+    Pong(Pong),
+    /// New and changed files of the sender's repository.
+    IndexUpdate(Index<'a>),
+    /// Facts about the sender as pairs of key and value.
+    Options(Options<'a>),
+}
+
+impl Message<'_> {
+    /// The Message ID, from 0 to 4095.
+    ///
+    /// ```
+    /// let read = fordtrumpet::read(&[0x0F, 0xFF, 5, 0]).unwrap();
+    /// assert_eq!(read.message.id(), 4095);
+    /// ```
+    pub fn id(&self) -> u32 {
+        match self {
+            Message::Index(message) | Message::IndexUpdate(message) => message.id,
+            Message::Request(message) => message.id,
+            Message::Response(message) => message.id,
+            Message::Ping(message) => message.id,
+            Message::Pong(message) => message.id,
+            Message::Options(message) => message.id,
+        }
+    }
+}
+
+/// An Index or an IndexUpdate; both have the same fields.
+#[derive(Clone, Copy, Debug)]
+pub struct Index<'a> {
+    /// The Message ID.
+    pub id: u32,
+    /// The repository's name, up to 64 bytes. The protocol's text rule is wider than UTF-8.
+    pub repository: &'a [u8],
+    /// The files, in the order they were sent in.
+    pub files: Files<'a>,
+}
+
+/// A Request for one block.
+#[derive(Clone, Copy, Debug)]
+pub struct Request<'a> {
+    /// The Message ID.
+    pub id: u32,
+    /// The repository's name, up to 64 bytes.
+    pub repository: &'a [u8],
+    /// The file's name, 1 to 255 bytes.
+    pub name: &'a [u8],
+    /// Where the block starts in the file.
+    pub offset: u64,
+    /// The block's length, 1 to 131,072.
+    pub length: u32,
+    /// The hash the block should have.
+    pub hash: &'a [u8; 32],
+}
+
+/// A Response to a Request.
+#[derive(Clone, Copy, Debug)]
+pub struct Response<'a> {
+    /// The ID of the Request it answers.
+    pub id: u32,
+    /// The block, up to 131,072 bytes; empty if it isn't available.
+    pub data: &'a [u8],
+}
+
+/// A Ping.
+#[derive(Clone, Copy, Debug)]
+pub struct Ping {
+    /// The Message ID.
+    pub id: u32,
+}
+
+/// A Pong.
+#[derive(Clone, Copy, Debug)]
+pub struct Pong {
+    /// The ID of the Ping it answers.
+    pub id: u32,
+}
+
+/// An Options message.
+#[derive(Clone, Copy, Debug)]
+pub struct Options<'a> {
+    /// The Message ID.
+    pub id: u32,
+    /// The options, in the order they were sent in.
+    pub options: KeyValues<'a>,
+}

@@ -1,0 +1,252 @@
+//! The seven writers.
+//!
+//! Each checks the ID, then the fields as reading the written message would, then the room.
+
+use crate::answer::written;
+use crate::{ffi, Refusal};
+
+/// Writes an Index message into `out` and gives its length.
+///
+/// `files` is an encoded FileInfo array, such as [`FilesBuilder`](crate::FilesBuilder) makes or
+/// [`Files::as_bytes`](crate::Files::as_bytes) gives; bytes after its end don't count. Only the
+/// bytes of the message change in `out`.
+///
+/// # Errors
+///
+/// 5 at 0 for an ID above 4095; then what reading the message would give, with its place there; then
+/// 14 if `out` is too short. Nothing is written then.
+///
+/// ```
+/// use fordtrumpet::{write_index, FilesBuilder, Flags};
+///
+/// let mut files = FilesBuilder::new();
+/// files.push(b"notes.txt", Flags(0o644), 1_700_000_000, 0, []);
+/// let mut out = [0; 100];
+/// let length = write_index(&mut out, 0, b"default", files.as_bytes())?;
+/// assert_eq!(length, 56);
+/// # Ok::<(), fordtrumpet::Refusal>(())
+/// ```
+pub fn write_index(
+    out: &mut [u8],
+    id: u32,
+    repository: &[u8],
+    files: &[u8],
+) -> Result<usize, Refusal> {
+    let mut answer = [0];
+    // SAFETY: each pointer and length are those of one slice, `out` is borrowed for this call alone,
+    // and the answer has the size asked for. The same holds for the other writers.
+    let number = unsafe {
+        ffi::bep_write_index(
+            out.as_mut_ptr(),
+            out.len(),
+            id,
+            repository.as_ptr(),
+            repository.len(),
+            files.as_ptr(),
+            files.len(),
+            &mut answer,
+        )
+    };
+    written(number, answer)
+}
+
+/// Writes an IndexUpdate message into `out` and gives its length.
+///
+/// Fields and answers are those of [`write_index`].
+///
+/// # Errors
+///
+/// As in [`write_index`].
+///
+/// ```
+/// use fordtrumpet::{write_index_update, FilesBuilder, Flags};
+///
+/// let mut files = FilesBuilder::new();
+/// files.push(b"notes.txt", Flags(Flags::DELETED), 1_700_000_000, 1, []);
+/// let mut out = [0; 100];
+/// let length = write_index_update(&mut out, 1, b"default", files.as_bytes())?;
+/// assert_eq!(length, 56);
+/// # Ok::<(), fordtrumpet::Refusal>(())
+/// ```
+pub fn write_index_update(
+    out: &mut [u8],
+    id: u32,
+    repository: &[u8],
+    files: &[u8],
+) -> Result<usize, Refusal> {
+    let mut answer = [0];
+    // SAFETY: as in `write_index`.
+    let number = unsafe {
+        ffi::bep_write_index_update(
+            out.as_mut_ptr(),
+            out.len(),
+            id,
+            repository.as_ptr(),
+            repository.len(),
+            files.as_ptr(),
+            files.len(),
+            &mut answer,
+        )
+    };
+    written(number, answer)
+}
+
+/// Writes a Request message into `out` and gives its length.
+///
+/// The longest has 380 bytes. Only the bytes of the message change in `out`.
+///
+/// # Errors
+///
+/// 5 at 0 for an ID above 4095; then what reading the message would give, with its place there (9
+/// for a hash that hasn't 32 bytes); then 14 if `out` is too short. Nothing is written then.
+///
+/// ```
+/// use fordtrumpet::write_request;
+///
+/// let mut out = [0; 380];
+/// let length = write_request(&mut out, 7, b"default", b"notes.txt", 0, 5, &[0xAB; 32])?;
+/// assert_eq!(length, 80);
+///
+/// let refusal = write_request(&mut out, 7, b"default", b"", 0, 5, &[0xAB; 32]).unwrap_err();
+/// assert_eq!((refusal.number, refusal.place), (8, 16));
+/// # Ok::<(), fordtrumpet::Refusal>(())
+/// ```
+pub fn write_request(
+    out: &mut [u8],
+    id: u32,
+    repository: &[u8],
+    name: &[u8],
+    offset: u64,
+    length: u32,
+    hash: &[u8],
+) -> Result<usize, Refusal> {
+    let mut answer = [0];
+    // SAFETY: as in `write_index`.
+    let number = unsafe {
+        ffi::bep_write_request(
+            out.as_mut_ptr(),
+            out.len(),
+            id,
+            repository.as_ptr(),
+            repository.len(),
+            name.as_ptr(),
+            name.len(),
+            offset,
+            length,
+            hash.as_ptr(),
+            hash.len(),
+            &mut answer,
+        )
+    };
+    written(number, answer)
+}
+
+/// Writes a Response message into `out` and gives its length.
+///
+/// Empty data say that the block isn't available. The longest message has 131,080 bytes. Only the
+/// bytes of the message change in `out`.
+///
+/// # Errors
+///
+/// 5 at 0 for an ID above 4095; 5 at 4 for more than 131,072 bytes of data; then 14 if `out` is too
+/// short. Nothing is written then.
+///
+/// ```
+/// use fordtrumpet::write_response;
+///
+/// let mut out = [0xFF; 17];
+/// let length = write_response(&mut out, 7, b"hello")?;
+/// assert_eq!(length, 16);
+/// // The pad is zero, and what lies after the message is as it was.
+/// assert_eq!(out[8..], *b"hello\0\0\0\xFF");
+/// # Ok::<(), fordtrumpet::Refusal>(())
+/// ```
+pub fn write_response(out: &mut [u8], id: u32, data: &[u8]) -> Result<usize, Refusal> {
+    let mut answer = [0];
+    // SAFETY: as in `write_index`.
+    let number = unsafe {
+        ffi::bep_write_response(
+            out.as_mut_ptr(),
+            out.len(),
+            id,
+            data.as_ptr(),
+            data.len(),
+            &mut answer,
+        )
+    };
+    written(number, answer)
+}
+
+/// Writes a Ping message into `out` and gives its length, which is 4.
+///
+/// # Errors
+///
+/// 5 at 0 for an ID above 4095, then 14 if `out` is too short. Nothing is written then.
+///
+/// ```
+/// let mut out = [0; 4];
+/// fordtrumpet::write_ping(&mut out, 5)?;
+/// assert_eq!(out, [0, 5, 4, 0]);
+/// # Ok::<(), fordtrumpet::Refusal>(())
+/// ```
+pub fn write_ping(out: &mut [u8], id: u32) -> Result<usize, Refusal> {
+    let mut answer = [0];
+    // SAFETY: as in `write_index`.
+    let number = unsafe { ffi::bep_write_ping(out.as_mut_ptr(), out.len(), id, &mut answer) };
+    written(number, answer)
+}
+
+/// Writes a Pong message into `out` and gives its length, which is 4.
+///
+/// # Errors
+///
+/// 5 at 0 for an ID above 4095, then 14 if `out` is too short. Nothing is written then.
+///
+/// ```
+/// let mut out = [0; 4];
+/// fordtrumpet::write_pong(&mut out, 4095)?;
+/// assert_eq!(out, [0x0F, 0xFF, 5, 0]);
+/// # Ok::<(), fordtrumpet::Refusal>(())
+/// ```
+pub fn write_pong(out: &mut [u8], id: u32) -> Result<usize, Refusal> {
+    let mut answer = [0];
+    // SAFETY: as in `write_index`.
+    let number = unsafe { ffi::bep_write_pong(out.as_mut_ptr(), out.len(), id, &mut answer) };
+    written(number, answer)
+}
+
+/// Writes an Options message into `out` and gives its length.
+///
+/// `options` is an encoded array, such as [`OptionsBuilder`](crate::OptionsBuilder) makes; bytes
+/// after its end don't count. Only the bytes of the message change in `out`.
+///
+/// # Errors
+///
+/// 5 at 0 for an ID above 4095; then what reading the message would give, with its place there; then
+/// 14 if `out` is too short. Nothing is written then.
+///
+/// ```
+/// use fordtrumpet::{write_options, OptionsBuilder};
+///
+/// let mut options = OptionsBuilder::new();
+/// options.push(b"clientId", b"fordtrumpet");
+/// let mut out = [0; 100];
+/// let length = write_options(&mut out, 0, options.as_bytes())?;
+/// assert_eq!(length, 36);
+/// # Ok::<(), fordtrumpet::Refusal>(())
+/// ```
+pub fn write_options(out: &mut [u8], id: u32, options: &[u8]) -> Result<usize, Refusal> {
+    let mut answer = [0];
+    // SAFETY: as in `write_index`.
+    let number = unsafe {
+        ffi::bep_write_options(
+            out.as_mut_ptr(),
+            out.len(),
+            id,
+            options.as_ptr(),
+            options.len(),
+            &mut answer,
+        )
+    };
+    written(number, answer)
+}

@@ -1,0 +1,402 @@
+//! The library against the reference, over messages made from fixed seeds.
+//!
+//! `SOAK=N` compares N inputs instead of the usual number; `SOAK_FROM=M` starts with input number M,
+//! so that an input named in a failure can be run alone.
+
+mod reference;
+mod support;
+
+use std::env;
+use std::io::Write;
+use support::compare::{same, same_bytes, short, Comparison};
+use support::damage;
+use support::draft::{Body, Draft};
+use support::encode::{Block, Encoding, File};
+use support::generate;
+use support::library::{Library, LIBRARY};
+use support::random::Random;
+
+const INPUTS: u64 = 200_000;
+const SEED: u64 = 0xF04D_7E57_0000_0000;
+
+/// Input number `number`: a draft to write, whole or damaged, and a message to read made from it.
+fn compare_input(comparison: &mut Comparison, number: u64) -> Result<(), String> {
+    let mut random = Random::new(SEED ^ number.wrapping_mul(0xD134_2543_DE82_EF95));
+    let mut draft = generate::draft(&mut random);
+    if random.once_in(2) {
+        damage::draft(&mut draft, &mut random);
+    }
+    comparison
+        .write(&draft, &mut random)
+        .map_err(|difference| {
+            let draft = short(&format!("{draft:?}"));
+            format!("input {number}, writing {draft}\n{difference}")
+        })?;
+    let mut message = draft.encode();
+    if !random.once_in(4) {
+        damage::encoding(&mut message, &mut random);
+    }
+    // The input lies at any place in memory, and zeros after its end could pass for a pad.
+    let start = random.below(8);
+    let mut memory = vec![0xFF; start];
+    memory.extend_from_slice(&message.bytes);
+    memory.extend_from_slice(&[0; 40]);
+    let input = &memory[start..start + message.bytes.len()];
+    comparison.read(draft.kind(), input).map_err(|difference| {
+        let hex = short(&hex(input));
+        format!("input {number}, reading {hex}\n{difference}")
+    })
+}
+
+fn hex(bytes: &[u8]) -> String {
+    bytes.iter().map(|byte| format!("{byte:02x}")).collect()
+}
+
+/// Says something even when the test passes.
+fn say(text: &str) {
+    let _ = writeln!(std::io::stderr(), "{text}");
+}
+
+fn setting(name: &str) -> Option<u64> {
+    let value = env::var(name).ok()?;
+    Some(
+        value
+            .parse()
+            .unwrap_or_else(|_| panic!("{name} isn't a number: {value}")),
+    )
+}
+
+#[test]
+fn generated_messages_get_the_same_answers() {
+    let from = setting("SOAK_FROM").unwrap_or(0);
+    let inputs = setting("SOAK").unwrap_or(INPUTS);
+    let mut comparison = Comparison::new(LIBRARY);
+    for number in from..from + inputs {
+        if let Err(difference) = compare_input(&mut comparison, number) {
+            panic!("{difference}");
+        }
+    }
+    say(&format!(
+        "{inputs} inputs from number {from} on: {} calls compared, no difference",
+        comparison.calls
+    ));
+    if inputs >= INPUTS {
+        every_number_was_met(&comparison);
+    }
+}
+
+/// A run that meets a refusal too seldom says little about it.
+fn every_number_was_met(comparison: &Comparison) {
+    let index = [1, 5, 6, 7, 8, 9, 10, 11, 12];
+    let read: [(u32, &[u32]); 7] = [
+        (1, &index),
+        (2, &[1, 5, 6, 7, 8, 9, 10]),
+        (3, &[1, 5, 6]),
+        (4, &[1]),
+        (5, &[1]),
+        (6, &index),
+        (7, &[1, 5, 6, 7]),
+    ];
+    let write: [(u32, &[u32]); 7] = [
+        (1, &index),
+        (2, &[5, 7, 8, 9, 10]),
+        (3, &[5]),
+        (4, &[5]),
+        (5, &[5]),
+        (6, &index),
+        (7, &[1, 5, 6, 7]),
+    ];
+    for (call, common, table) in [
+        ("read", &[0, 2, 3, 4][..], read),
+        ("write", &[0, 14], write),
+    ] {
+        for (kind, numbers) in table {
+            for &number in common.iter().chain(numbers) {
+                let times = comparison.seen.get(&(call, kind, number)).copied();
+                assert!(
+                    times >= Some(20),
+                    "{call} of type {kind} met {number} {times:?} times"
+                );
+            }
+        }
+    }
+}
+
+/// A short message of each type with every kind of field in it.
+fn short_messages() -> Vec<Draft> {
+    let block = |length| Block {
+        length,
+        hash: [0x20; 32],
+    };
+    let file = |name: &[u8], flags, blocks| File {
+        name: name.to_vec(),
+        flags,
+        modified: -5,
+        version: 3,
+        blocks,
+    };
+    let mut files = Encoding::new();
+    files.files(&[
+        file("bé".as_bytes(), 0o644, vec![block(1), block(131_072)]),
+        file(b"a", 0x3000, vec![]),
+    ]);
+    let mut options = Encoding::new();
+    options.options(&[
+        (b"clientId".to_vec(), b"x".to_vec()),
+        ("ключ".as_bytes().to_vec(), vec![]),
+    ]);
+    let bodies = [
+        Body::Index {
+            update: false,
+            repository: b"r".to_vec(),
+            files: files.clone(),
+        },
+        Body::Index {
+            update: true,
+            repository: vec![],
+            files,
+        },
+        Body::Request {
+            repository: b"re".to_vec(),
+            name: b"\xE2\x82\xAC\xF0\x9F\x98\x80".to_vec(),
+            offset: 131_072,
+            length: 5,
+            hash: vec![0x20; 32],
+        },
+        Body::Response {
+            data: b"12345".to_vec(),
+        },
+        Body::Ping,
+        Body::Pong,
+        Body::Options { options },
+    ];
+    bodies.map(|body| Draft { id: 0x0ABC, body }).to_vec()
+}
+
+#[test]
+fn every_cut_and_every_byte_gets_the_same_answer() {
+    let mut comparison = Comparison::new(LIBRARY);
+    for draft in short_messages() {
+        let kind = draft.kind();
+        let whole = draft.encode().bytes;
+        for len in 0..=whole.len() {
+            comparison.read(kind, &whole[..len]).unwrap();
+        }
+        let mut bytes = whole.clone();
+        for at in 0..whole.len() {
+            for value in 0..=255 {
+                bytes[at] = value;
+                comparison.read(kind, &bytes).unwrap();
+            }
+            bytes[at] = whole[at];
+        }
+        for at in (0..whole.len()).step_by(4) {
+            let word = u32::from_be_bytes(whole[at..at + 4].try_into().unwrap());
+            for other in [
+                word.wrapping_add(1),
+                word.wrapping_sub(1),
+                1 << 31,
+                u32::MAX,
+            ] {
+                bytes[at..at + 4].copy_from_slice(&other.to_be_bytes());
+                comparison.read(kind, &bytes).unwrap();
+            }
+            bytes[at..at + 4].copy_from_slice(&whole[at..at + 4]);
+        }
+    }
+    say(&format!(
+        "cuts and bytes: {} calls compared, no difference",
+        comparison.calls
+    ));
+}
+
+#[test]
+fn arrays_damaged_anywhere_are_written_alike() {
+    let mut comparison = Comparison::new(LIBRARY);
+    let mut random = Random::new(SEED);
+    for mut draft in short_messages() {
+        let (Body::Index { files: array, .. } | Body::Options { options: array }) = &draft.body
+        else {
+            continue;
+        };
+        let whole = array.clone();
+        let room = draft.encode().bytes.len() + 4;
+        let mut compare = |bytes: &[u8]| {
+            let (Body::Index { files: array, .. } | Body::Options { options: array }) =
+                &mut draft.body
+            else {
+                unreachable!()
+            };
+            array.bytes = bytes.to_vec();
+            comparison.write_into(&draft, room, &mut random).unwrap();
+        };
+        for len in 0..=whole.bytes.len() {
+            compare(&whole.bytes[..len]);
+        }
+        let mut bytes = whole.bytes.clone();
+        bytes.extend_from_slice(b"after");
+        compare(&bytes);
+        for at in 0..whole.bytes.len() {
+            for value in [0, 1, 0x1F, 0x21, 0x40, 0x7F, 0x80, 0xC0, 0xFF] {
+                bytes[at] = value;
+                compare(&bytes);
+            }
+            bytes[at] = whole.bytes[at];
+        }
+    }
+    say(&format!(
+        "damaged arrays: {} calls compared, no difference",
+        comparison.calls
+    ));
+}
+
+#[test]
+fn every_room_gets_the_same_answer() {
+    let mut comparison = Comparison::new(LIBRARY);
+    let mut random = Random::new(SEED + 1);
+    for draft in short_messages() {
+        for room in 0..draft.encode().bytes.len() + 5 {
+            comparison.write_into(&draft, room, &mut random).unwrap();
+        }
+    }
+}
+
+#[test]
+fn records_at_any_place_are_the_same() {
+    let mut comparison = Comparison::new(LIBRARY);
+    for draft in short_messages() {
+        let (Body::Index { files: array, .. } | Body::Options { options: array }) = &draft.body
+        else {
+            continue;
+        };
+        for at in (0..array.bytes.len() + 9).chain([usize::MAX - 4, usize::MAX]) {
+            comparison.file(&array.bytes, at).unwrap();
+            comparison.option(&array.bytes, at).unwrap();
+        }
+    }
+}
+
+/// Compares a library with a fault until that is found.
+fn is_found(library: Library) -> bool {
+    let mut comparison = Comparison::new(library);
+    (0..20_000).any(|number| compare_input(&mut comparison, number).is_err())
+}
+
+#[test]
+fn a_difference_is_found() {
+    // In any word of an answer.
+    let answer = (LIBRARY.read)(&[0, 1, 1, 0, 0, 0, 0, 0, 0, 0, 0, 0]);
+    assert!(same("number", &(1, answer.1), &answer).is_err());
+    for at in 0..11 {
+        let mut altered = answer;
+        altered.1[at] ^= 1;
+        assert!(same("word", &altered, &answer).is_err());
+    }
+    assert!(same("nothing", &answer, &answer).is_ok());
+
+    // In any byte of a buffer.
+    let buffer = [5; 40];
+    for at in 0..buffer.len() {
+        let mut altered = buffer;
+        altered[at] ^= 0x80;
+        assert!(same_bytes("byte", &altered, &buffer).is_err());
+    }
+    assert!(same_bytes("length", &buffer[1..], &buffer).is_err());
+    assert!(same_bytes("nothing", &buffer, &buffer).is_ok());
+
+    // By the generated inputs, in each call.
+    assert!(is_found(Library {
+        // The place of a deleted file with blocks is that of its flags.
+        read: |input| match (LIBRARY.read)(input) {
+            (12, mut answer) => {
+                answer[0] -= 16;
+                (12, answer)
+            }
+            answer => answer,
+        },
+        ..LIBRARY
+    }));
+    assert!(is_found(Library {
+        // The text rule is that of UTF-8.
+        read: |input| match (LIBRARY.read)(input) {
+            (0, answer) if answer[1] == 1 => {
+                let repository = &input[answer[3] as usize..][..answer[4] as usize];
+                match std::str::from_utf8(repository) {
+                    Ok(_) => (0, answer),
+                    Err(_) => (7, [4, 0, 0, 0, 0, 0, 0, 0, 0, 0, 0]),
+                }
+            }
+            answer => answer,
+        },
+        ..LIBRARY
+    }));
+    assert!(is_found(Library {
+        // Bytes after the message count.
+        read: |input| match (LIBRARY.read)(input) {
+            (0, answer) if answer[0] != input.len() as u64 => (1, [0; 11]),
+            answer => answer,
+        },
+        ..LIBRARY
+    }));
+    assert!(is_found(Library {
+        // The safe side loses the lowest bit of offsets.
+        read_safely: |input| match (LIBRARY.read_safely)(input) {
+            (0, mut answer) if answer[1] == 2 => {
+                answer[7] &= !1;
+                (0, answer)
+            }
+            answer => answer,
+        },
+        ..LIBRARY
+    }));
+    assert!(is_found(Library {
+        // A byte after the message changes.
+        write: |draft, out| {
+            let answer = (LIBRARY.write)(draft, out);
+            if let (0, [len]) = answer {
+                if let Some(byte) = out.get_mut(len as usize) {
+                    *byte ^= 1;
+                }
+            }
+            answer
+        },
+        ..LIBRARY
+    }));
+    assert!(is_found(Library {
+        // A refused call has begun to write.
+        write: |draft, out| {
+            let answer = (LIBRARY.write)(draft, out);
+            if let (14, Some(byte)) = (answer.0, out.first_mut()) {
+                *byte ^= 1;
+            }
+            answer
+        },
+        ..LIBRARY
+    }));
+    assert!(is_found(Library {
+        // The room is looked at before the fields.
+        write: |draft, out| match (LIBRARY.write)(draft, out) {
+            (1..=13, _) if out.is_empty() => (14, [0]),
+            answer => answer,
+        },
+        ..LIBRARY
+    }));
+    assert!(is_found(Library {
+        // Modified loses its sign.
+        file: |array, at| {
+            let (number, mut answer) = (LIBRARY.file)(array, at);
+            answer[4] &= i64::MAX as u64;
+            (number, answer)
+        },
+        ..LIBRARY
+    }));
+    assert!(is_found(Library {
+        // The place past an option leaves out the pad.
+        option: |array, at| {
+            let (number, mut answer) = (LIBRARY.option)(array, at);
+            answer[0] = answer[3] + answer[4];
+            (number, answer)
+        },
+        ..LIBRARY
+    }));
+}

@@ -1,0 +1,74 @@
+//! A second implementation of the messages, in plain Rust, for tests and benchmarks only.
+//!
+//! It shares no code with the library or its wrapper. Tests compare the two answer by answer and
+//! benchmarks compare their speed.
+
+// Each test program uses its own part of this module.
+#![allow(dead_code)]
+
+mod fields;
+mod read;
+mod records;
+mod write;
+
+pub use read::{read, Body, Message};
+pub use records::{file_at, option_at, File, KeyValue};
+pub use write::{
+    write_index, write_index_update, write_options, write_ping, write_pong, write_request,
+    write_response,
+};
+
+/// Why an input is refused and where the field at fault begins.
+#[derive(Clone, Copy, Debug, PartialEq, Eq)]
+pub struct Refusal {
+    pub number: u32,
+    pub place: usize,
+}
+
+impl Refusal {
+    fn new(number: u32, place: usize) -> Self {
+        Refusal { number, place }
+    }
+}
+
+/// A run of bytes of the input: where it starts and how long it is.
+#[derive(Clone, Copy, Debug, PartialEq, Eq)]
+pub struct Span {
+    pub start: usize,
+    pub len: usize,
+}
+
+impl Span {
+    /// The bytes of the span in the input it was read from.
+    pub fn of(self, input: &[u8]) -> &[u8] {
+        &input[self.start..self.start + self.len]
+    }
+}
+
+pub const MAX_ID: u32 = 4095;
+pub const MAX_REPOSITORY: u32 = 64;
+pub const MAX_NAME: u32 = 255;
+pub const MAX_KEY: u32 = 64;
+pub const MAX_VALUE: u32 = 255;
+pub const MAX_FILES: u32 = 512;
+pub const MAX_BLOCKS: u32 = 1024;
+pub const MAX_OPTIONS: u32 = 64;
+pub const MAX_DATA: u32 = 131_072;
+pub const MAX_LENGTH: u32 = 131_072;
+pub const HASH_LEN: u32 = 32;
+
+/// Bytes of one block: its Length word, the hash's length word and the hash.
+pub const BLOCK_LEN: usize = 40;
+
+/// The flag of a deleted file.
+pub const DELETED: u32 = 4096;
+/// The flags that must be zero.
+pub const RESERVED_FLAGS: u32 = 0xFFFF_C000;
+
+pub const INDEX: u32 = 1;
+pub const REQUEST: u32 = 2;
+pub const RESPONSE: u32 = 3;
+pub const PING: u32 = 4;
+pub const PONG: u32 = 5;
+pub const INDEX_UPDATE: u32 = 6;
+pub const OPTIONS: u32 = 7;

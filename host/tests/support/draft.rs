@@ -1,0 +1,141 @@
+//! A message to be written: the fields as a writer is given them, right or wrong.
+
+use super::encode::Encoding;
+use crate::reference;
+
+/// The fields of a message, with its arrays encoded.
+#[derive(Clone, Debug)]
+pub struct Draft {
+    pub id: u32,
+    pub body: Body,
+}
+
+#[derive(Clone, Debug)]
+pub enum Body {
+    Index {
+        update: bool,
+        repository: Vec<u8>,
+        files: Encoding,
+    },
+    Request {
+        repository: Vec<u8>,
+        name: Vec<u8>,
+        offset: u64,
+        length: u32,
+        hash: Vec<u8>,
+    },
+    Response {
+        data: Vec<u8>,
+    },
+    Ping,
+    Pong,
+    Options {
+        options: Encoding,
+    },
+}
+
+impl Draft {
+    /// The type of the message.
+    pub fn kind(&self) -> u32 {
+        match self.body {
+            Body::Index { update: false, .. } => 1,
+            Body::Request { .. } => 2,
+            Body::Response { .. } => 3,
+            Body::Ping => 4,
+            Body::Pong => 5,
+            Body::Index { update: true, .. } => 6,
+            Body::Options { .. } => 7,
+        }
+    }
+
+    /// The message that the fields make, put together without any check.
+    pub fn encode(&self) -> Encoding {
+        let mut encoding = Encoding::new();
+        encoding.header(self.kind(), self.id);
+        match &self.body {
+            Body::Index {
+                repository, files, ..
+            } => {
+                encoding.string(repository, 64).append(files);
+            }
+            Body::Request {
+                repository,
+                name,
+                offset,
+                length,
+                hash,
+            } => {
+                encoding
+                    .string(repository, 64)
+                    .string(name, 255)
+                    .offset(*offset)
+                    .block_length(*length)
+                    .hash(hash);
+            }
+            Body::Response { data } => {
+                encoding.data(data, 131_072);
+            }
+            Body::Ping | Body::Pong => {}
+            Body::Options { options } => {
+                encoding.append(options);
+            }
+        }
+        encoding
+    }
+
+    /// Writes it with the reference.
+    pub fn write_with_reference(&self, out: &mut [u8]) -> Result<usize, reference::Refusal> {
+        match &self.body {
+            Body::Index {
+                update,
+                repository,
+                files,
+            } => {
+                let write = match update {
+                    false => reference::write_index,
+                    true => reference::write_index_update,
+                };
+                write(out, self.id, repository, &files.bytes)
+            }
+            Body::Request {
+                repository,
+                name,
+                offset,
+                length,
+                hash,
+            } => reference::write_request(out, self.id, repository, name, *offset, *length, hash),
+            Body::Response { data } => reference::write_response(out, self.id, data),
+            Body::Ping => reference::write_ping(out, self.id),
+            Body::Pong => reference::write_pong(out, self.id),
+            Body::Options { options } => reference::write_options(out, self.id, &options.bytes),
+        }
+    }
+
+    /// Writes it with the library, by way of the safe functions.
+    pub fn write_with_library(&self, out: &mut [u8]) -> Result<usize, fordtrumpet::Refusal> {
+        match &self.body {
+            Body::Index {
+                update,
+                repository,
+                files,
+            } => {
+                let write = match update {
+                    false => fordtrumpet::write_index,
+                    true => fordtrumpet::write_index_update,
+                };
+                write(out, self.id, repository, &files.bytes)
+            }
+            Body::Request {
+                repository,
+                name,
+                offset,
+                length,
+                hash,
+            } => fordtrumpet::write_request(out, self.id, repository, name, *offset, *length, hash),
+            Body::Response { data } => fordtrumpet::write_response(out, self.id, data),
+            Body::Ping => fordtrumpet::write_ping(out, self.id),
+            Body::Pong => fordtrumpet::write_pong(out, self.id),
+            Body::Options { options } => fordtrumpet::write_options(out, self.id, &options.bytes),
+        }
+    }
+}

@@ -1,0 +1,12 @@
+//! What the tests and benchmarks share.
+
+// Each test program uses its own part of this module.
+#![allow(dead_code)]
+
+pub mod compare;
+pub mod damage;
+pub mod draft;
+pub mod encode;
+pub mod generate;
+pub mod library;
+pub mod random;
