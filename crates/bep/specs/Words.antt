@@ -1,9 +1,9 @@
 -- The number that each call returns, and the words of its answer. A message's words are its end, its type, its ID and then its fields,
--- a span by its start and its length; a refusal's are the place and zeros.
+-- a span by its start and its length; those of a message that is refused are the place and zeros. A record or an option that is not there
+-- gives the number 1 and zeros.
 use Prim.Native.Nat.{ℕ, _-_}
 use mathlib.Core.List.{List, [], _∷_}
 use lib.ListN.{replicate}
-use Rattle.message.specs.declared.answer.Span.{Span}
 use Rattle.message.specs.declared.answer.IndexSpan.{IndexSpan}
 use Rattle.message.specs.declared.answer.RequestSpan.{RequestSpan}
 use Rattle.message.specs.declared.answer.ResponseSpan.{ResponseSpan}
@@ -62,7 +62,7 @@ readNumber (M.IndexUpdate id x) = 0
 readNumber (M.Options id x) = 0
 readNumber (M.Refused r) = r .number
 
--- a file: the place past it, its name's start and length, Flags, Modified, Version, the number of its blocks and the place of the first
+-- a file: the place past it, its name's start and length, Flags, the 64 bits of Modified, Version, the number of its blocks and the place of the first
 abbrev pub fieldWords : Fields → List ℕ
 fieldWords f = f .past ∷ f .name ∷ (f .stop - f .name) ∷ f .flags ∷ f .modified ∷ f .version ∷ f .blocks ∷ f .first ∷ []
 

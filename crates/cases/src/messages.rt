@@ -218,7 +218,7 @@ fn cut_into(files: &[u8], n: usize) {
     }
 }
 
-pub fn writers() {
+fn bare_writers() {
     write_ping(8, 0);
     write_ping(8, 4095);
     write_ping(8, 4096);
@@ -226,30 +226,55 @@ pub fn writers() {
     write_ping(3, 1);
     write_ping(0, 4096);
     write_pong(8, 2);
+}
+
+fn index_writers() {
     let one =
         b"\x00\x00\x00\x01\x00\x00\x00\x01b\x00\x00\x00\x00\x00\x01\xa4\x00\x00\x00\x00\x00\x00\x00\x09\x00\x00\x00\x02\x00\x00\x00\x00and more";
     write_index(160, b"r", one);
     write_index(44, b"r", one);
     write_index(43, b"r", one);
     write_update(b"", one);
+}
+
+fn repository_writers() {
     let long = [0x61u8; 65];
     write_index(160, &long[..64], b"\x00\x00\x00\x00");
     write_index(160, &long, b"\x00\x00\x00\x00");
     write_index(160, b"\x80", b"\x00\x00\x00\x00");
     write_index(160, b"r", b"");
+}
+
+fn request_writers() {
     let hash = [0xabu8; 33];
     write_request(80, b"n", 5, &hash[..32]);
     write_request(80, b"n", 5, &hash[..31]);
     write_request(80, b"n", 5, &hash);
-    write_request(80, b"", 5, &hash[..32]);
-    write_request(80, b"n", 0, &hash[..32]);
-    write_request(80, b"n", 131073, &hash[..32]);
     write_request(67, b"n", 5, &hash[..32]);
+}
+
+fn request_fields() {
+    let hash = [0xabu8; 32];
+    write_request(80, b"", 5, &hash);
+    write_request(80, b"n", 0, &hash);
+    write_request(80, b"n", 131073, &hash);
+}
+
+fn other_writers() {
     write_response(b"");
     write_response(b"abcde");
     write_response(b"abcdefghijklm");
     write_options(b"\x00\x00\x00\x00");
     write_options(b"\x00\x00\x00\x01\x00\x00\x00\x01k\x00\x00\x00\x00\x00\x00\x02vv\x00\x00");
     write_options(b"\x00\x00\x00\x41");
+}
+
+pub fn writers() {
+    bare_writers();
+    index_writers();
+    repository_writers();
+    request_writers();
+    request_fields();
+    other_writers();
     array_cuts();
 }

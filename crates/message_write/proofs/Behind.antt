@@ -1,20 +1,18 @@
 -- A body behind its header, of which a check needs to know only that it has four bytes.
-use Prim.Native.Nat.{ℕ, suc, _+_, _≤_}
-use mathlib.Core.List.{List, [], _∷_, _++_}
-use mathlib.Core.Path.{_≡_, refl, sym, ap, _∙_}
-use mathlib.Core.Bool.{Bool}
+use Prim.Native.Nat.{ℕ, _+_, _≤_}
+use mathlib.Core.List.{List, _∷_, _++_}
+use mathlib.Core.Path.{_≡_, sym, ap, _∙_}
 use native.Mathlib.Omega.{arith}
 use borrow.Author.Tests.{leb-true}
 use lib.ListN.{length, drop}
 use lib.Seq.{drop-at}
-use lib.Dec.{leb}
 use Rattle.xdr.specs.Reading.{Reading, taken, refused, shifted}
 use Rattle.xdr.specs.Pad.{padded}
-use Rattle.xdr.specs.Format.{Format, bytes, checked, encode, readAt}
+use Rattle.xdr.specs.Format.{Format, bytes, encode, readAt}
 use Rattle.xdr.specs.Fields.{word, upTo}
 use Rattle.xdr.proofs.EncodedSize.{number-size, bytes-size}
 use Rattle.xdr.proofs.Steps.{Reads, part-read, refused-within}
-use Rattle.xdr.proofs.Told.{Wide, encoded-at, told-same}
+use Rattle.xdr.proofs.Told.{told-same}
 use Rattle.message_write.specs.Writing.{fittedAnswer, bodyFitted}
 
 abbrev pub behind : List ℕ → List ℕ

@@ -1,7 +1,7 @@
 -- Messages are read and written as laid down: what is read writes back to the same bytes, what is written reads back to the same fields.
-use Prim.Native.Nat.{ℕ, _+_, _*_, _/_, _%_, _≤_, _<_}
-use mathlib.Core.List.{List, [], _∷_, _++_, append-assoc}
-use mathlib.Core.Path.{_≡_, refl, sym, ap, subst, _∙_}
+use Prim.Native.Nat.{ℕ, _≤_}
+use mathlib.Core.List.{List, _++_, append-assoc}
+use mathlib.Core.Path.{_≡_, refl, sym, ap, _∙_}
 use mathlib.Core.Bool.{Bool, true, false, cond}
 use native.Mathlib.Omega.{arith}
 use borrow.Author.Tests.{le-leb, eqb-true}
@@ -10,7 +10,7 @@ use lib.Seq.{take-at, drop-at, length-take-le}
 use lib.Dec.{leb}
 use Rattle.xdr.specs.Reading.{Reading, taken, refused}
 use Rattle.xdr.specs.Number.{IsBytes}
-use Rattle.xdr.specs.Format.{Format, read, encode, Valid}
+use Rattle.xdr.specs.Format.{read, encode, Valid}
 use Rattle.xdr.specs.Fields.{word}
 use Rattle.xdr.specs.Buffer.{filled}
 use Rattle.xdr.proofs.Corollaries.{read-exactly}

@@ -3,9 +3,16 @@ use mathlib.Core.Path.{_≡_, refl}
 use Rattle.xdr.specs.Format.{read, AllOf}
 use Rattle.xdr.specs.Text.{soundUpTo}
 use Rattle.xdr.specs.Pad.{allZero}
-use Rattle.message.specs.Message.{message}
-use Rattle.promises.specs.Vectors.{vectors}
+use Rattle.record.specs.File.{File}
+use Rattle.table.specs.Newest.{compareFiles}
+use Rattle.table.specs.Order.{compareNumbers, compareLists}
+use Rattle.table.specs.declared.order.Order.the-variants.{Greater}
+use Rattle.promises.specs.Vectors.{Holds, vectors}
 
-pub worked : AllOf (λ v. read message (v .bytes) ≡ v .gives) vectors
+zero-newer : (f g : File) → f .modified ≡ 0 → g .modified ≡ 0xFFFFFFFFFFFFFFFF → compareFiles f g ≡ Greater
+unfolding compareFiles compareLists compareNumbers
+zero-newer f g p q = rw (p, q) refl
+
+pub worked : AllOf Holds vectors
 unfolding read soundUpTo allZero vectors
-worked = (refl, (refl, (refl, (refl, (refl, (refl, (refl, (refl, (refl, tt)))))))))
+worked = (refl, (refl, (refl, (refl, (refl, (refl, (refl, (refl, (refl, (zero-newer, tt))))))))))

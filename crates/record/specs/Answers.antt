@@ -31,7 +31,8 @@ arrayRefusal (L.Refused r) = r
 abbrev pub blockAnswer : Reading Block → Word
 blockAnswer r = wordAnswer (mapped (λ b. b .size) r)
 
--- a file: its fields, of the name and the blocks how many there are, the place of the first block and the place after the file
+-- a file at the front of a part: its fields, of the name and the blocks how many there are, the place of the first block and the place after
+-- the file
 abbrev pub fileAnswer : Reading File → FileRead
 fileAnswer (taken f next) =
     F.Taken (record {
@@ -49,7 +50,7 @@ abbrev pub fileRefusal : FileRead → Refusal
 fileRefusal (F.Taken f) = record { number = 0; place = 0 }
 fileRefusal (F.Refused r) = r
 
--- an option: the lengths of its Key and of its Value, the place where the Value's bytes start and the place after the option
+-- an option at the front of a part: the lengths of its Key and of its Value, the place where the Value's bytes start and the place after the option
 abbrev pub optionAnswer : Reading KeyValue → OptionRead
 optionAnswer (taken o next) =
     O.Taken (record { key = length (o .key); start = padded (length (o .key)) + 8; value = length (o .value); next = next })

@@ -21,7 +21,7 @@ isSize n = leb 1 n && leb n sizeLimit
 abbrev pub size : Format ℕ
 size = checked 10 isSize word
 
--- an opaque of exactly that length, which needs no pad
+-- an opaque of exactly 32 bytes, which need no pad
 abbrev pub hash : Format (List ℕ)
 hash = bytes (checked 9 (λ n. eqb n hashLength) word)
 

@@ -52,7 +52,7 @@ outlineFrom s name stop rest = outlined s (fieldsFrom s name stop rest)
 unfoldable pub outlineOf : List ℕ → ℕ → Outline
 outlineOf s at = outlineFrom s (at + 4) (at + 4 + wordAt s at) (at + 4 + padded (wordAt s at))
 
--- the places of a file's fields, where it begins at a place
+-- a file's fields and their places, where it begins at a place
 abbrev pub fieldsOf : ℕ → File → Fields
 fieldsOf at f =
     record {

@@ -1,12 +1,12 @@
 -- What an answer tells of the reading that it answers.
-use Prim.Native.Nat.{ℕ, _+_, _-_, _≤_}
+use Prim.Native.Nat.{ℕ, _+_, _≤_}
 use mathlib.Core.List.{List}
 use mathlib.Core.Path.{_≡_, refl, sym, ap, _∙_}
 use native.Mathlib.Omega.{arith}
 use lib.ListN.{length, take, drop}
 use Rattle.xdr.specs.Reading.{Reading, taken, refused}
 use Rattle.xdr.specs.Answers.{wordAnswer, wordRefusal, hyperAnswer, hyperRefusal, bytesAnswer, bytesRefusal}
-use Rattle.xdr.specs.Fields.{word, opaque}
+use Rattle.xdr.specs.Fields.{opaque}
 use Rattle.xdr.specs.Format.{Format, readAt}
 use Rattle.xdr.specs.Pad.{padded}
 use Rattle.xdr.specs.declared.answer.Refusal.{Refusal}

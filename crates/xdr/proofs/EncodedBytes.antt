@@ -1,10 +1,10 @@
 -- The encoding of a format's value is a list of bytes.
-use Prim.Native.Nat.{ℕ, zero, suc, _+_, _*_, _/_, _%_, _-_, _^_, _≤_, _<_}
+use Prim.Native.Nat.{ℕ, zero, suc, _/_, _%_, _-_, _^_, _<_}
 use mathlib.Core.List.{List, [], _∷_, _++_}
-use mathlib.Core.Path.{_≡_, refl, sym, ap, _∙_}
+use mathlib.Core.Path.{_≡_, sym, ap, _∙_}
 use native.Mathlib.Omega.{arith}
 use native.Mathlib.Nat.{mod-lt, pow-succ', div-lt-iff-lt-mul}
-use lib.ListN.{length, drop, getD, replicate}
+use lib.ListN.{length, drop, replicate}
 use Rattle.xdr.specs.Number.{bigEndian, digits, IsBytes}
 use Rattle.xdr.specs.Format.{Format, nothing, number, bytes, array, pair, checked, via, encodeAll, encode, AllOf, Valid}
 use Rattle.xdr.specs.Pad.{padded}

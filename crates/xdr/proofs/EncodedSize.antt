@@ -1,9 +1,9 @@
 -- How many bytes an encoding has.
-use Prim.Native.Nat.{ℕ, _+_, _-_}
-use mathlib.Core.List.{List, _++_}
-use mathlib.Core.Path.{_≡_, ap, _∙_}
+use Prim.Native.Nat.{ℕ, _+_}
+use mathlib.Core.List.{List}
+use mathlib.Core.Path.{_≡_}
 use native.Mathlib.Omega.{arith}
-use lib.ListN.{length, replicate, length-append, length-replicate}
+use lib.ListN.{length, length-append, length-replicate}
 use Rattle.xdr.specs.Pad.{padded}
 use Rattle.xdr.specs.Format.{Format, number, bytes, encode}
 use Rattle.xdr.proofs.NumberLaws.{length-digits}

@@ -1,16 +1,16 @@
 -- What was read of some bytes encodes to exactly those that it took, and is a value of the format.
-use Prim.Native.Nat.{ℕ, zero, suc, _+_, _*_, _/_, _-_, _^_, _≤_, _<_}
-use mathlib.Core.List.{List, [], _∷_, _++_}
+use Prim.Native.Nat.{ℕ, zero, suc, _+_, _-_, _≤_, _<_}
+use mathlib.Core.List.{List, _∷_, _++_}
 use mathlib.Core.Path.{_≡_, refl, sym, ap, _∙_}
-use mathlib.Core.Bool.{Bool, true, false, cond, _&&_}
+use mathlib.Core.Bool.{Bool, true, false, cond}
 use native.Mathlib.Omega.{arith}
-use native.Mathlib.Decide.{decLe, decLt}
-use borrow.Author.Tests.{leb-true, eqb-true}
+use native.Mathlib.Decide.{decLt}
+use borrow.Author.Tests.{leb-true}
 use lib.ListN.{length, take, drop, getD, replicate, length-drop, length-take, List·getD-eq-default}
 use lib.Seq.{take-add, getD-take, length-take-le}
-use lib.Dec.{leb, eqb, eqb·suc-zero}
+use lib.Dec.{leb}
 use Rattle.xdr.specs.Reading.{Reading, taken, refused, shifted, mapped, fromStart, tested, andThen, many}
-use Rattle.xdr.specs.Number.{bigEndian, digits, IsBytes}
+use Rattle.xdr.specs.Number.{bigEndian, IsBytes}
 use Rattle.xdr.specs.Format.{Format, nothing, number, bytes, array, pair, checked, via, contents, read, encodeAll, encode, AllOf, Valid}
 use Rattle.xdr.specs.Pad.{padded, allZero}
 use Rattle.xdr.proofs.NumberLaws.{bytes-drop, digits-read}

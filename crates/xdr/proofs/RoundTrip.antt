@@ -1,16 +1,16 @@
 -- Reading the encoding of a value, followed by anything, gives the value and the encoding's length.
-use Prim.Native.Nat.{ℕ, zero, suc, _+_, _*_, _/_, _-_, _^_, _≤_, _<_}
+use Prim.Native.Nat.{ℕ, _+_, _-_, _^_, _≤_, _<_}
 use mathlib.Core.List.{List, [], _∷_, _++_, append-assoc}
-use mathlib.Core.Path.{_≡_, refl, sym, ap, _∙_}
-use mathlib.Core.Bool.{Bool, true, false, cond, _&&_}
+use mathlib.Core.Path.{_≡_, refl, ap, _∙_}
+use mathlib.Core.Bool.{Bool, cond}
 use native.Mathlib.Omega.{arith}
 use borrow.Author.Tests.{le-leb}
-use lib.ListN.{length, take, drop, replicate, length-append, length-replicate}
+use lib.ListN.{length, replicate, length-append, length-replicate}
 use lib.Seq.{drop-append-seam, take-append-seam, take-at}
-use Rattle.xdr.specs.Reading.{Reading, taken, refused, shifted, mapped, fromStart, tested, andThen, many}
-use Rattle.xdr.specs.Number.{bigEndian, digits, IsBytes}
+use Rattle.xdr.specs.Reading.{Reading, taken, refused, mapped, fromStart, tested, andThen, many}
+use Rattle.xdr.specs.Number.{digits}
 use Rattle.xdr.specs.Format.{Format, nothing, number, bytes, array, pair, checked, via, contents, read, encodeAll, encode, AllOf, Valid}
-use Rattle.xdr.specs.Pad.{padded, allZero}
+use Rattle.xdr.specs.Pad.{padded}
 use Rattle.xdr.proofs.NumberLaws.{length-digits, read-digits}
 use Rattle.xdr.proofs.PadLaws.{zeros-zero}
 

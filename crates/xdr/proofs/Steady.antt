@@ -1,19 +1,19 @@
 -- A reading that isn't refused with number 1 is the same when more bytes follow.
-use Prim.Native.Nat.{ℕ, zero, suc, _+_, _*_, _-_, _^_, _≤_, _<_}
+use Prim.Native.Nat.{ℕ, zero, suc, _+_, _*_, _-_, _^_, _≤_}
 use mathlib.Core.List.{List, [], _∷_, _++_}
 use mathlib.Core.Path.{_≡_, refl, sym, ap, _∙_}
-use mathlib.Core.Bool.{Bool, true, false, cond}
+use mathlib.Core.Bool.{Bool, true, false}
 use native.Mathlib.Omega.{arith}
 use native.Mathlib.Decide.{decLe}
 use borrow.Author.Tests.{le-leb, lt-leb}
-use lib.ListN.{length, take, drop, getD, length-drop, length-append, List·getD-append}
+use lib.ListN.{length, drop, length-drop, length-append}
 use lib.Seq.{drop-append-le, take-append-le}
-use lib.Dec.{leb, eqb}
+use lib.Dec.{eqb}
 use Rattle.xdr.specs.Reading.{Reading, taken, refused, shifted, mapped, fromStart, tested, andThen, many}
 use Rattle.xdr.specs.Number.{bigEndian}
 use Rattle.xdr.specs.Format.{Format, nothing, number, bytes, array, pair, checked, via, contents, read}
-use Rattle.xdr.specs.Pad.{padded, allZero}
-use Rattle.xdr.proofs.Within.{Within, Bounded, within}
+use Rattle.xdr.specs.Pad.{padded}
+use Rattle.xdr.proofs.Within.{Bounded, within}
 
 -- refused with number 1: the bytes end too early
 abbrev pub cutShort : {A : Type 0} → Reading A → Bool

@@ -1,8 +1,8 @@
 -- How a composed reader goes on from what an inner one read: one step for each way that a format is read.
-use Prim.Native.Nat.{ℕ, zero, suc, _+_, _*_, _/_, _-_, _^_, _≤_, _<_}
-use mathlib.Core.List.{List, [], _∷_, _++_}
+use Prim.Native.Nat.{ℕ, suc, _+_, _-_, _≤_, _<_}
+use mathlib.Core.List.{List}
 use mathlib.Core.Path.{_≡_, refl, sym, ap, _∙_}
-use mathlib.Core.Bool.{Bool, true, false, cond, _&&_}
+use mathlib.Core.Bool.{Bool, true, false, cond}
 use native.Mathlib.Omega.{arith}
 use native.Mathlib.Nat.{add-zero, zero-add, add-assoc}
 use native.Mathlib.Decide.{decLe}
@@ -10,11 +10,11 @@ use borrow.Author.Tests.{le-leb, lt-leb, leb-true}
 use lib.ListN.{length, take, drop, length-drop}
 use lib.Seq.{drop-drop, length-take-le}
 use lib.Dec.{leb}
-use Rattle.xdr.specs.Reading.{Reading, taken, refused, shifted, mapped, fromStart, tested, andThen, many}
+use Rattle.xdr.specs.Reading.{Reading, taken, refused, shifted, mapped, fromStart, tested, andThen}
 use Rattle.xdr.specs.Number.{bigEndian}
-use Rattle.xdr.specs.Format.{Format, nothing, number, bytes, array, pair, checked, via, contents, read, readAt}
+use Rattle.xdr.specs.Format.{Format, number, bytes, pair, checked, via, contents, read, readAt}
 use Rattle.xdr.specs.Pad.{padded, allZero}
-use Rattle.xdr.proofs.Within.{Within, within}
+use Rattle.xdr.proofs.Within.{within}
 
 -- reading s at a place by a format gives r
 pub record Reads {A : Type 0} (F : Format A) (s : List ℕ) (at : ℕ) (r : Reading A) : Type 0 where

@@ -1,5 +1,5 @@
 -- What reading the encoding of a value gives, whether the value is valid or not and whatever follows: the value alone decides.
-use Prim.Native.Nat.{ℕ, zero, suc, _+_, _*_, _/_, _%_, _-_, _^_, _≤_, _<_}
+use Prim.Native.Nat.{ℕ, zero, suc, _+_, _%_, _-_, _^_, _<_}
 use mathlib.Core.List.{List, [], _∷_, _++_, append-assoc, append-nil}
 use mathlib.Core.Path.{_≡_, refl, sym, ap, _∙_}
 use mathlib.Core.Bool.{Bool, true, false, cond}
@@ -9,7 +9,7 @@ use borrow.Author.Tests.{le-leb}
 use lib.ListN.{length, drop, replicate, length-append, length-replicate}
 use lib.Seq.{drop-append-seam, drop-at}
 use Rattle.xdr.specs.Reading.{Reading, taken, refused, shifted, mapped, fromStart, tested, andThen, many}
-use Rattle.xdr.specs.Number.{bigEndian, digits}
+use Rattle.xdr.specs.Number.{digits}
 use Rattle.xdr.specs.Pad.{padded}
 use Rattle.xdr.specs.Format.{Format, nothing, number, bytes, array, pair, checked, via, contents, read, readAt, encodeAll, encode}
 use Rattle.xdr.specs.Fields.{word}

@@ -7,7 +7,7 @@ use lib.Dec.{leb}
 use Rattle.xdr.specs.Format.{bytes, encode}
 use Rattle.xdr.specs.Fields.{word}
 
--- an accepted filling: the first bytes are changed, and no others
+-- an accepted filling, with room for it: the first bytes are changed, and no others
 abbrev pub filled : List ℕ → List ℕ → List ℕ
 filled out l = l ++ drop (length l) out
 

@@ -1,9 +1,6 @@
 -- `cases::messages::array_cuts` is safe and ends.
 use Prim.Native.Nat.{_-_}
-use mathlib.Core.Path.{_≡_, refl}
-use native.Mathlib.Omega.{arith}
 use borrow.Author.Needs.{needs}
-use lib.ListN.{length}
 use Rattle.cases.proofs.messages.array_cuts.Statement.{statement}
 use Rattle.cases.proofs.messages.array_cuts.Tie as tie
 

@@ -1,9 +1,6 @@
 -- `cases::records::cuts` is safe and ends.
 use Prim.Native.Nat.{_-_}
-use mathlib.Core.Path.{_≡_, refl}
-use native.Mathlib.Omega.{arith}
 use borrow.Author.Needs.{needs}
-use lib.ListN.{length}
 use Rattle.cases.proofs.records.cuts.Statement.{statement}
 use Rattle.cases.proofs.records.cuts.Tie as tie
 

@@ -1,7 +1,6 @@
 -- `cases::records::put_blocks` is safe and ends.
 use Prim.Native.Nat.{_-_}
-use mathlib.Core.Path.{_≡_, refl}
-use native.Mathlib.Omega.{arith}
+use mathlib.Core.Path.{_≡_}
 use borrow.Author.Needs.{needs}
 use lib.ListN.{length}
 use Rattle.cases.proofs.records.put_blocks.Statement.{statement}

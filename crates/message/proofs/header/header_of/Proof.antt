@@ -1,6 +1,6 @@
 -- `message::header::header_of` meets its contract: masks of low bits are remainders, and bits that do not meet add up.
-use Prim.Native.Nat.{ℕ, _+_, _*_, _%_, _^_, _<_}
-use mathlib.Core.Path.{_≡_, sym, ap, _∙_}
+use Prim.Native.Nat.{ℕ, _*_, _%_}
+use mathlib.Core.Path.{_≡_, ap, _∙_}
 use native.Mathlib.Omega.{arith}
 use lib.Bits.{bitAnd, bitOr, and-mask, or-shifted}
 use Rattle.message.proofs.header.header_of.Statement.{statement}

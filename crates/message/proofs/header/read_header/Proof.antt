@@ -1,20 +1,20 @@
 -- `message::header::read_header` meets its contract: the word's steps, and then its tests.
 use Prim.Native.Nat.{ℕ, _≤_, _<_}
 use mathlib.Core.List.{List}
-use mathlib.Core.Path.{_≡_, refl, sym, ap, _∙_}
+use mathlib.Core.Path.{_≡_, sym, _∙_}
 use mathlib.Core.Bool.{true, false}
 use native.Mathlib.Omega.{arith}
 use borrow.Author.Needs.{needs}
 use borrow.Author.Tests.{eq-eqb, ne-eqb, le-leb, lt-leb}
 use lib.Dec.{eqb}
 use denote.Ref.{now}
-use Rattle.xdr.specs.Reading.{taken, refused}
+use Rattle.xdr.specs.Reading.{taken}
 use Rattle.xdr.specs.Format.{Format, checked}
 use Rattle.xdr.specs.Fields.{word}
 use Rattle.xdr.specs.Answers.{wordAnswer}
 use Rattle.xdr.proofs.Answered.{word-taken, word-refused}
 use Rattle.xdr.proofs.Steps.{Reads, answered, checked-refused, checked-failed, checked-passed}
-use Rattle.message.specs.Header.{versionOf, typeOf, reservedOf, isType}
+use Rattle.message.specs.Header.{versionOf, typeOf, isType}
 use Rattle.message.proofs.header.read_header.Statement.{statement}
 use Rattle.message.proofs.header.read_header.Tie as tie
 

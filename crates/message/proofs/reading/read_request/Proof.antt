@@ -1,12 +1,12 @@
 -- `message::reading::read_request` meets its contract: each field that was read is a step, and each return the steps up to it.
-use Prim.Native.Nat.{ℕ, _+_, _-_, _≤_}
+use Prim.Native.Nat.{ℕ, _+_}
 use mathlib.Core.List.{List}
-use mathlib.Core.Path.{_≡_, refl, sym, ap, _∙_}
+use mathlib.Core.Path.{_≡_, refl, ap, _∙_}
 use native.Mathlib.Omega.{arith}
 use borrow.Author.Needs.{needs}
 use lib.ListN.{length}
 use denote.Ref.{now}
-use Rattle.xdr.specs.Reading.{taken, refused}
+use Rattle.xdr.specs.Reading.{taken}
 use Rattle.xdr.specs.Pad.{padded}
 use Rattle.xdr.specs.Fields.{hyper}
 use Rattle.xdr.proofs.Answered.{word-taken, word-refused, hyper-taken, hyper-refused, bytes-taken, bytes-refused}

@@ -1,6 +1,6 @@
 -- `message::reading::read_response` meets its contract: the data that was read, or refused.
 use Prim.Native.Nat.{ℕ}
-use mathlib.Core.Path.{_≡_, refl, sym, ap, _∙_}
+use mathlib.Core.Path.{sym, ap, _∙_}
 use borrow.Author.Needs.{needs}
 use Rattle.xdr.proofs.Answered.{bytes-taken, bytes-refused}
 use Rattle.xdr.proofs.Steps.{answered}

@@ -1,19 +1,19 @@
 -- `message_write::check::check_index` meets its contract: the repository stands right behind the header, and the files behind it.
 use Prim.Native.Nat.{ℕ, _+_, _≤_}
-use mathlib.Core.List.{List, [], _∷_, _++_, append-nil, append-assoc}
-use mathlib.Core.Path.{_≡_, refl, sym, ap, subst, _∙_}
+use mathlib.Core.List.{List, [], _∷_, _++_}
+use mathlib.Core.Path.{_≡_, refl, _∙_}
 use native.Mathlib.Omega.{arith}
 use borrow.Author.Needs.{needs}
 use denote.Ref.{now}
-use lib.ListN.{length, drop, length-append}
+use lib.ListN.{length}
 use Rattle.xdr.specs.Reading.{Reading, taken, refused, shifted}
 use Rattle.xdr.specs.Pad.{padded}
-use Rattle.xdr.specs.Format.{Format, bytes, encode, readAt}
-use Rattle.xdr.specs.Fields.{word, hyper, opaque, text}
+use Rattle.xdr.specs.Format.{bytes, encode}
+use Rattle.xdr.specs.Fields.{word, text}
 use Rattle.xdr.proofs.Answered.{bytes-taken, bytes-refused}
 use Rattle.xdr.proofs.Steps.{Reads, passed, first-refused, both-read, ends, refused-within}
 use Rattle.xdr.proofs.Told.{Wide, encoded-at}
-use Rattle.message_write.specs.Writing.{fittedAnswer, indexBytes, responseBytes}
+use Rattle.message_write.specs.Writing.{indexBytes}
 use Rattle.message_write.proofs.Behind.{behind, fits-body, last-at, string-refused, string-taken, behind-string}
 use Rattle.record.specs.File.{File, files}
 use Rattle.record.proofs.Answered.{array-taken, array-refused}

@@ -1,23 +1,21 @@
 -- `message_write::check::check_request` meets its contract: each field stands behind those before it.
 use Prim.Native.Nat.{ℕ, _+_, _≤_}
-use mathlib.Core.List.{List, [], _∷_, _++_, append-nil, append-assoc}
-use mathlib.Core.Path.{_≡_, refl, sym, ap, subst, _∙_}
+use mathlib.Core.List.{List, [], _∷_, _++_, append-assoc}
+use mathlib.Core.Path.{_≡_, refl, sym, _∙_}
 use native.Mathlib.Omega.{arith}
 use borrow.Author.Needs.{needs}
 use denote.Ref.{now}
-use lib.ListN.{length, drop, length-append}
+use lib.ListN.{length, length-append}
 use Rattle.xdr.specs.Reading.{Reading, taken, refused, shifted}
 use Rattle.xdr.specs.Pad.{padded}
-use Rattle.xdr.specs.Format.{Format, bytes, encode, readAt}
-use Rattle.xdr.specs.Fields.{word, hyper, opaque, text}
+use Rattle.xdr.specs.Format.{bytes, encode}
+use Rattle.xdr.specs.Fields.{word, hyper}
 use Rattle.xdr.proofs.Answered.{bytes-taken, bytes-refused}
-use Rattle.xdr.proofs.Steps.{Reads, passed, first-refused, both-read, ends, refused-within}
+use Rattle.xdr.proofs.Steps.{Reads, passed, first-refused, both-read}
 use Rattle.xdr.proofs.Told.{Wide, encoded-at}
-use Rattle.message_write.specs.Writing.{fittedAnswer, indexBytes, responseBytes}
 use Rattle.message_write.proofs.Behind.{behind, fits-body, last-at, string-size, string-refused, string-taken, behind-string}
-use mathlib.Core.Bool.{true, false}
 use borrow.Author.Tests.{not-true, not-false, eqb-true}
-use Rattle.record.specs.Block.{isSize, size, hash}
+use Rattle.record.specs.Block.{hash}
 use Rattle.record.specs.File.{name}
 use Rattle.xdr.proofs.EncodedSize.{number-size}
 use Rattle.xdr.proofs.Steps.{checked-failed, checked-passed}

@@ -1,20 +1,17 @@
 -- `message_write::check::check_response` meets its contract: the data stand right behind the header.
-use Prim.Native.Nat.{ℕ, _+_, _≤_}
-use mathlib.Core.List.{List, [], _∷_, _++_, append-nil, append-assoc}
-use mathlib.Core.Path.{_≡_, refl, sym, ap, subst, _∙_}
+use Prim.Native.Nat.{ℕ}
+use mathlib.Core.List.{List, [], _∷_}
+use mathlib.Core.Path.{_≡_, refl, _∙_}
 use native.Mathlib.Omega.{arith}
 use borrow.Author.Needs.{needs}
 use denote.Ref.{now}
-use lib.ListN.{length, drop, length-append}
-use Rattle.xdr.specs.Reading.{Reading, taken, refused, shifted}
-use Rattle.xdr.specs.Pad.{padded}
-use Rattle.xdr.specs.Format.{Format, bytes, encode, readAt}
-use Rattle.xdr.specs.Fields.{word, hyper, opaque, text}
+use lib.ListN.{length}
+use Rattle.xdr.specs.Reading.{taken, refused}
+use Rattle.xdr.specs.Format.{bytes, encode}
+use Rattle.xdr.specs.Fields.{word, opaque}
 use Rattle.xdr.proofs.Answered.{bytes-taken, bytes-refused}
-use Rattle.xdr.proofs.Steps.{Reads, passed, first-refused, both-read, ends, refused-within}
-use Rattle.xdr.proofs.Told.{Wide, encoded-at}
-use Rattle.message_write.specs.Writing.{fittedAnswer, indexBytes, responseBytes}
-use Rattle.message_write.proofs.Behind.{behind, fits-body, last-at, string-size, string-refused, string-taken}
+use Rattle.xdr.proofs.Steps.{Reads}
+use Rattle.message_write.proofs.Behind.{fits-body, last-at, string-refused, string-taken}
 use Rattle.message.specs.Limits.{dataLimit}
 use Rattle.message_write.proofs.check.check_response.Statement.{statement}
 use Rattle.message_write.proofs.check.check_response.Tie as tie

@@ -1,5 +1,5 @@
 -- `message_write::check::check_text` meets its contract: the opaque's step, and then the test of its contents.
-use Prim.Native.Nat.{ℕ, _+_}
+use Prim.Native.Nat.{ℕ}
 use mathlib.Core.List.{List}
 use mathlib.Core.Path.{_≡_, sym, ap, subst, _∙_}
 use borrow.Author.Needs.{needs}
@@ -7,7 +7,6 @@ use borrow.Author.Tests.{eq-eqb, ne-eqb}
 use denote.Ref.{now}
 use lib.ListN.{length}
 use Rattle.xdr.specs.Reading.{taken}
-use Rattle.xdr.specs.Text.{soundUpTo}
 use Rattle.xdr.specs.Fields.{word, opaque}
 use Rattle.xdr.specs.Format.{bytes, encode}
 use Rattle.xdr.specs.Answers.{bytesAnswer}

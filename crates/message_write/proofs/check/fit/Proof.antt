@@ -1,5 +1,4 @@
 -- `message_write::check::fit` meets its contract.
-use native.Mathlib.Omega.{arith}
 use borrow.Author.Tests.{le-leb, lt-leb}
 use Rattle.message_write.proofs.check.fit.Statement.{statement}
 use Rattle.message_write.proofs.check.fit.Tie as tie

@@ -1,6 +1,5 @@
 -- `message_write::check::is_size` meets its contract.
 use native.Mathlib.Omega.{arith}
-use borrow.Author.Needs.{needs}
 use borrow.Author.Tests.{le-leb, lt-leb}
 use Rattle.message_write.proofs.check.is_size.Statement.{statement}
 use Rattle.message_write.proofs.check.is_size.Tie as tie

@@ -1,21 +1,17 @@
 -- `message_write::write::put_request` meets its contract: a Request that the check takes goes into the buffer whole.
-use Prim.Native.Nat.{ℕ, _+_, _-_, _≤_}
-use mathlib.Core.List.{List, [], _++_, append-assoc, append-nil}
-use mathlib.Core.Path.{_≡_, refl, sym, ap, _∙_}
+use Prim.Native.Nat.{_+_, _≤_}
+use mathlib.Core.List.{_++_}
+use mathlib.Core.Path.{_≡_, sym, ap, _∙_}
 use native.Mathlib.Omega.{arith}
 use borrow.Author.Needs.{needs}
 use denote.Ref.{now}
-use lib.ListN.{length, take, drop, length-append}
-use lib.Seq.{length-take-le, take-all}
-use Rattle.xdr.specs.Reading.{taken}
-use Rattle.xdr.specs.Pad.{padded}
-use Rattle.xdr.specs.Format.{bytes, encode}
+use lib.ListN.{length, length-append}
+use lib.Seq.{take-all}
+use Rattle.xdr.specs.Format.{encode}
 use Rattle.xdr.specs.Fields.{word}
 use Rattle.xdr.specs.Buffer.{filled}
 use Rattle.xdr.proofs.EncodedSize.{number-size}
-use Rattle.message_write.specs.Writing.{storedBuffer, indexBytes}
-use Rattle.message_write.specs.declared.answer.Written.the-variants as W
-use Rattle.message_write.proofs.Behind.{string-size}
+use Rattle.message_write.specs.Writing.{storedBuffer}
 use Rattle.message_write.proofs.WritingLaws.{body-taken}
 use Rattle.message_write.specs.Writing.{requestBytes}
 use Rattle.message_write.proofs.BodyLaws.{request-parts}

@@ -1,17 +1,12 @@
 -- `message_write::write::store_raw` meets its contract: the bytes go right behind the header.
-use Prim.Native.Nat.{ℕ, _+_, _≤_}
-use mathlib.Core.List.{List, [], _++_, append-assoc}
-use mathlib.Core.Path.{_≡_, refl, sym, ap, subst, _∙_}
+use mathlib.Core.Path.{refl}
 use native.Mathlib.Omega.{arith}
 use borrow.Author.Needs.{needs}
 use denote.Ref.{now}
-use lib.ListN.{length, length-append}
-use Rattle.xdr.specs.Pad.{padded}
-use Rattle.xdr.specs.Format.{bytes, encode}
-use Rattle.xdr.specs.Fields.{word, hyper}
-use Rattle.xdr.specs.Buffer.{filled, put, putCount}
+use Rattle.xdr.specs.Format.{encode}
+use Rattle.xdr.specs.Fields.{word}
 use Rattle.xdr.proofs.EncodedSize.{number-size}
-use Rattle.xdr.proofs.BufferLaws.{FilledTo, filled-none, put-next, opaque-count, opaque-next}
+use Rattle.xdr.proofs.BufferLaws.{FilledTo, filled-none, put-next}
 use Rattle.message_write.proofs.write.store_raw.Statement.{statement}
 use Rattle.message_write.proofs.write.store_raw.Tie as tie
 

@@ -1,15 +1,14 @@
 -- `message_write::write::store_string` meets its contract: the string goes right behind the header, and the bytes behind it.
-use Prim.Native.Nat.{ℕ, _+_, _≤_}
-use mathlib.Core.List.{List, [], _++_, append-assoc}
-use mathlib.Core.Path.{_≡_, refl, sym, ap, subst, _∙_}
+use Prim.Native.Nat.{_+_, _≤_}
+use mathlib.Core.List.{append-assoc}
+use mathlib.Core.Path.{_≡_, refl, ap, _∙_}
 use native.Mathlib.Omega.{arith}
 use borrow.Author.Needs.{needs}
 use denote.Ref.{now}
-use lib.ListN.{length, length-append}
-use Rattle.xdr.specs.Pad.{padded}
+use lib.ListN.{length}
 use Rattle.xdr.specs.Format.{bytes, encode}
-use Rattle.xdr.specs.Fields.{word, hyper}
-use Rattle.xdr.specs.Buffer.{filled, put, putCount}
+use Rattle.xdr.specs.Fields.{word}
+use Rattle.xdr.specs.Buffer.{filled}
 use Rattle.xdr.proofs.EncodedSize.{number-size}
 use Rattle.xdr.proofs.BufferLaws.{FilledTo, filled-none, put-next, opaque-count, opaque-next}
 use Rattle.message_write.proofs.Behind.{string-size}

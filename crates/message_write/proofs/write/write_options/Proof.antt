@@ -1,7 +1,5 @@
 -- `message_write::write::write_options` meets its contract: the ID is too high, or the body was checked and put behind its header.
-use Prim.Native.Nat.{ℕ}
-use mathlib.Core.List.{[]}
-use mathlib.Core.Path.{_≡_, sym, ap, _∙_}
+use mathlib.Core.Path.{_∙_}
 use native.Mathlib.Omega.{arith}
 use borrow.Author.Needs.{needs}
 use denote.Ref.{now}

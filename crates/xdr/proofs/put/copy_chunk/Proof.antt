@@ -1,10 +1,7 @@
 -- `xdr::put::copy_chunk` meets its contract: what the array holds of src goes on to out.
-use Prim.Native.Nat.{ℕ, _≤_}
 use mathlib.Core.Path.{_≡_, sym, ap, _∙_}
-use mathlib.Core.List.{List}
-use native.Mathlib.Omega.{arith}
 use borrow.Author.Needs.{needs}
-use lib.ListN.{length, take, drop}
+use lib.ListN.{length, take}
 use lib.Seq.{take-append-seam}
 use denote.Ref.{now}
 use Rattle.xdr.specs.Buffer.{filled}

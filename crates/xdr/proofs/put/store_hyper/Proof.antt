@@ -1,6 +1,6 @@
 -- `xdr::put::store_hyper` meets its contract: a word, and a word behind it.
-use Prim.Native.Nat.{ℕ, _/_, _%_, _-_}
-use mathlib.Core.Path.{_≡_, sym, ap, _∙_}
+use Prim.Native.Nat.{_/_, _%_, _-_}
+use mathlib.Core.Path.{ap, _∙_}
 use native.Mathlib.Omega.{arith}
 use borrow.Author.Needs.{needs}
 use denote.Ref.{now}

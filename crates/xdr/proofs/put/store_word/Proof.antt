@@ -1,12 +1,11 @@
 -- `xdr::put::store_word` meets its contract: four stores are one run of bytes.
-use Prim.Native.Nat.{ℕ, _/_, _%_}
-use mathlib.Core.Path.{_≡_, sym, ap, _∙_}
-use mathlib.Core.List.{List, [], _∷_, _++_}
+use Prim.Native.Nat.{_/_, _%_}
+use mathlib.Core.Path.{ap, _∙_}
+use mathlib.Core.List.{[], _∷_}
 use native.Mathlib.Omega.{arith}
 use borrow.Author.Needs.{needs}
-use lib.ListN.{length, drop, length-set}
+use lib.ListN.{length-set}
 use lib.Seq.{sets-eq}
-use Rattle.xdr.specs.Number.{digits}
 use Rattle.xdr.specs.Format.{encode}
 use Rattle.xdr.specs.Buffer.{filled}
 use Rattle.xdr.proofs.NumberLaws.{word-digits}

@@ -7,10 +7,10 @@ use borrow.Author.Tests.{le-leb, lt-leb}
 use lib.ListN.{length, take, drop, length-drop}
 use lib.Seq.{length-take-le}
 use denote.Ref.{now}
-use Rattle.xdr.specs.Reading.{taken, refused}
+use Rattle.xdr.specs.Reading.{taken}
 use Rattle.xdr.specs.Pad.{padded, zerosUpTo}
 use Rattle.xdr.specs.Fields.{word, upTo}
-use Rattle.xdr.specs.Answers.{wordRefusal, bytesAnswer}
+use Rattle.xdr.specs.Answers.{bytesAnswer}
 use Rattle.xdr.specs.declared.answer.Bytes.the-variants as B
 use Rattle.xdr.proofs.PadLaws.{zero-all, zero-not-all}
 use Rattle.xdr.proofs.Answered.{word-taken, word-refused}

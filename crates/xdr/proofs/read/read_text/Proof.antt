@@ -1,19 +1,16 @@
 -- `xdr::read_text` meets its contract: the opaque's steps, and then the test of its contents.
-use Prim.Native.Nat.{ℕ, _+_, _-_, _≤_}
-use mathlib.Core.List.{List}
-use mathlib.Core.Path.{_≡_, refl, sym, ap, _∙_}
+use Prim.Native.Nat.{ℕ, _+_, _-_}
+use mathlib.Core.Path.{_≡_, sym, ap, _∙_}
 use native.Mathlib.Omega.{arith}
 use borrow.Author.Tests.{eq-eqb, ne-eqb}
-use lib.ListN.{length, take, drop}
+use lib.ListN.{take, drop}
 use denote.Ref.{now}
-use Rattle.xdr.specs.Reading.{taken, refused}
-use Rattle.xdr.specs.Pad.{padded}
-use Rattle.xdr.specs.Fields.{word, upTo, opaque}
-use Rattle.xdr.specs.Text.{soundUpTo, isText}
+use Rattle.xdr.specs.Reading.{taken}
+use Rattle.xdr.specs.Text.{soundUpTo}
 use Rattle.xdr.specs.Answers.{bytesAnswer}
 use Rattle.xdr.specs.declared.answer.Bytes.the-variants as B
 use Rattle.xdr.proofs.Answered.{OpaqueAt, opaque-taken, bytes-refused}
-use Rattle.xdr.proofs.Steps.{Reads, answered, checked-refused, checked-failed, checked-passed}
+use Rattle.xdr.proofs.Steps.{answered, checked-refused, checked-failed, checked-passed}
 use borrow.Author.Needs.{needs}
 use Rattle.xdr.proofs.read.read_text.Statement.{statement}
 use Rattle.xdr.proofs.read.read_text.Tie as tie

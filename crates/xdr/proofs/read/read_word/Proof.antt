@@ -1,6 +1,6 @@
 -- `xdr::read_word` meets its contract: each return is a step of reading a number.
-use Prim.Native.Nat.{ℕ, _+_, _*_}
-use mathlib.Core.Path.{_≡_, sym, ap, _∙_}
+use Prim.Native.Nat.{ℕ, _+_}
+use mathlib.Core.Path.{ap, _∙_}
 use native.Mathlib.Omega.{arith}
 use denote.Ref.{now}
 use Rattle.xdr.specs.Answers.{wordAnswer}

@@ -1,7 +1,5 @@
 -- `xdr::word_at` meets its contract.
-use Prim.Native.Nat.{ℕ, _+_, _*_}
-use mathlib.Core.Path.{_≡_, sym, ap, _∙_}
-use native.Mathlib.Omega.{arith}
+use mathlib.Core.Path.{sym, _∙_}
 use denote.Ref.{now}
 use Rattle.xdr.proofs.NumberLaws.{four-bytes}
 use borrow.Author.Needs.{needs}
