@@ -11,6 +11,7 @@ pub mod Runs
 pub mod Parts
 pub mod Strings
 pub mod Answered
+pub mod TopBits
 pub mod TextRule
 pub mod EncodedBytes
 pub mod EncodedSize

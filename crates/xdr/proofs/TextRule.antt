@@ -1,7 +1,7 @@
 -- The text rule, byte by byte.
 use Prim.Native.Nat.{ℕ, zero, suc, _+_, _-_, _≤_, _<_}
 use mathlib.Core.List.{List, [], _∷_}
-use mathlib.Core.Path.{_≡_, refl, _∙_}
+use mathlib.Core.Path.{_≡_, refl, ap, _∙_}
 use mathlib.Core.Bool.{true, false}
 use native.Mathlib.Omega.{arith}
 use native.Mathlib.Numerals.{add-one}
@@ -46,3 +46,15 @@ start-free (x ∷ l) a b at = refl
 pub ascii-next : (s : List ℕ) (i : ℕ) → i < length s → getD s i 0 ≤ 127 → soundFrom (drop i s) 0 i i ≡ soundFrom (drop (i + 1) s) 0 (i + 1) (i + 1)
 ascii-next s i h k =
     lead-next s i i 0 0 h refl (simp (le-leb (getD s i 0) 127 k)) (omega arith) ∙ start-free (drop (i + 1) s) i (i + 1) (i + 1)
+
+-- four of them
+pub ascii-next-four : (s : List ℕ) (i : ℕ) → 4 ≤ length s - i → getD s i 0 ≤ 127 → getD s (i + 1) 0 ≤ 127 → getD s (i + 2) 0 ≤ 127 → getD s (i + 3) 0 ≤ 127
+    → soundFrom (drop i s) 0 i i ≡ soundFrom (drop (i + 4) s) 0 (i + 4) (i + 4)
+ascii-next-four s i h a b c d =
+    let two : i + 1 + 1 ≡ i + 2 = omega arith in
+    let three : i + 2 + 1 ≡ i + 3 = omega arith in
+    let four : i + 3 + 1 ≡ i + 4 = omega arith in
+    ascii-next s i (omega arith) a
+    ∙ ascii-next s (i + 1) (omega arith) b ∙ ap (λ (n : ℕ). soundFrom (drop n s) 0 n n) two
+    ∙ ascii-next s (i + 2) (omega arith) c ∙ ap (λ (n : ℕ). soundFrom (drop n s) 0 n n) three
+    ∙ ascii-next s (i + 3) (omega arith) d ∙ ap (λ (n : ℕ). soundFrom (drop n s) 0 n n) four

@@ -1,5 +1,6 @@
 // The text rule: a run of sequences, each a lead byte and its followers.
 ghost use mathlib.Core.Path.{_≡_};
+ghost use mathlib.Core.Bool.{true};
 ghost use Prim.Native.Nat.{_≤_};
 ghost use lib.ListN.{length, drop};
 ghost use Rattle.xdr.specs.Text.{followers as followersOf, follows as isFollower, soundFrom, soundUpTo};
@@ -27,11 +28,32 @@ fn follows(b: u8) -> bool
     }
 }
 
-// A position up to which every byte is a sequence of its own. Most names are nothing else, and a loop of its own is fast.
-fn past_ascii(s: &[u8]) -> usize
+// Whether four bytes are sequences of their own: none has its top bit set.
+fn ascii_four(a: u8, b: u8, c: u8, d: u8) -> bool
+    ensures { λ r. ⌜ (r ≡ true → (a ≤ 127) × (b ≤ 127) × (c ≤ 127) × (d ≤ 127)) ⌝ }
+{
+    ((a as u32) * 16777216 + (b as u32) * 65536 + (c as u32) * 256 + (d as u32)) & 2155905152 == 0
+}
+
+// A position up to which every byte is a sequence of its own, in steps of four.
+fn past_fours(s: &[u8]) -> usize
     ensures { λ r. ⌜ (r ≤ length (now (s .entry))) × (soundUpTo (now (s .entry)) ≡ soundFrom (drop r (now (s .entry))) 0 r r) ⌝ }
 {
     let mut i = 0;
+    while 4 <= s.len() - i {
+        if !ascii_four(s[i], s[i + 1], s[i + 2], s[i + 3]) {
+            return i;
+        }
+        i += 4;
+    }
+    i
+}
+
+// The same, byte by byte from there. Most names are nothing else, and loops of their own are fast.
+fn past_ascii(s: &[u8]) -> usize
+    ensures { λ r. ⌜ (r ≤ length (now (s .entry))) × (soundUpTo (now (s .entry)) ≡ soundFrom (drop r (now (s .entry))) 0 r r) ⌝ }
+{
+    let mut i = past_fours(s);
     while i < s.len() {
         if 127 < s[i] {
             return i;

@@ -1,6 +1,6 @@
 -- `xdr::text::past_ascii` meets its contract. The loop's invariant is the contract itself.
 use Prim.Native.Nat.{_≤_, _-_}
-use mathlib.Core.Path.{_≡_, refl, _∙_}
+use mathlib.Core.Path.{_≡_, _∙_}
 use borrow.Author.Needs.{needs}
 use lib.ListN.{length, drop}
 use denote.Ref.{now}
@@ -15,9 +15,11 @@ Inv-loop s i₀ i = (i ≤ length s) × (soundUpTo s ≡ soundFrom (drop i s) 0 
 abbrev μ-loop : tie.MeasureT-loop
 μ-loop s i₀ i = length s - i
 
+past-fours-requires : tie.Need-past-fours-requires Inv-loop μ-loop
+past-fours-requires c κs = search needs
+
 loop-holds : tie.Need-loop-holds Inv-loop μ-loop
-unfolding soundUpTo
-loop-holds c = (search needs, refl)
+loop-holds c = c .past-fours .ensures
 
 shared-slice-read-if1 : tie.Need-shared-slice-read-if1 Inv-loop μ-loop
 shared-slice-read-if1 c = search needs
@@ -34,7 +36,7 @@ loop-less c = search needs
 loop-again : tie.Need-loop-again Inv-loop μ-loop
 loop-again c =
     let h = c .before .before .before .loop in
-    (search needs, h .inv .1 ∙ ascii-next (now (c .before .before .before .before .args .s)) (h .i) (search needs) (search needs))
+    (search needs, h .inv .1 ∙ ascii-next (now (c .before .before .before .before .before .before .args .s)) (h .i) (search needs) (search needs))
 
 returns-2 : tie.Need-returns-2 Inv-loop μ-loop
 returns-2 c = c .before .loop .inv
@@ -45,6 +47,7 @@ past-ascii-spec =
     (tie.spec
     Inv-loop
     μ-loop
+    past-fours-requires
     loop-holds
     shared-slice-read-if1
     returns

@@ -1,0 +1,88 @@
+-- `xdr::text::past_fours` meets its contract. The loop's invariant is the contract itself.
+use Prim.Native.Nat.{_≤_, _-_}
+use mathlib.Core.Path.{_≡_, refl, _∙_}
+use borrow.Author.Needs.{needs}
+use borrow.Author.Tests.{not-false}
+use lib.ListN.{length, drop}
+use denote.Ref.{now}
+use Rattle.xdr.specs.Text.{soundFrom, soundUpTo}
+use Rattle.xdr.proofs.TextRule.{ascii-next-four}
+use Rattle.xdr.proofs.text.past_fours.Statement.{statement}
+use Rattle.xdr.proofs.text.past_fours.Tie as tie
+
+abbrev Inv-loop : tie.InvT-loop
+Inv-loop s i₀ i = (i ≤ length s) × (soundUpTo s ≡ soundFrom (drop i s) 0 i i)
+
+abbrev μ-loop : tie.MeasureT-loop
+μ-loop s i₀ i = length s - i
+
+loop-holds : tie.Need-loop-holds Inv-loop μ-loop
+unfolding soundUpTo
+loop-holds c = (search needs, refl)
+
+sub-loop : tie.Need-sub-loop Inv-loop μ-loop
+sub-loop c = search needs
+
+shared-slice-read-ascii-four : tie.Need-shared-slice-read-ascii-four Inv-loop μ-loop
+shared-slice-read-ascii-four c = search needs
+
+add-ascii-four : tie.Need-add-ascii-four Inv-loop μ-loop
+add-ascii-four c = search needs
+
+shared-slice-read-ascii-four-2 : tie.Need-shared-slice-read-ascii-four-2 Inv-loop μ-loop
+shared-slice-read-ascii-four-2 c = search needs
+
+add-ascii-four-2 : tie.Need-add-ascii-four-2 Inv-loop μ-loop
+add-ascii-four-2 c = search needs
+
+shared-slice-read-ascii-four-3 : tie.Need-shared-slice-read-ascii-four-3 Inv-loop μ-loop
+shared-slice-read-ascii-four-3 c = search needs
+
+add-ascii-four-3 : tie.Need-add-ascii-four-3 Inv-loop μ-loop
+add-ascii-four-3 c = search needs
+
+shared-slice-read-ascii-four-4 : tie.Need-shared-slice-read-ascii-four-4 Inv-loop μ-loop
+shared-slice-read-ascii-four-4 c = search needs
+
+ascii-four-requires : tie.Need-ascii-four-requires Inv-loop μ-loop
+ascii-four-requires c κs = search needs
+
+returns : tie.Need-returns Inv-loop μ-loop
+returns c = c .before .before .before .before .before .before .before .loop .inv
+
+add-i : tie.Need-add-i Inv-loop μ-loop
+add-i c = search needs
+
+loop-less : tie.Need-loop-less Inv-loop μ-loop
+loop-less c = search needs
+
+loop-again : tie.Need-loop-again Inv-loop μ-loop
+loop-again c =
+    let h = c .before .before .before .before .before .before .before .loop in
+    let small = c .before .ascii-four .ensures (not-false _ (c .if1 .left)) in
+    (search needs, h .inv .1 ∙ ascii-next-four (now (c .before .before .before .before .before .before .before .before .before .args .s)) (h .i) (search needs) (small .0) (small .1) (small .2) (small .3))
+
+returns-2 : tie.Need-returns-2 Inv-loop μ-loop
+returns-2 c = c .before .loop .inv
+
+pub past-fours-spec : {M : Type 1} → statement M
+past-fours-spec =
+    tie.close
+    (tie.spec
+    Inv-loop
+    μ-loop
+    loop-holds
+    sub-loop
+    shared-slice-read-ascii-four
+    add-ascii-four
+    shared-slice-read-ascii-four-2
+    add-ascii-four-2
+    shared-slice-read-ascii-four-3
+    add-ascii-four-3
+    shared-slice-read-ascii-four-4
+    ascii-four-requires
+    returns
+    add-i
+    loop-less
+    loop-again
+    returns-2)
