@@ -1,3 +1,6 @@
 -- The promises.
 pub mod Worked
 pub mod Messages
+mod MemoryLaws
+pub mod Merges
+pub mod SampleMerges

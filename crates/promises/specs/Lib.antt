@@ -1,2 +1,4 @@
 pub mod Fields
 pub mod Vectors
+pub mod Memory
+pub mod Merges

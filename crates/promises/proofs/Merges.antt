@@ -1,0 +1,212 @@
+-- After any list of merges, every result still at hand is byte for byte the merged table of exactly the starting tables that went into it.
+use Prim.Native.Nat.{ℕ}
+use mathlib.Core.List.{List, [], _∷_, _++_, map, map-append, append-nil, List·Memᴰ, List·Memᴰ·head, List·Memᴰ·tail, List·Memᴰ·cases-cons, List·Memᴰ·not-nil, List·Memᴰ·append-cases, Memᴰ·append-left, Memᴰ·append-right}
+use mathlib.Core.Path.{_≡_, refl, sym, ap, subst, _∙_}
+use mathlib.Core.Logic.{_⊎_, inl, inr, ⊎-elim}
+use mathlib.Core.Bool.{Bool, true, false, _&&_, cond}
+use native.Mathlib.Omega.{arith}
+use lib.ListN.{length}
+use Rattle.record.specs.File.{File}
+use Rattle.table.specs.Table.{isGood, isWithin, records, tableOf}
+use Rattle.table.specs.Filling.{Outcome, accepted, refused, bufferAfter, tableInto}
+use Rattle.table.proofs.RisingLaws.{both-true}
+use Rattle.table.proofs.TableLaws.{GoodTable, good-table, table-good, records-of}
+use Rattle.merge.specs.Merged.{mergedOf}
+use Rattle.merge.specs.Highest.{joined}
+use Rattle.merge.specs.Answer.{mergedRecords}
+use Rattle.merge.proofs.AnswerLaws.{first-bad, second-bad}
+use Rattle.merge.proofs.HighestLaws.{AllOK, Within}
+use Rattle.merge.proofs.MergeLaws.{all-ok, joined-append, merged-one, merged-good, merged-origins, merged-same, outcome-by-origins, merge-accepted}
+use Rattle.promises.specs.Memory.{Memory, Region, bytesFrom, bytesIn, written, isApart}
+use Rattle.promises.specs.Merges.{Slice, State, Event, call, write, begun, start, untouched, handAfter, merging, step, run, Allowed, AllAllowed, areGood, mergedTable, Kept, Throughout, HoldsBytes, SameTables}
+use Rattle.promises.proofs.MemoryLaws.{bytes-written, bytes-apart, written-back, written-filled, holds-bytes}
+
+abbrev _∈_ : Slice → List Slice → Type 0
+x ∈ l = List·Memᴰ x l
+
+infix 40 _∈_
+-- what stays at hand was at hand, and lies apart from what was written
+
+stays-in : (r : Region) (l : List Slice) (x : Slice) → x ∈ untouched r l → (x ∈ l) × (isApart (x .region) r ≡ true)
+stays-in r [] x m = absurd (List·Memᴰ·not-nil m)
+stays-in r (y ∷ ys) x m = go (isApart (y .region) r) refl (stays-in r ys x) m
+  where
+    go : (t : Bool) → isApart (y .region) r ≡ t → (x ∈ untouched r ys → (x ∈ ys) × (isApart (x .region) r ≡ true)) → x ∈ cond t (y ∷ untouched r ys) (untouched r ys)
+        → (x ∈ (y ∷ ys)) × (isApart (x .region) r ≡ true)
+    go true e ih k =
+        ⊎-elim (λ f. (List·Memᴰ·head f, subst (λ (z : Slice). isApart (z .region) r ≡ true) (sym f) e)) (λ i. (List·Memᴰ·tail (ih i .0), ih i .1)) (List·Memᴰ·cases-cons k)
+    go false e ih k = (List·Memᴰ·tail (ih k .0), ih k .1)
+
+-- and all that lies apart stays: no table drops out of hand but by a write into it
+pub stays : (r : Region) (l : List Slice) (x : Slice) → x ∈ l → isApart (x .region) r ≡ true → x ∈ untouched r l
+stays r [] x m a = m
+stays r (y ∷ ys) x m a = go (isApart (y .region) r) refl (λ k. stays r ys x k a) (List·Memᴰ·cases-cons m)
+  where
+    go : (t : Bool) → isApart (y .region) r ≡ t → (x ∈ ys → x ∈ untouched r ys) → (x ≡ y) ⊎ (x ∈ ys) → x ∈ cond t (y ∷ untouched r ys) (untouched r ys)
+    go true e ih (inl f) = List·Memᴰ·head f
+    go true e ih (inr k) = List·Memᴰ·tail (ih k)
+    go false e ih (inl f) = let q = subst (λ (z : Slice). isApart (z .region) r ≡ true) f a in let z : _≡_ {A = ℕ} 0 1 = cc in absurd (omega arith)
+    go false e ih (inr k) = ih k
+
+-- the records of origins
+
+abbrev Origins : List (List ℕ) → Type 0
+Origins ts = AllOK (joined (map records ts))
+
+good-append : (ts us : List (List ℕ)) → areGood ts ≡ true → areGood us ≡ true → areGood (ts ++ us) ≡ true
+good-append [] us p q = q
+good-append (t ∷ ts) us p q = let b = both-true (isGood t) (areGood ts) p in rw (b .0) (good-append ts us (b .1) q)
+
+records-append : (ts us : List (List ℕ)) → Origins ts → Origins us → AllOK (joined (map records ts ++ map records us))
+records-append ts us p q f m =
+    ⊎-elim (λ k. p f k) (λ k. q f k) (List·Memᴰ·append-cases (joined (map records ts)) (subst (λ (l : List File). List·Memᴰ f l) (joined-append (map records ts) (map records us)) m))
+
+origins-append : (ts us : List (List ℕ)) → Origins ts → Origins us → Origins (ts ++ us)
+origins-append ts us p q = subst (λ (l : List (List File)). AllOK (joined l)) (sym (map-append records ts us)) (records-append ts us p q)
+
+-- what is known of a slice at hand: it is a starting slice and no good table, or a good table of its origins' merged records
+
+data Known (m : Memory) (x : Slice) : Type 0 where
+  bad : x .made ≡ false → isGood (bytesIn m (x .region)) ≡ false → areGood (x .origins) ≡ false → Known m x
+  good : areGood (x .origins) ≡ true → Origins (x .origins) → GoodTable (bytesIn m (x .region)) (mergedOf (map records (x .origins))) → Known m x
+
+moved : (m n : Memory) (x : Slice) → bytesIn n (x .region) ≡ bytesIn m (x .region) → Known m x → Known n x
+moved m n x e (bad f b g) = bad f (ap isGood e ∙ b) g
+moved m n x e (good g o t) = good g o (subst (λ (l : List ℕ). GoodTable l (mergedOf (map records (x .origins)))) (sym e) t)
+
+-- two slices merged
+by-origins : (m : Memory) (x y : Slice) (room : ℕ) → Known m x → Known m y
+    → merging m x y room ≡ cond (areGood (x .origins) && areGood (y .origins)) (tableInto (mergedOf (map records (x .origins ++ y .origins))) room) (refused 15 0)
+by-origins m x y room (bad f b g) k = first-bad (bytesIn m (x .region)) (bytesIn m (y .region)) room b ∙ rw g refl
+by-origins m x y room (good g o t) (bad f b h) =
+    second-bad (bytesIn m (x .region)) (bytesIn m (y .region)) room (table-good (bytesIn m (x .region)) (mergedOf (map records (x .origins))) t) b ∙ rw (g, h) refl
+by-origins m x y room (good g o t) (good h p u) =
+    let a = bytesIn m (x .region) in
+    let b = bytesIn m (y .region) in
+    let ts = map records (x .origins) in
+    let us = map records (y .origins) in
+    outcome-by-origins a b room ts us (table-good a (mergedOf ts) t) (table-good b (mergedOf us) u) (records-of a (mergedOf ts) t) (records-of b (mergedOf us) u) (records-append (x .origins) (y .origins) o p)
+    ∙ ap (λ (l : List (List File)). tableInto (mergedOf l) room) (sym (map-append records (x .origins) (y .origins)))
+    ∙ rw (g, h) refl
+
+-- all that is at hand
+
+abbrev AllKnown : Memory → List Slice → Type 0
+AllKnown m hand = (x : Slice) → x ∈ hand → Known m x
+
+written-known : (m : Memory) (hand : List Slice) (at : ℕ) (l : List ℕ) → AllKnown m hand → AllKnown (written m at l) (untouched (record { at = at; size = length l }) hand)
+written-known m hand at l h x i =
+    let p = stays-in (record { at = at; size = length l }) hand x i in
+    moved m (written m at l) x (bytes-apart m at l (x .region) (p .1)) (h x (p .0))
+
+-- the result of an accepted call
+result-known : (m : Memory) (x y : Slice) (b : Region) (l : List ℕ) → Known m x → Known m y → merging m x y (b .size) ≡ accepted l
+    → Known (written m (b .at) l) (record { region = record { at = b .at; size = length l }; made = true; origins = x .origins ++ y .origins })
+result-known m x y b l (bad f c g) k e = let q = sym e ∙ first-bad (bytesIn m (x .region)) (bytesIn m (y .region)) (b .size) c in let z : _≡_ {A = ℕ} 0 1 = cc in absurd (omega arith)
+result-known m x y b l (good g o t) (bad f c h) e =
+    let q = sym e ∙ second-bad (bytesIn m (x .region)) (bytesIn m (y .region)) (b .size) (table-good (bytesIn m (x .region)) (mergedOf (map records (x .origins))) t) c in
+    let z : _≡_ {A = ℕ} 0 1 = cc in absurd (omega arith)
+result-known m x y b l (good g o t) (good h p u) e =
+    let a = bytesIn m (x .region) in
+    let c = bytesIn m (y .region) in
+    let ts = map records (x .origins) in
+    let us = map records (y .origins) in
+    let os : List (List File) = map records (x .origins ++ y .origins) in
+    let ok : Origins (x .origins ++ y .origins) = origins-append (x .origins) (y .origins) o p in
+    let r = merge-accepted a c (b .size) l e in
+    let same : mergedRecords a c ≡ mergedOf os =
+    merged-origins a c ts us (records-of a (mergedOf ts) t) (records-of c (mergedOf us) u) (records-append (x .origins) (y .origins) o p)
+    ∙ ap mergedOf (sym (map-append records (x .origins) (y .origins))) in
+    let there : bytesFrom (written m (b .at) l) (b .at) (length l) ≡ tableOf (mergedOf os) = bytes-written m (b .at) l ∙ r .is ∙ ap tableOf same in
+    let fit = subst (λ (fs : List File). isWithin (length fs) (length (tableOf fs)) ≡ true) same (r .within) in
+    good (good-append (x .origins) (y .origins) g h) ok (subst (λ (v : List ℕ). GoodTable v (mergedOf os)) (sym there) (merged-good os ok fit))
+
+call-known : (m : Memory) (hand : List Slice) (x y : Slice) (b : Region) (o : Outcome) → merging m x y (b .size) ≡ o → x ∈ hand → y ∈ hand → AllKnown m hand
+    → AllKnown (written m (b .at) (bufferAfter o (bytesIn m b))) (handAfter o x y (b .at) hand)
+call-known m hand x y b (refused k p) e i j h = subst (λ (n : Memory). AllKnown n hand) (sym (written-back m (b .at) (b .size))) h
+call-known m hand x y b (accepted l) e i j h =
+    let r = merge-accepted (bytesIn m (x .region)) (bytesIn m (y .region)) (b .size) l e in
+    subst (λ (n : Memory). AllKnown n (handAfter (accepted l) x y (b .at) hand)) (sym (written-filled m (b .at) l (b .size) (r .fits))) all
+  where
+    all : AllKnown (written m (b .at) l) (handAfter (accepted l) x y (b .at) hand)
+    all z k = ⊎-elim (λ f. subst (λ (w : Slice). Known (written m (b .at) l) w) (sym f) (result-known m x y b l (h x i) (h y j) e)) (λ q. written-known m hand (b .at) l h z q) (List·Memᴰ·cases-cons k)
+
+step-known : (s : State) (e : Event) → Allowed s e → AllKnown (s .memory) (s .hand) → AllKnown (step s e .memory) (step s e .hand)
+step-known s (call x y b) a h = call-known (s .memory) (s .hand) x y b (merging (s .memory) x y (b .size)) refl (a .0) (a .1) h
+step-known s (write at l) a h = written-known (s .memory) (s .hand) at l h
+
+-- the start
+
+begun-known : (m : Memory) (r : Region) → HoldsBytes m → Known m (begun m r)
+begun-known m r h = go (isGood (bytesIn m r)) refl
+  where
+    go : (t : Bool) → isGood (bytesIn m r) ≡ t → Known m (begun m r)
+    go true e =
+        let g = good-table (bytesIn m r) (holds-bytes m (r .at) (r .size) h) e in
+        let fs = records (bytesIn m r) in
+        good (rw e refl) (subst AllOK (sym (append-nil fs)) (all-ok fs (g .valid))) (subst (λ (l : List File). GoodTable (bytesIn m r) l) (sym (merged-one fs (g .rising))) g)
+    go false e = bad refl e (rw e refl)
+
+start-known : (m : Memory) (rs : List Region) → HoldsBytes m → AllKnown m (map (begun m) rs)
+start-known m [] h x i = absurd (List·Memᴰ·not-nil i)
+start-known m (r ∷ rs) h x i = ⊎-elim (λ e. subst (λ (w : Slice). Known m w) (sym e) (begun-known m r h)) (λ j. start-known m rs h x j) (List·Memᴰ·cases-cons i)
+
+-- the claim
+
+kept : (s : State) → AllKnown (s .memory) (s .hand) → Kept s
+kept s h =
+    record {
+      results = λ x i e. result x e (h x i);
+      good = λ x i. same-test x (h x i);
+      same = λ x i e. same-bytes x e (h x i);
+      answers = λ x y i j room. by-origins (s .memory) x y room (h x i) (h y j);
+    }
+  where
+    result : (x : Slice) → x .made ≡ true → Known (s .memory) x → areGood (x .origins) ≡ true
+    result x e (bad f b g) = let z : _≡_ {A = ℕ} 0 1 = cc in absurd (omega arith)
+    result x e (good g o t) = g
+
+    same-test : (x : Slice) → Known (s .memory) x → isGood (bytesIn (s .memory) (x .region)) ≡ areGood (x .origins)
+    same-test x (bad f b g) = b ∙ sym g
+    same-test x (good g o t) = table-good (bytesIn (s .memory) (x .region)) (mergedOf (map records (x .origins))) t ∙ sym g
+
+    same-bytes : (x : Slice) → areGood (x .origins) ≡ true → Known (s .memory) x → bytesIn (s .memory) (x .region) ≡ mergedTable (x .origins)
+    same-bytes x e (bad f b g) = let z : _≡_ {A = ℕ} 0 1 = cc in absurd (omega arith)
+    same-bytes x e (good g o t) = t .is
+
+throughout : (s : State) (es : List Event) → AllAllowed s es → AllKnown (s .memory) (s .hand) → Throughout s es
+throughout s [] a h = kept s h
+throughout s (e ∷ es) a h = (kept s h, throughout (step s e) es (a .1) (step-known s e (a .0) h))
+
+-- from any starting slices, good tables or not, through any list of calls and writes
+pub list-of-merges : (m : Memory) (rs : List Region) (es : List Event) → HoldsBytes m → AllAllowed (start m rs) es → Throughout (start m rs) es
+list-of-merges m rs es h a = throughout (start m rs) es a (start-known m rs h)
+
+-- two lists of merges, wherever they began: results of the same origins are the same, whatever the order, grouping and repetition
+
+run-known : (s : State) (es : List Event) → AllAllowed s es → AllKnown (s .memory) (s .hand) → AllKnown (run s es .memory) (run s es .hand)
+run-known s [] a h = h
+run-known s (e ∷ es) a h = run-known (step s e) es (a .1) (step-known s e (a .0) h)
+
+in-joined : (us : List (List ℕ)) (t : List ℕ) (f : File) → List·Memᴰ t us → List·Memᴰ f (records t) → List·Memᴰ f (joined (map records us))
+in-joined [] t f i m = absurd (List·Memᴰ·not-nil i)
+in-joined (u ∷ us) t f i m =
+    ⊎-elim (λ e. Memᴰ·append-left (joined (map records us)) (subst (λ (v : List ℕ). List·Memᴰ f (records v)) e m)) (λ j. Memᴰ·append-right (records u) (in-joined us t f j m)) (List·Memᴰ·cases-cons i)
+
+same-joined : (ts us : List (List ℕ)) → ((t : List ℕ) → List·Memᴰ t ts → List·Memᴰ t us) → Within (joined (map records ts)) (joined (map records us))
+same-joined [] us h f m = absurd (List·Memᴰ·not-nil m)
+same-joined (t ∷ ts) us h f m =
+    ⊎-elim (λ k. in-joined us t f (h t (List·Memᴰ·head refl)) k) (λ k. same-joined ts us (λ u i. h u (List·Memᴰ·tail i)) f k) (List·Memᴰ·append-cases (records t) m)
+
+same-known : (m n : Memory) (x y : Slice) → x .made ≡ true → y .made ≡ true → SameTables (x .origins) (y .origins) → Known m x → Known n y → bytesIn m (x .region) ≡ bytesIn n (y .region)
+same-known m n x y e f s (bad p b g) k = let z : _≡_ {A = ℕ} 0 1 = cc in absurd (omega arith)
+same-known m n x y e f s (good g o t) (bad p b h) = let z : _≡_ {A = ℕ} 0 1 = cc in absurd (omega arith)
+same-known m n x y e f s (good g o t) (good h p u) =
+    t .is ∙ ap tableOf (merged-same (map records (x .origins)) (map records (y .origins)) p (same-joined (x .origins) (y .origins) (s .0)) (same-joined (y .origins) (x .origins) (s .1))) ∙ sym (u .is)
+
+pub whatever-order : (m n : Memory) (rs qs : List Region) (es fs : List Event) → HoldsBytes m → HoldsBytes n → AllAllowed (start m rs) es → AllAllowed (start n qs) fs
+    → (x y : Slice) → x ∈ run (start m rs) es .hand → y ∈ run (start n qs) fs .hand → x .made ≡ true → y .made ≡ true → SameTables (x .origins) (y .origins)
+    → bytesIn (run (start m rs) es .memory) (x .region) ≡ bytesIn (run (start n qs) fs .memory) (y .region)
+whatever-order m n rs qs es fs h k a b x y i j e f s =
+    same-known (run (start m rs) es .memory) (run (start n qs) fs .memory) x y e f s
+    (run-known (start m rs) es a (start-known m rs h) x i) (run-known (start n qs) fs b (start-known n qs k) y j)

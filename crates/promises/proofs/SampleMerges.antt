@@ -1,0 +1,80 @@
+-- A list of merges that is run by computation, so that the claim is about something.
+use Prim.Native.Nat.{ℕ}
+use mathlib.Core.List.{List, [], _∷_, List·Memᴰ·head, List·Memᴰ·tail}
+use mathlib.Core.Path.{_≡_, refl}
+use mathlib.Core.Bool.{true, false}
+use native.Mathlib.Omega.{arith}
+use lib.ListN.{take}
+use Rattle.xdr.specs.Format.{read, encode}
+use Rattle.xdr.specs.Text.{soundUpTo}
+use Rattle.xdr.specs.Pad.{allZero}
+use Rattle.table.specs.Order.{compareNumbers, compareLists}
+use Rattle.table.specs.Newest.{compareFiles}
+use Rattle.table.specs.Table.{isGood, records, tableOf}
+use Rattle.table.specs.Filling.{accepted, refused}
+use Rattle.merge.specs.Merged.{mergedOf}
+use Rattle.merge.specs.Answer.{mergedRecords, mergeOutcome}
+use Rattle.promises.specs.Memory.{Memory, bytesIn, written}
+use Rattle.promises.specs.Merges.{Slice, State, Event, call, write, start, merging, run, AllAllowed, Throughout}
+use Rattle.promises.proofs.MemoryLaws.{holds-written}
+use Rattle.promises.proofs.Merges.{list-of-merges}
+
+-- two tables of one record, named "a": Modified -1 and Version 9, Modified 0 and Version 0
+abbrev older : List ℕ
+older = 0 ∷ 0 ∷ 0 ∷ 1 ∷ 0 ∷ 0 ∷ 0 ∷ 1 ∷ 97 ∷ 0 ∷ 0 ∷ 0 ∷ 0 ∷ 0 ∷ 0 ∷ 0 ∷ 255 ∷ 255 ∷ 255 ∷ 255 ∷ 255 ∷ 255 ∷ 255 ∷ 255 ∷ 0 ∷ 0 ∷ 0 ∷ 9 ∷ 0 ∷ 0 ∷ 0 ∷ 0 ∷ []
+
+abbrev newer : List ℕ
+newer = 0 ∷ 0 ∷ 0 ∷ 1 ∷ 0 ∷ 0 ∷ 0 ∷ 1 ∷ 97 ∷ 0 ∷ 0 ∷ 0 ∷ 0 ∷ 0 ∷ 0 ∷ 0 ∷ 0 ∷ 0 ∷ 0 ∷ 0 ∷ 0 ∷ 0 ∷ 0 ∷ 0 ∷ 0 ∷ 0 ∷ 0 ∷ 0 ∷ 0 ∷ 0 ∷ 0 ∷ 0 ∷ []
+
+-- they lie at 0 and at 40, and a slice of three bytes, which is no table, at 80
+abbrev memory : Memory
+memory = written (written (λ k. 0) 0 older) 40 newer
+
+abbrev begin : State
+begin = start memory (record { at = 0; size = 32 } ∷ record { at = 40; size = 32 } ∷ record { at = 80; size = 3 } ∷ [])
+
+abbrev x : Slice
+x = record { region = record { at = 0; size = 32 }; made = false; origins = older ∷ [] }
+
+abbrev y : Slice
+y = record { region = record { at = 40; size = 32 }; made = false; origins = newer ∷ [] }
+
+abbrev z : Slice
+z = record { region = record { at = 80; size = 3 }; made = false; origins = (0 ∷ 0 ∷ 0 ∷ []) ∷ [] }
+
+abbrev merged : Slice
+merged = record { region = record { at = 100; size = 32 }; made = true; origins = older ∷ newer ∷ [] }
+
+-- the two are merged; their result with itself, into a buffer one byte short; one with what is no table; and somebody writes into the first
+abbrev events : List Event
+events =
+    call x y (record { at = 100; size = 34 })
+    ∷ call merged merged (record { at = 140; size = 31 })
+    ∷ call y z (record { at = 140; size = 32 })
+    ∷ write 31 (7 ∷ [])
+    ∷ []
+
+-- what each call did
+pub sample-answers : (merging (begin .memory) x y 34 ≡ accepted newer)
+    × (merging (run begin (take 1 events) .memory) merged merged 31 ≡ refused 14 0)
+    × (merging (run begin (take 2 events) .memory) y z 32 ≡ refused 15 0)
+unfolding read encode soundUpTo allZero compareNumbers compareLists compareFiles isGood records tableOf mergedOf mergedRecords mergeOutcome
+sample-answers = (refl, refl, refl)
+
+-- the first is at hand no more, and the result is the newer one
+pub sample-run : (run begin events .hand ≡ merged ∷ y ∷ z ∷ []) × (bytesIn (run begin events .memory) (merged .region) ≡ newer)
+unfolding read encode soundUpTo allZero compareNumbers compareLists compareFiles isGood records tableOf mergedOf mergedRecords mergeOutcome
+sample-run = (refl, refl)
+
+-- it is a list that the claim is about
+sample-allowed : AllAllowed begin events
+unfolding read encode soundUpTo allZero compareNumbers compareLists compareFiles isGood records tableOf mergedOf mergedRecords mergeOutcome
+sample-allowed = (
+  (List·Memᴰ·head refl, List·Memᴰ·tail (List·Memᴰ·head refl), refl, refl),
+  ((List·Memᴰ·head refl, List·Memᴰ·head refl, refl, refl), ((List·Memᴰ·tail (List·Memᴰ·tail (List·Memᴰ·head refl)), List·Memᴰ·tail (List·Memᴰ·tail (List·Memᴰ·tail (List·Memᴰ·head refl))), refl, refl), (tt, tt))),
+)
+
+pub sample-kept : Throughout begin events
+sample-kept =
+    list-of-merges memory (record { at = 0; size = 32 } ∷ record { at = 40; size = 32 } ∷ record { at = 80; size = 3 } ∷ []) events
+    (holds-written (written (λ k. 0) 0 older) 40 newer (holds-written (λ k. 0) 0 older (λ k. omega arith) refl) refl) sample-allowed
