@@ -1,2 +1,3 @@
 -- Laws of the answers as words.
 mod WriteLaws
+mod TableLaws

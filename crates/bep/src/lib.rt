@@ -4,4 +4,5 @@
 // an answer or a message overlaps nothing else that the call is given.
 pub mod outline;
 pub mod read;
+pub mod tables;
 pub mod write;

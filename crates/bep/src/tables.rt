@@ -1,0 +1,75 @@
+// Tables: whether bytes are a good one, which of two records is the newer, and the calls that fill a lent buffer with a table.
+ghost use mathlib.Core.Path.{_≡_};
+ghost use lib.ListN.{length};
+ghost use Rattle.record.specs.Outline.{outlineOf};
+ghost use Rattle.table.specs.Table.{isGood};
+ghost use Rattle.merge.specs.Answer.{mergeOutcome};
+ghost use Rattle.bep.specs.Tables.{goodNumber, fillingNumber, fillingWords, Gave, orderWord, comparedNumber, comparedWords};
+use record::Outline;
+use table::Filling;
+use table::Order;
+
+// Fills the answer of a call that fills a buffer, and gives its number.
+fn give_filling(f: Filling, answer: &mut [u64; 1]) -> u32
+    ensures { λ r. ⌜ (r ≡ fillingNumber f) × (now (answer .exit) ≡ fillingWords f) ⌝ }
+{
+    match f {
+        Filling::Filled(n) => {
+            *answer = [n as u64];
+            0
+        }
+        Filling::Refused(r) => {
+            *answer = [r.place as u64];
+            r.number
+        }
+    }
+}
+
+// Whether bytes are a good table: 0, or 15.
+#[no_mangle]
+pub extern "C" fn bep_check_table(table: &[u8]) -> u32
+    ensures { λ r. ⌜ r ≡ goodNumber (isGood (now (table .entry))) ⌝ }
+{
+    if table::is_good(table) {
+        return 0;
+    }
+    15
+}
+
+fn order_word(o: Order) -> u64
+    ensures { λ r. ⌜ r ≡ orderWord o ⌝ }
+{
+    match o {
+        Order::Less => 0,
+        Order::Equal => 1,
+        Order::Greater => 2,
+    }
+}
+
+// Compares the record at a place of one table with that at a place of another, by which is the newer: names do not count.
+#[no_mangle]
+pub extern "C" fn bep_compare(a: &[u8], i: usize, b: &[u8], j: usize, answer: &mut [u64; 1]) -> u32
+    ensures { λ r. ⌜ (r ≡ comparedNumber (outlineOf (now (a .entry)) i) (outlineOf (now (b .entry)) j)) × (now (answer .exit) ≡ comparedWords (now (a .entry)) (outlineOf (now (a .entry)) i) (now (b .entry)) (outlineOf (now (b .entry)) j)) ⌝ }
+{
+    let first = record::outline_at(a, i);
+    let second = record::outline_at(b, j);
+    let Outline::Whole(f) = first else {
+        *answer = [0];
+        return 1;
+    };
+    let Outline::Whole(g) = second else {
+        *answer = [0];
+        return 1;
+    };
+    *answer = [order_word(table::compare_records(a, f, b, g))];
+    0
+}
+
+// Merges two tables.
+#[no_mangle]
+pub extern "C" fn bep_merge(out: &mut [u8], a: &[u8], b: &[u8], answer: &mut [u64; 1]) -> u32
+    ensures { λ r. ⌜ Gave (mergeOutcome (now (a .entry)) (now (b .entry)) (length (now (out .entry)))) (now (out .entry)) r (now (answer .exit)) (now (out .exit)) ⌝ }
+{
+    let f = merge::merge(a, b, out);
+    give_filling(f, answer)
+}
