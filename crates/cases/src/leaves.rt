@@ -1,32 +1,31 @@
 // Words, hypers, opaques and strings.
-use crate::print;
 use xdr::Bytes;
 use xdr::Hyper;
 use xdr::Word;
 
 // A line up to its answer: the function, the bytes and the place.
 fn given(function: &[u8], s: &[u8], at: usize) {
-    print::text(function);
-    print::text(b" ");
-    print::bytes(s);
-    print::text(b" at ");
-    print::number(at as u64);
-    print::text(b": ");
+    lines::text(function);
+    lines::text(b" ");
+    lines::bytes(s);
+    lines::text(b" at ");
+    lines::number(at as u64);
+    lines::text(b": ");
 }
 
 // A value with the place after it, and the end of the line.
 fn taken(value: u64, next: usize) {
-    print::number(value);
-    print::text(b", next ");
-    print::number(next as u64);
-    print::text(b"\n");
+    lines::number(value);
+    lines::text(b", next ");
+    lines::number(next as u64);
+    lines::text(b"\n");
 }
 
 fn word(s: &[u8], at: usize) {
     given(b"read_word", s, at);
     match xdr::read_word(s, at) {
         Word::Taken(w, next) => taken(w as u64, next),
-        Word::Refused(r) => print::refusal(r),
+        Word::Refused(r) => lines::refusal(r),
     }
 }
 
@@ -34,21 +33,21 @@ fn hyper(s: &[u8], at: usize) {
     given(b"read_hyper", s, at);
     match xdr::read_hyper(s, at) {
         Hyper::Taken(n, next) => taken(n, next),
-        Hyper::Refused(r) => print::refusal(r),
+        Hyper::Refused(r) => lines::refusal(r),
     }
 }
 
 fn answer(b: Bytes) {
     match b {
         Bytes::Taken(n, next) => taken(n as u64, next),
-        Bytes::Refused(r) => print::refusal(r),
+        Bytes::Refused(r) => lines::refusal(r),
     }
 }
 
 fn opaque(s: &[u8], at: usize, limit: u32) {
-    print::text(b"limit ");
-    print::number(limit as u64);
-    print::text(b", ");
+    lines::text(b"limit ");
+    lines::number(limit as u64);
+    lines::text(b", ");
     given(b"read_bytes", s, at);
     answer(xdr::read_bytes(s, at, limit));
 }
@@ -110,16 +109,16 @@ pub fn texts() {
 
 // A line after a put: the place, the room that there was, how many bytes were put, and the buffer.
 fn stored(function: &[u8], at: usize, room: usize, count: usize, out: &[u8]) {
-    print::text(function);
-    print::text(b" at ");
-    print::number(at as u64);
-    print::text(b" of ");
-    print::number(room as u64);
-    print::text(b": put ");
-    print::number(count as u64);
-    print::text(b", buffer ");
-    print::bytes(out);
-    print::text(b"\n");
+    lines::text(function);
+    lines::text(b" at ");
+    lines::number(at as u64);
+    lines::text(b" of ");
+    lines::number(room as u64);
+    lines::text(b": put ");
+    lines::number(count as u64);
+    lines::text(b", buffer ");
+    lines::bytes(out);
+    lines::text(b"\n");
 }
 
 // Each put goes into the first bytes of a new buffer, as many as there is to be room for.

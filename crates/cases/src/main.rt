@@ -1,7 +1,6 @@
 // Runs worked bytes through the proved functions and prints one line a case: what was given, and what came out.
 mod leaves;
 mod messages;
-mod print;
 mod records;
 
 fn main() {

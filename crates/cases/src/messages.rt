@@ -1,24 +1,23 @@
 // Messages, read and written.
-use crate::print;
 use message::IndexSpan;
 use message::Message;
 use message::Span;
 use message_write::Written;
 
 fn number(label: &[u8], n: u64) {
-    print::text(label);
-    print::number(n);
+    lines::text(label);
+    lines::number(n);
 }
 
 fn span(label: &[u8], s: Span) {
-    print::text(label);
-    print::number(s.start as u64);
-    print::text(b"+");
-    print::number(s.length as u64);
+    lines::text(label);
+    lines::number(s.start as u64);
+    lines::text(b"+");
+    lines::number(s.length as u64);
 }
 
 fn index(kind: &[u8], id: u32, x: IndexSpan) {
-    print::text(kind);
+    lines::text(kind);
     number(b" ID ", id as u64);
     let repository = x.repository;
     span(b", repository ", repository);
@@ -26,14 +25,14 @@ fn index(kind: &[u8], id: u32, x: IndexSpan) {
     span(b", files ", files);
     number(b", count ", x.count as u64);
     number(b", end ", x.end as u64);
-    print::text(b"\n");
+    lines::text(b"\n");
 }
 
 fn bare(kind: &[u8], id: u32, end: usize) {
-    print::text(kind);
+    lines::text(kind);
     number(b" ID ", id as u64);
     number(b", end ", end as u64);
-    print::text(b"\n");
+    lines::text(b"\n");
 }
 
 fn answer(m: Message) {
@@ -50,14 +49,14 @@ fn answer(m: Message) {
             let hash = x.hash;
             span(b", hash ", hash);
             number(b", end ", x.end as u64);
-            print::text(b"\n");
+            lines::text(b"\n");
         }
         Message::Response(id, x) => {
             number(b"Response ID ", id as u64);
             let data = x.data;
             span(b", data ", data);
             number(b", end ", x.end as u64);
-            print::text(b"\n");
+            lines::text(b"\n");
         }
         Message::Ping(id, end) => bare(b"Ping", id, end),
         Message::Pong(id, end) => bare(b"Pong", id, end),
@@ -68,18 +67,18 @@ fn answer(m: Message) {
             span(b", options ", options);
             number(b", count ", x.count as u64);
             number(b", end ", x.end as u64);
-            print::text(b"\n");
+            lines::text(b"\n");
         }
-        Message::Refused(r) => print::refusal(r),
+        Message::Refused(r) => lines::refusal(r),
     }
 }
 
 fn read(label: &[u8], s: &[u8]) {
-    print::text(b"read ");
-    print::text(label);
-    print::text(b" ");
-    print::bytes(s);
-    print::text(b": ");
+    lines::text(b"read ");
+    lines::text(label);
+    lines::text(b" ");
+    lines::bytes(s);
+    lines::text(b": ");
     answer(message::read(s));
 }
 
@@ -98,37 +97,18 @@ pub fn vectors() {
     read(b"an Index that ends after its header", b"\x00\x00\x01\x00");
 }
 
-// Whether a buffer still holds what it was made of.
-fn untouched(out: &[u8]) -> bool {
-    let mut i = 0;
-    while i < out.len() {
-        if out[i] != 0xee {
-            return false;
-        }
-        i += 1;
-    }
-    true
-}
-
 // What a writer answered: the bytes written and what reading gives of them, or the refusal and whether the buffer is as it was.
 fn written(label: &[u8], w: Written, out: &[u8]) {
-    print::text(label);
+    lines::text(label);
     match w {
         Written::Filled(n) => {
             number(b": filled ", n as u64);
-            print::text(b", ");
+            lines::text(b", ");
             if n <= out.len() {
                 read(b"back", &out[0..n]);
             }
         }
-        Written::Refused(r) => {
-            if untouched(out) {
-                print::text(b", buffer as it was: ");
-            } else {
-                print::text(b", buffer CHANGED: ");
-            }
-            print::refusal(r);
-        }
+        Written::Refused(r) => lines::refused(out, r),
     }
 }
 
@@ -213,7 +193,7 @@ fn cut_into(files: &[u8], n: usize) {
     if n <= files.len() {
         let w = message_write::write_index(&mut out, 1, b"r", &files[0..n]);
         number(b"cut to ", n as u64);
-        print::text(b", ");
+        lines::text(b", ");
         written(b"write_index", w, &out);
     }
 }

@@ -1,5 +1,4 @@
 // Records: limits, numbers and places.
-use crate::print;
 use record::FileRead;
 
 // A record with the name "a", its blocks all of one size with hashes of zeros, in a buffer of zeros.
@@ -23,32 +22,32 @@ fn put_blocks(out: &mut [u8], blocks: u32, size: u32, hash: u32) {
 fn answer(read: FileRead) {
     match read {
         FileRead::Taken(f) => {
-            print::text(b"name ");
-            print::number(f.name as u64);
-            print::text(b", flags ");
-            print::number(f.flags as u64);
-            print::text(b", modified ");
-            print::number(f.modified);
-            print::text(b", version ");
-            print::number(f.version as u64);
-            print::text(b", blocks ");
-            print::number(f.blocks as u64);
-            print::text(b" from ");
-            print::number(f.first as u64);
-            print::text(b", next ");
-            print::number(f.next as u64);
-            print::text(b"\n");
+            lines::text(b"name ");
+            lines::number(f.name as u64);
+            lines::text(b", flags ");
+            lines::number(f.flags as u64);
+            lines::text(b", modified ");
+            lines::number(f.modified);
+            lines::text(b", version ");
+            lines::number(f.version as u64);
+            lines::text(b", blocks ");
+            lines::number(f.blocks as u64);
+            lines::text(b" from ");
+            lines::number(f.first as u64);
+            lines::text(b", next ");
+            lines::number(f.next as u64);
+            lines::text(b"\n");
         }
-        FileRead::Refused(r) => print::refusal(r),
+        FileRead::Refused(r) => lines::refusal(r),
     }
 }
 
 // A record of so many blocks, and what reading it gives.
 fn file(out: &mut [u8], label: &[u8], flags: u32, blocks: u32, size: u32, hash: u32) {
     build(out, flags, blocks, size, hash);
-    print::text(b"read_file, ");
-    print::text(label);
-    print::text(b": ");
+    lines::text(b"read_file, ");
+    lines::text(label);
+    lines::text(b": ");
     answer(record::read_file(out));
 }
 
@@ -62,9 +61,9 @@ fn cuts(out: &mut [u8]) {
 
 fn cut(out: &[u8], n: usize) {
     if n <= out.len() {
-        print::text(b"read_file, cut to ");
-        print::number(n as u64);
-        print::text(b" bytes: ");
+        lines::text(b"read_file, cut to ");
+        lines::number(n as u64);
+        lines::text(b" bytes: ");
         answer(record::read_file(&out[0..n]));
     }
 }

@@ -1,9 +1,9 @@
--- `cases::messages::untouched` is safe and ends.
+-- `lines::untouched` is safe and ends.
 use Prim.Native.Nat.{_-_}
 use borrow.Author.Needs.{needs}
 use lib.ListN.{length}
-use Rattle.cases.proofs.messages.untouched.Statement.{statement}
-use Rattle.cases.proofs.messages.untouched.Tie as tie
+use Rattle.lines.proofs.untouched.Statement.{statement}
+use Rattle.lines.proofs.untouched.Tie as tie
 
 abbrev Inv-loop : tie.InvT-loop
 Inv-loop out i₀ i = Unit {0}

@@ -1,4 +1,4 @@
-// What the lines are made of.
+// What the programs' lines are made of, on standard output.
 use libc::STDOUT_FILENO;
 use xdr::Refusal;
 
@@ -26,4 +26,26 @@ pub fn refusal(r: Refusal) {
     text(b" at ");
     number(r.place as u64);
     text(b"\n");
+}
+
+// Whether a buffer still holds what the cases fill it with before a call.
+fn untouched(out: &[u8]) -> bool {
+    let mut i = 0;
+    while i < out.len() {
+        if out[i] != 0xee {
+            return false;
+        }
+        i += 1;
+    }
+    true
+}
+
+// What a refused call left of the buffer, and the refusal.
+pub fn refused(out: &[u8], r: Refusal) {
+    if untouched(out) {
+        text(b", buffer as it was: ");
+    } else {
+        text(b", buffer CHANGED: ");
+    }
+    refusal(r);
 }
