@@ -10,8 +10,9 @@ run: $(LIB)
 	@target/show target/sample.bin
 
 cases:
-	@rt check cases >/dev/null
+	@rt check cases table_cases >/dev/null
 	@target/bin/cases
+	@target/bin/table_cases
 
 test:
 	@.ci/run
@@ -21,7 +22,7 @@ bench: $(LIB)
 
 N ?= 1000000
 soak: $(LIB)
-	@cd host && SOAK=$(N) cargo test --quiet --release --offline --test differential generated -- --nocapture
+	@cd host && SOAK=$(N) cargo test --quiet --release --offline --test differential --test tables generated lists -- --nocapture
 
 $(LIB): $(wildcard crates/*/src/*.rt)
 	@rt staticlib bep >/dev/null

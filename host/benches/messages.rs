@@ -1,28 +1,19 @@
-//! How long the library and the reference need for the same calls, side by side.
-//!
-//! `cargo bench` prints a table in nanoseconds a call. A figure is the best of several runs, so that
-//! other work on the machine shows as little as possible; the runs of the two alternate. Both are
-//! called through pointers the compiler can't see through, as functions of another library are.
+//! How long the library and the reference need for the same calls on messages, side by side.
 
 #[path = "../tests/reference/mod.rs"]
 mod reference;
 #[path = "../tests/support/mod.rs"]
 mod support;
+mod timing;
 
 use fordtrumpet::Message;
 use std::hint::black_box;
-use std::time::{Duration, Instant};
 use support::draft::{Body, Draft};
 use support::encode::{Block, Encoding, File};
-
-const RUNS: usize = 100;
-const RUN: Duration = Duration::from_millis(1);
+use timing::{compare, heading, keep, time_alone};
 
 fn main() {
-    println!(
-        "{:<44}{:>12}{:>14}{:>8}",
-        "operation", "library ns", "reference ns", "ratio"
-    );
+    heading();
     let drafts = drafts();
     for (what, draft) in &drafts {
         compare_reading(what, draft);
@@ -211,46 +202,5 @@ fn time_copying() {
     let mut bytes = vec![0xA7; LEN + 2048 + LEN];
     let (from, to) = bytes.split_at_mut(LEN + 2048);
     let copy = |to: &mut [u8]| to.copy_from_slice(black_box(&from[..LEN]));
-    let calls = calls_in_a_run(to, &copy);
-    let best = (0..RUNS)
-        .map(|_| time(calls, to, &copy))
-        .fold(f64::MAX, f64::min);
-    println!("{:<44}{best:>12.1}", "copy 65,536 bytes (memcpy)");
-}
-
-/// Makes the compiler believe that an answer is used, without moving it.
-fn keep<T>(answer: &T) {
-    black_box(answer);
-}
-
-/// Times both and prints a line. They share the buffer, as its place in memory matters.
-fn compare(what: &str, out: &mut [u8], library: impl Fn(&mut [u8]), reference: impl Fn(&mut [u8])) {
-    let library_calls = calls_in_a_run(out, &library);
-    let reference_calls = calls_in_a_run(out, &reference);
-    let (mut library_best, mut reference_best) = (f64::MAX, f64::MAX);
-    for _ in 0..RUNS {
-        library_best = library_best.min(time(library_calls, out, &library));
-        reference_best = reference_best.min(time(reference_calls, out, &reference));
-    }
-    let ratio = library_best / reference_best;
-    println!("{what:<44}{library_best:>12.1}{reference_best:>14.1}{ratio:>8.2}");
-}
-
-/// As many calls as fill one run. Finding out warms up caches and clock.
-fn calls_in_a_run(out: &mut [u8], call: &impl Fn(&mut [u8])) -> u64 {
-    let run = RUN.as_secs_f64() * 1e9;
-    let mut calls = 1;
-    while time(calls, out, call) * calls as f64 <= run {
-        calls *= 2;
-    }
-    calls
-}
-
-/// The time of one call in nanoseconds when `calls` are made.
-fn time(calls: u64, out: &mut [u8], call: &impl Fn(&mut [u8])) -> f64 {
-    let start = Instant::now();
-    for _ in 0..calls {
-        call(black_box(out));
-    }
-    start.elapsed().as_secs_f64() * 1e9 / calls as f64
+    time_alone("copy 65,536 bytes (memcpy)", to, copy);
 }

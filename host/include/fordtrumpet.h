@@ -1,5 +1,5 @@
 /*
- * Messages of the Block Exchange Protocol v1.0, as exported by libbep.a.
+ * Messages and tables of the Block Exchange Protocol v1.0, as exported by libbep.a.
  *
  * Slices. A run of bytes is given as a pointer and a length. The pointer must never be NULL, not
  * even where the length is 0: point at any byte then. A lent buffer (out) must not overlap any
@@ -164,6 +164,32 @@ uint32_t bep_file(const uint8_t *files, size_t files_len, size_t at, uint64_t an
  * It checks bounds alone. Returns 0, or 1 and all zeros where the fields aren't wholly there.
  */
 uint32_t bep_option(const uint8_t *options, size_t options_len, size_t at, uint64_t answer[5]);
+
+/*
+ * Tables. A good table is a FileInfo array that exactly fills its bytes, names rising bytewise, of at
+ * most 512 records and 65,536 bytes. The empty table is four zero bytes.
+ */
+
+/* Whether bytes are a good table. Returns 0, or 15. */
+uint32_t bep_check_table(const uint8_t *table, size_t table_len);
+
+/*
+ * Compares the record at place i of one array with that at place j of another, by which is newer:
+ * Modified as a signed number; then Version; then valid over invalid; then deleted over undeleted;
+ * then the encoded bytes from Flags to the end. Names don't count. answer[0] is 0 where the first is
+ * the older, 1 where they are equal, 2 where it is the newer.
+ *
+ * It checks bounds alone. Returns 0, or 1 and zero where the fields of one aren't wholly there.
+ */
+uint32_t bep_compare(const uint8_t *a, size_t a_len, size_t i,
+                     const uint8_t *b, size_t b_len, size_t j, uint64_t answer[1]);
+
+/*
+ * Fills the buffer with the merged table of two: the newest record of each name. The two may be one.
+ * Refused with 15, 19 or 14, in this order. answer[0] is the number of bytes filled, or 0.
+ */
+uint32_t bep_merge(uint8_t *out, size_t out_len, const uint8_t *a, size_t a_len,
+                   const uint8_t *b, size_t b_len, uint64_t answer[1]);
 
 #ifdef __cplusplus
 }

@@ -102,4 +102,32 @@ unsafe extern "C" {
         at: usize,
         answer: *mut [u64; 5],
     ) -> u32;
+
+    /// Whether bytes are a good table: gives 0, or 15.
+    pub fn bep_check_table(table: *const u8, table_len: usize) -> u32;
+
+    /// Compares the record at a place of one array with that at a place of another, by bounds checks
+    /// alone: `answer[0]` is 0 where the first is older, 1 where they are equal, 2 where it is newer.
+    /// Gives 1, and 0, where the fields of one aren't wholly there.
+    pub fn bep_compare(
+        a: *const u8,
+        a_len: usize,
+        i: usize,
+        b: *const u8,
+        b_len: usize,
+        j: usize,
+        answer: *mut [u64; 1],
+    ) -> u32;
+
+    /// Fills the buffer with the merged table of two. `answer[0]` is the number of bytes filled, or
+    /// the place of the refusal, which is 0.
+    pub fn bep_merge(
+        out: *mut u8,
+        out_len: usize,
+        a: *const u8,
+        a_len: usize,
+        b: *const u8,
+        b_len: usize,
+        answer: *mut [u64; 1],
+    ) -> u32;
 }

@@ -1,4 +1,4 @@
-//! Messages of the Block Exchange Protocol v1.0.
+//! Messages and tables of the Block Exchange Protocol v1.0.
 //!
 //! The reading and the writing are done by a verified static library, `libbep.a`; this crate gives
 //! them in Rust's own terms. What the library asks of its callers, such as pointers that aren't null
@@ -7,6 +7,9 @@
 //! [`read`] gives a [`Message`] that borrows its fields from the input. The `write_*` functions fill
 //! the start of a lent buffer; they are given arrays encoded, as [`FilesBuilder`] and
 //! [`OptionsBuilder`] make them. What is refused comes back as a [`Refusal`] with a number and a place.
+//!
+//! A [`Table`] is what a device has: its records, one a name. [`merge`] puts the newest records of two
+//! tables together, and whatever order tables are merged in, the result is the same.
 //!
 //! Names and other strings are bytes: the protocol's text rule lets through some that aren't UTF-8.
 //!
@@ -44,6 +47,7 @@ mod ffi;
 mod message;
 mod records;
 mod refusal;
+mod table;
 mod write;
 
 pub use builders::{FilesBuilder, OptionsBuilder};
@@ -53,6 +57,7 @@ pub use records::{
     KeyValuesIter,
 };
 pub use refusal::Refusal;
+pub use table::{compare, is_good, merge, Table, MAX_TABLE};
 pub use write::{
     write_index, write_index_update, write_options, write_ping, write_pong, write_request,
     write_response,

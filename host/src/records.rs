@@ -136,8 +136,10 @@ impl<'a> Iterator for FilesIter<'a> {
         let number = unsafe { ffi::bep_file(bytes.as_ptr(), bytes.len(), self.at, &mut answer) };
         assert_eq!(number, 0, "an accepted array holds all its records");
         let [end, name, name_len, flags, modified, version, _, first_block] = answer;
+        let start = self.at;
         self.at = size(end);
         Some(FileInfo {
+            bytes: &bytes[start..self.at],
             name: span(bytes, name, name_len),
             flags: Flags(word(flags)),
             modified: modified.cast_signed(),
@@ -169,6 +171,24 @@ pub struct FileInfo<'a> {
     pub version: u32,
     /// The blocks, up to 1,024. A deleted file has none.
     pub blocks: Blocks<'a>,
+    /// The whole record.
+    bytes: &'a [u8],
+}
+
+impl<'a> FileInfo<'a> {
+    /// The encoded record.
+    ///
+    /// ```
+    /// # use fordtrumpet::*;
+    /// # let mut array = FilesBuilder::new();
+    /// # array.push(b"a", Flags(Flags::DELETED), 5, 0, []);
+    /// # let table = Table::new(array.as_bytes()).unwrap();
+    /// # let file = table.files().iter().next().unwrap();
+    /// assert_eq!(file.as_bytes().len(), 28);
+    /// ```
+    pub fn as_bytes(&self) -> &'a [u8] {
+        self.bytes
+    }
 }
 
 /// The flags of a file.

@@ -1,18 +1,24 @@
-//! A second implementation of the messages, in plain Rust, for tests and benchmarks only.
+//! A second implementation of the library, in plain Rust, for tests and benchmarks only.
 //!
 //! It shares no code with the library or its wrapper. Tests compare the two answer by answer and
 //! benchmarks compare their speed.
 
 // Each test program uses its own part of this module.
-#![allow(dead_code)]
+#![allow(dead_code, unused_imports)]
 
 mod fields;
+mod queue;
 mod read;
 mod records;
+mod table;
+mod want;
 mod write;
 
+pub use queue::{Answered, Outcome, Queue, Request as Outstanding};
 pub use read::{read, Body, Message};
 pub use records::{file_at, option_at, File, KeyValue};
+pub use table::{accept, compare, is_good, merge, step, MAX_TABLE};
+pub use want::{find_local, request_list, serve, Serving};
 pub use write::{
     write_index, write_index_update, write_options, write_ping, write_pong, write_request,
     write_response,
@@ -62,6 +68,8 @@ pub const BLOCK_LEN: usize = 40;
 
 /// The flag of a deleted file.
 pub const DELETED: u32 = 4096;
+/// The flag of an invalid file.
+pub const INVALID: u32 = 8192;
 /// The flags that must be zero.
 pub const RESERVED_FLAGS: u32 = 0xFFFF_C000;
 

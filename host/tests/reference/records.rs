@@ -15,8 +15,9 @@ pub fn files(reader: &mut Reader) -> Result<u32, Refusal> {
     Ok(count)
 }
 
-fn file(reader: &mut Reader) -> Result<(), Refusal> {
-    reader.name(MAX_NAME)?;
+/// Checks one record and passes over it. Gives its name.
+pub fn file(reader: &mut Reader) -> Result<Span, Refusal> {
+    let name = reader.name(MAX_NAME)?;
     let place = reader.place();
     let flags = reader.word()?;
     if flags & RESERVED_FLAGS != 0 {
@@ -29,7 +30,8 @@ fn file(reader: &mut Reader) -> Result<(), Refusal> {
     if flags & DELETED != 0 && count > 0 {
         return Err(Refusal::new(12, place));
     }
-    blocks(reader, count as usize)
+    blocks(reader, count as usize)?;
+    Ok(name)
 }
 
 fn blocks(reader: &mut Reader, count: usize) -> Result<(), Refusal> {

@@ -4,10 +4,10 @@ use super::draft::Draft;
 use fordtrumpet::{Message, Read, Refusal};
 
 #[path = "../../src/ffi.rs"]
-mod ffi;
+pub mod ffi;
 
 /// What answers start out as, so that a word left unset shows.
-const UNSET: u64 = 0xA5A5_A5A5_A5A5_A5A5;
+pub const UNSET: u64 = 0xA5A5_A5A5_A5A5_A5A5;
 
 /// A number and the words of an answer.
 pub type Answer<const N: usize> = (u32, [u64; N]);

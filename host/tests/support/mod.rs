@@ -1,7 +1,7 @@
 //! What the tests and benchmarks share.
 
 // Each test program uses its own part of this module.
-#![allow(dead_code)]
+#![allow(dead_code, unused_imports)]
 
 pub mod compare;
 pub mod damage;
@@ -10,3 +10,5 @@ pub mod encode;
 pub mod generate;
 pub mod library;
 pub mod random;
+pub mod table_calls;
+pub mod tables;

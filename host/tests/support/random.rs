@@ -33,6 +33,10 @@ impl Random {
         from[self.below(from.len())]
     }
 
+    pub fn pick_from<'a, T>(&mut self, from: &'a [T]) -> &'a T {
+        &from[self.below(from.len())]
+    }
+
     pub fn fill(&mut self, bytes: &mut [u8]) {
         for chunk in bytes.chunks_mut(8) {
             let word = self.next().to_le_bytes();

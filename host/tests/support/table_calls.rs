@@ -1,0 +1,160 @@
+//! Compares the calls on tables with the reference.
+
+use super::compare::{same, same_bytes, Compared};
+use super::library::{ffi, Answer, UNSET};
+use super::random::Random;
+use crate::reference;
+use std::cmp::Ordering;
+use std::collections::BTreeMap;
+
+/// The calls under test. Faults are planted by exchanging one of them.
+#[derive(Clone, Copy)]
+pub struct TableCalls {
+    pub is_good: fn(&[u8]) -> bool,
+    pub compare: fn(&[u8], usize, &[u8], usize) -> Answer<1>,
+    pub merge: fn(&[u8], &[u8], &mut [u8]) -> Answer<1>,
+}
+
+/// The library as it is.
+pub const TABLE_CALLS: TableCalls = TableCalls {
+    is_good: fordtrumpet::is_good,
+    compare,
+    merge,
+};
+
+fn compare(a: &[u8], i: usize, b: &[u8], j: usize) -> Answer<1> {
+    let mut answer = [UNSET];
+    // SAFETY: each pointer and length are those of one slice.
+    let number =
+        unsafe { ffi::bep_compare(a.as_ptr(), a.len(), i, b.as_ptr(), b.len(), j, &mut answer) };
+    (number, answer)
+}
+
+fn merge(a: &[u8], b: &[u8], out: &mut [u8]) -> Answer<1> {
+    filled(fordtrumpet::merge(a, b, out))
+}
+
+/// An answer of the safe side, which gives all there is in it.
+fn filled(answer: Result<usize, fordtrumpet::Refusal>) -> Answer<1> {
+    match answer {
+        Ok(len) => (0, [len as u64]),
+        Err(refusal) => (refusal.number, [refusal.place as u64]),
+    }
+}
+
+/// What the reference answered, in the same words.
+pub fn expected(answer: Result<usize, reference::Refusal>) -> Answer<1> {
+    match answer {
+        Ok(len) => (0, [len as u64]),
+        Err(refusal) => (refusal.number, [refusal.place as u64]),
+    }
+}
+
+/// Compares and counts.
+pub struct TableComparison {
+    calls: TableCalls,
+    /// The number of calls compared.
+    pub compared: u64,
+    /// How often a call answered with a number.
+    pub seen: BTreeMap<(&'static str, u32), u64>,
+}
+
+impl TableComparison {
+    pub fn new(calls: TableCalls) -> Self {
+        TableComparison {
+            calls,
+            compared: 0,
+            seen: BTreeMap::new(),
+        }
+    }
+
+    fn met(&mut self, call: &'static str, number: u32) {
+        self.compared += 1;
+        *self.seen.entry((call, number)).or_default() += 1;
+    }
+
+    pub fn is_good(&mut self, table: &[u8]) -> Compared {
+        let good = reference::is_good(table);
+        self.met("is_good", u32::from(good));
+        same("is_good", &(self.calls.is_good)(table), &good)
+    }
+
+    /// The records at two places.
+    pub fn compare(&mut self, a: &[u8], i: usize, b: &[u8], j: usize) -> Compared {
+        let expected = match (reference::file_at(a, i), reference::file_at(b, j)) {
+            (Some(f), Some(g)) => match reference::compare(a, &f, b, &g) {
+                Ordering::Less => (0, [0]),
+                Ordering::Equal => (0, [1]),
+                Ordering::Greater => (0, [2]),
+            },
+            _ => (1, [0]),
+        };
+        self.met("compare", expected.0);
+        same("bep_compare", &(self.calls.compare)(a, i, b, j), &expected)
+    }
+
+    /// Each record of one table with each of another.
+    pub fn compare_all(&mut self, a: &[u8], b: &[u8]) -> Compared {
+        let mut i = 4;
+        while let Some(f) = reference::file_at(a, i) {
+            let mut j = 4;
+            while let Some(g) = reference::file_at(b, j) {
+                self.compare(a, i, b, j)?;
+                j = g.end;
+            }
+            i = f.end;
+        }
+        self.compare(a, i, b, 4)
+    }
+
+    /// Merges into buffers that fit, are too short and are longer.
+    pub fn merge(&mut self, a: &[u8], b: &[u8], random: &mut Random) -> Compared {
+        let room = a.len() + b.len() + random.below(9);
+        let calls = self.calls;
+        let call = |out: &mut [u8]| (calls.merge)(a, b, out);
+        let reference = |out: &mut [u8]| expected(reference::merge(a, b, out));
+        self.fill_all("merge", room, random, call, reference)
+    }
+
+    /// A call that fills a buffer, with one that is large enough, one that just fits and some that don't.
+    pub fn fill_all(
+        &mut self,
+        what: &'static str,
+        room: usize,
+        random: &mut Random,
+        call: impl Fn(&mut [u8]) -> Answer<1>,
+        reference: impl Fn(&mut [u8]) -> Answer<1>,
+    ) -> Compared {
+        let answer = self.fill(what, room, random, &call, &reference)?;
+        let len = match answer {
+            (0, [len]) => len as usize,
+            _ => random.below(room + 1),
+        };
+        for room in [len, len.saturating_sub(1), random.below(len + 1)] {
+            self.fill(what, room, random, &call, &reference)?;
+        }
+        Ok(())
+    }
+
+    /// A call that fills a buffer of `room` bytes, which lies between bytes that must stay as they are.
+    pub fn fill(
+        &mut self,
+        what: &'static str,
+        room: usize,
+        random: &mut Random,
+        call: impl Fn(&mut [u8]) -> Answer<1>,
+        reference: impl Fn(&mut [u8]) -> Answer<1>,
+    ) -> Result<Answer<1>, String> {
+        let start = random.below(8);
+        let lent = start..start + room;
+        let before = random.bytes(start + room + 8);
+        let mut memory = before.clone();
+        let answer = call(&mut memory[lent.clone()]);
+        let mut expected_memory = before;
+        let expected = reference(&mut expected_memory[lent]);
+        self.met(what, expected.0);
+        same(what, &answer, &expected)?;
+        same_bytes("memory", &memory, &expected_memory)?;
+        Ok(expected)
+    }
+}
