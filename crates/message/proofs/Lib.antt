@@ -1,2 +1,3 @@
 -- Laws of messages.
 pub mod ByKind
+pub mod MessageNumbers

@@ -16,4 +16,5 @@ pub mod TextRule
 pub mod EncodedBytes
 pub mod EncodedSize
 pub mod Corollaries
+pub mod Numbers
 pub mod BufferLaws

@@ -1,0 +1,7 @@
+-- Laws of queues.
+pub mod RequestLaws
+pub mod QueueLaws
+pub mod IssueLaws
+pub mod AnswerLaws
+mod ShiftLaws
+mod OwnedArray

@@ -1,0 +1,45 @@
+// An outstanding request, and how one follows another.
+ghost use mathlib.Core.Path.{_≡_};
+ghost use mathlib.Core.List.{_++_, [], _∷_};
+ghost use lib.ListN.{drop};
+ghost use Rattle.queue.specs.Requests.{after, blank, follows};
+
+pub struct Request {
+    pub id: u32,
+    pub length: u32,
+}
+
+const LAST_ID: u32 = 4095;
+
+// The ID that follows: 0 after 4095.
+pub fn following(id: u32) -> u32
+    ensures { λ r. ⌜ r ≡ after id ⌝ }
+{
+    if id < LAST_ID { id + 1 } else { 0 }
+}
+
+// Whether a request can stand before one with the ID `next`.
+pub fn stands_before(e: Request, next: u32) -> bool
+    ensures { λ r. ⌜ r ≡ follows e next ⌝ }
+{
+    if LAST_ID < e.id {
+        return false;
+    }
+    if following(e.id) != next {
+        return false;
+    }
+    message_write::check::is_size(e.length)
+}
+
+// The requests moved down by one, over the first.
+pub fn shifted(entries: [Request; 16]) -> [Request; 16]
+    ensures { λ r. ⌜ r ≡ drop 1 entries ++ (blank ∷ []) ⌝ }
+{
+    let mut out = entries;
+    for i in 0..15 {
+        let e = entries[i + 1];
+        out[i] = e;
+    }
+    out[15] = Request { id: 0, length: 0 };
+    out
+}
