@@ -36,7 +36,7 @@ fitted-mapped f room m (taken v n) = refl
 fitted-mapped f room m (refused k p) = refl
 
 -- what is written goes by the reading of the body
-by-body : (id k : ℕ) (b : List ℕ) (room : ℕ) → id ≤ 4095 → 1 ≤ k → k ≤ 7
+pub by-body : (id k : ℕ) (b : List ℕ) (room : ℕ) → id ≤ 4095 → 1 ≤ k → k ≤ 7
     → writing id k b room ≡ fitted room (messageBytes id k b) (shifted 4 (read (body (kindOf k)) b))
 unfolding writing readAt
 by-body id k b room h p q =

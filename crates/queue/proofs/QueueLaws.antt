@@ -18,13 +18,16 @@ use Rattle.queue.proofs.RequestLaws.{both, Passed}
 
 pub tally-done : (q : RequestQueue) (i follower sum : ℕ) → i ≤ 0 → shapeFits q ≡ true
     → Passed (slice i (q .count) (q .entries)) (q .next) follower sum → Bytes sum ≡ orderlyBytes q
+unfolding isOrderly
 tally-done q zero follower sum z s p = rw (s, p .ordered, p .summed)
 tally-done q (suc i) follower sum z s p = absurd (omega arith)
 
 pub tally-shape : (q : RequestQueue) → shapeFits q ≡ false → Unsound ≡ orderlyBytes q
+unfolding isOrderly
 tally-shape q s = rw s
 
 pub tally-not : (q : RequestQueue) → inOrder (outstanding q) (q .next) ≡ false → Unsound ≡ orderlyBytes q
+unfolding isOrderly
 tally-not q e = rw (e, and-false (shapeFits q))
 
 pub shape-count : (q : RequestQueue) → shapeFits q ≡ true → q .count ≤ 16
@@ -49,9 +52,11 @@ pub tally-unsound : (q : RequestQueue) → Unsound ≡ orderlyBytes q → isOrde
 tally-unsound q e = unsound-of (isOrderly q) (total (outstanding q)) e
 
 pub sound-unsound : (q : RequestQueue) → Unsound ≡ orderlyBytes q → isSound q ≡ false
+unfolding isSound
 sound-unsound q e = rw (tally-unsound q e)
 
 pub sound-bytes : (q : RequestQueue) (n : ℕ) → Bytes n ≡ orderlyBytes q → leb n allowance ≡ isSound q
+unfolding isSound
 sound-bytes q n e = let h = tally-bytes q n e in rw (h .0, h .1)
 
 -- the tally of a sound queue
@@ -78,6 +83,7 @@ pub record Sound (q : RequestQueue) : Type 0 where
   pub within : total (outstanding q) ≤ allowance
 
 pub sound-facts : (q : RequestQueue) → isSound q ≡ true → Sound q
+unfolding isSound isOrderly
 sound-facts q s =
     let a = both (isOrderly q) (leb (total (outstanding q)) allowance) s in
     let b = both (shapeFits q) (inOrder (outstanding q) (q .next)) (a .0) in
@@ -94,6 +100,7 @@ sound-facts q s =
     }
 
 pub sound-made : (q : RequestQueue) → Sound q → isSound q ≡ true
+unfolding isSound isOrderly
 sound-made q s =
     rw (le-leb _ _ (s .low), le-leb _ _ (s .high), le-leb _ _ (s .held), le-leb _ _ (s .next-id), s .ordered, le-leb _ _ (s .within))
 
@@ -106,6 +113,7 @@ pub record Orderly (q : RequestQueue) : Type 0 where
   pub ordered : inOrder (outstanding q) (q .next) ≡ true
 
 pub orderly-facts : (q : RequestQueue) → isOrderly q ≡ true → Orderly q
+unfolding isOrderly
 orderly-facts q o =
     let b = both (shapeFits q) (inOrder (outstanding q) (q .next)) o in
     let w = both (windowFits (q .window)) (leb (q .count) (q .window) && leb (q .next) 4095) (b .0) in
@@ -120,6 +128,7 @@ orderly-facts q o =
     }
 
 pub orderly-made : (q : RequestQueue) → Orderly q → isOrderly q ≡ true
+unfolding isOrderly
 orderly-made q s = rw (le-leb _ _ (s .low), le-leb _ _ (s .high), le-leb _ _ (s .held), le-leb _ _ (s .next-id), s .ordered)
 
 -- the oldest of the outstanding requests

@@ -43,13 +43,13 @@ abbrev pub shapeFits : RequestQueue → Bool
 shapeFits q = windowFits (q .window) && (leb (q .count) (q .window) && leb (q .next) 4095)
 
 -- sound but for the allowance
-abbrev pub isOrderly : RequestQueue → Bool
+unfoldable pub isOrderly : RequestQueue → Bool
 isOrderly q = shapeFits q && inOrder (outstanding q) (q .next)
 
 abbrev pub orderlyBytes : RequestQueue → Tally
 orderlyBytes q = cond (isOrderly q) (Bytes (total (outstanding q))) Unsound
 
-abbrev pub isSound : RequestQueue → Bool
+unfoldable pub isSound : RequestQueue → Bool
 isSound q = isOrderly q && leb (total (outstanding q)) allowance
 
 abbrev pub soundBytes : RequestQueue → Tally

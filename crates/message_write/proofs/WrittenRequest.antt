@@ -1,0 +1,52 @@
+-- A Request that is written has a Length within its limits.
+use Prim.Native.Nat.{ℕ, _≤_}
+use mathlib.Core.List.{List, [], append-nil}
+use mathlib.Core.Path.{_≡_, refl, sym, ap, _∙_}
+use mathlib.Core.Bool.{Bool, true, false, cond}
+use native.Mathlib.Omega.{arith}
+use lib.ListN.{take, length}
+use lib.Dec.{leb}
+use Rattle.xdr.specs.Reading.{Reading, taken, refused, shifted}
+use Rattle.xdr.specs.Format.{read, readAt, encode}
+use Rattle.xdr.proofs.Steps.{Reads, shifted-zero}
+use Rattle.xdr.proofs.Parts.{pair-parts, test-passed}
+use Rattle.xdr.proofs.Told.{Wide, Fate, whole, fault, readBack, told}
+use Rattle.record.specs.Block.{isSize}
+use Rattle.message.specs.Message.{Body, isRequest, request}
+use Rattle.message_write.specs.Writing.{messageBytes, requestBytes, fitted, writing}
+use Rattle.message_write.proofs.WritingLaws.{by-body}
+
+wide-request : Wide request
+unfolding Wide
+wide-request = (omega arith, λ r. (omega arith, λ n. (omega arith, λ o. (omega arith, λ l. omega arith))))
+
+module _ (r n : List ℕ) (o s : ℕ) (h : List ℕ) where
+  abbrev fields : Body isRequest
+  fields = (r, (n, (o, (s, h))))
+
+  -- the fields read back as themselves, if they are taken
+  reads-itself : (v : Body isRequest) (k : ℕ) → read request (requestBytes r n o s h) ≡ taken v k → Reads request (requestBytes r n o s h) 0 (taken fields k)
+  unfolding encode readAt
+  reads-itself v k e =
+      let t = told request fields wide-request in
+      let back : read request (requestBytes r n o s h) ≡ readBack request fields = ap (read request) (sym (append-nil (requestBytes r n o s h))) ∙ t .reads [] in
+      record { is = shifted-zero (read request (requestBytes r n o s h)) ∙ go (readBack request fields) (t .fate) back }
+    where
+      go : (x : Reading (Body isRequest)) → Fate fields (length (encode request fields)) x → read request (requestBytes r n o s h) ≡ x → read request (requestBytes r n o s h) ≡ taken fields k
+      go x whole p = let same : length (encode request fields) ≡ k = cc in p ∙ ap (λ (i : ℕ). taken fields i) same
+      go x (fault a b) p = let z : _≡_ {A = ℕ} 0 1 = cc in absurd (omega arith)
+
+  sized : (v : Body isRequest) (k : ℕ) → read request (requestBytes r n o s h) ≡ taken v k → isSize s ≡ true
+  sized v k e =
+      let a = pair-parts (reads-itself v k e) in
+      let b = pair-parts (a .2) in
+      let c = pair-parts (b .2) in
+      let d = pair-parts (c .2) in
+      test-passed (d .1)
+
+  pub written-size : (id room : ℕ) (l : List ℕ) (k : ℕ) → id ≤ 4095 → writing id 2 (requestBytes r n o s h) room ≡ taken l k → isSize s ≡ true
+  written-size id room l k i e = go (read request (requestBytes r n o s h)) refl (sym (by-body id 2 (requestBytes r n o s h) room i (omega arith) (omega arith)) ∙ e)
+    where
+      go : (x : Reading (Body isRequest)) → read request (requestBytes r n o s h) ≡ x → fitted room (messageBytes id 2 (requestBytes r n o s h)) (shifted 4 x) ≡ taken l k → isSize s ≡ true
+      go (taken v u) p q = sized v u p
+      go (refused a b) p q = let z : _≡_ {A = ℕ} 0 1 = cc in absurd (omega arith)
