@@ -55,7 +55,7 @@ insert-rising f (g ∷ l) r = go (compareLists (f .name) (g .name)) refl (insert
 
 -- which names there are
 
-named-swap : (a b c : Bool) → cond a true (cond b true c) ≡ cond b true (cond a true c)
+pub named-swap : (a b c : Bool) → cond a true (cond b true c) ≡ cond b true (cond a true c)
 named-swap true true c = refl
 named-swap true false c = refl
 named-swap false b c = refl

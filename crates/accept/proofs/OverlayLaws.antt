@@ -6,7 +6,7 @@ use Rattle.record.specs.File.{File}
 use Rattle.table.specs.Order.{compareLists}
 use Rattle.table.specs.declared.order.Order.{Order}
 use Rattle.table.specs.declared.order.Order.the-variants.{Less, Equal, Greater}
-use Rattle.table.proofs.OrderLaws.{Below, turned, compare-turned, equal-same, greater-above, below-trans}
+use Rattle.table.proofs.OrderLaws.{Below, equal-same, greater-above, above-greater, below-trans}
 use Rattle.table.proofs.RisingLaws.{Above}
 use Rattle.accept.specs.Resulting.{insert, byName}
 use Rattle.accept.proofs.InsertLaws.{insert-less, insert-equal, insert-greater, insert-first, by-name-more, by-name-none}
@@ -72,9 +72,6 @@ overlay-above n f g fs gs p q = go (compareLists (f .name) (g .name))
     go Less = p
     go Equal = p
     go Greater = q
-
-above-greater : (a b : List ℕ) → Below a b → compareLists b a ≡ Greater
-above-greater a b h = compare-turned a b ∙ ap turned h
 
 -- one record more of the upper ones
 module _ (f x : File) (l : List File) (ih : (gs : List File) → overlay (insert f l) gs ≡ insert f (overlay l gs)) where

@@ -16,7 +16,7 @@ use Rattle.record.specs.declared.outline.Outline.the-variants as O
 use Rattle.table.specs.Order.{isEqual, compareLists, part}
 use Rattle.table.specs.declared.order.Order.{Order}
 use Rattle.table.specs.declared.order.Order.the-variants.{Less, Equal, Greater}
-use Rattle.table.proofs.OrderLaws.{Below, turned, compare-turned, equal-same, same-equal, greater-above, below-trans}
+use Rattle.table.proofs.OrderLaws.{Below, equal-same, same-equal, greater-above, above-greater, below-trans}
 use Rattle.table.proofs.RisingLaws.{Above, Rising}
 use Rattle.table.proofs.WalkLaws.{At, standing}
 use Rattle.accept.specs.Resulting.{isNamed, insert}
@@ -77,9 +77,6 @@ beneath-last (g ∷ k ∷ a) x b n r h = let q = beneath-last (k ∷ a) x b n (r
 rising-back : (a b : List File) → Rising (a ++ b) → Rising b
 rising-back [] b r = r
 rising-back (g ∷ a) b r = rising-back a b (r .1)
-
-above-greater : (a b : List ℕ) → Below a b → compareLists b a ≡ Greater
-above-greater a b h = compare-turned a b ∙ ap turned h
 
 insert-split : (f : File) (a b : List File) → Beneath a (f .name) → Above (f .name) b → insert f (a ++ b) ≡ a ++ f ∷ b
 insert-split f [] b h k = insert-first f b k

@@ -21,14 +21,14 @@ use Rattle.table.specs.declared.order.Order.{Order}
 use Rattle.table.specs.declared.order.Order.the-variants.{Less, Equal, Greater}
 use Rattle.table.proofs.OrderLaws.{turned, compare-turned}
 use Rattle.table.proofs.RisingLaws.{Rising}
-use Rattle.table.proofs.WalkLaws.{At, array-start, at-end, standing}
+use Rattle.table.proofs.WalkLaws.{At, array-start, standing, Headed, at-whole, at-short}
 use Rattle.accept.specs.Resulting.{isNamed, insert, byName}
 use Rattle.accept.specs.Accepting.{unrepeated}
 use Rattle.accept.specs.Slots.{nameOf, slotOf}
 use Rattle.accept.specs.Sorted.{IsArray, Places, Distinct, InOrder}
 use Rattle.accept.specs.declared.slot.Slot.{Slot}
 use Rattle.accept.specs.declared.slot.Slot.the-variants.{Free, Repeated}
-use Rattle.accept.proofs.InsertLaws.{insert-rising, insert-named, by-name-more, by-name-none}
+use Rattle.accept.proofs.InsertLaws.{insert-rising, named-swap, insert-named, by-name-more, by-name-none}
 use Rattle.accept.proofs.PlaceLaws.{slot-taken, free-inside, free-new, free-placed}
 
 -- one record more at the end
@@ -39,12 +39,7 @@ by-name-last (g ∷ fs) f l = by-name-more g (fs ++ f ∷ []) l ∙ by-name-last
 
 named-last : (n : List ℕ) (l : List File) (f : File) → isNamed n (l ++ f ∷ []) ≡ cond (isEqual (compareLists n (f .name))) true (isNamed n l)
 named-last n [] f = refl
-named-last n (g ∷ l) f = ap (cond (isEqual (compareLists n (g .name))) true) (named-last n l f) ∙ swap (isEqual (compareLists n (g .name))) (isEqual (compareLists n (f .name))) (isNamed n l)
-  where
-    swap : (a b c : Bool) → cond a true (cond b true c) ≡ cond b true (cond a true c)
-    swap true true c = refl
-    swap true false c = refl
-    swap false b c = refl
+named-last n (g ∷ l) f = ap (cond (isEqual (compareLists n (g .name))) true) (named-last n l f) ∙ named-swap (isEqual (compareLists n (g .name))) (isEqual (compareLists n (f .name))) (isNamed n l)
 
 turned-equal : (o : Order) → isEqual (turned o) ≡ isEqual o
 turned-equal Less = refl
@@ -97,46 +92,28 @@ sorting-none s places a =
 module _ {s places : List ℕ} {at n : ℕ} (a : IsArray s) (l : Sorting s places at n) where
   -- no record is left
   pub sorting-all : {x : Outline} → x ≡ outlineOf s at → x ≡ O.Short → InOrder s (take n places)
-  sorting-all {x} e q = go (l .rest) refl (l .here)
-    where
-      whole : l .rest ≡ [] → l .done ≡ records s
-      whole z = sym (append-nil (l .done)) ∙ ap (λ (u : List File). l .done ++ u) (sym z) ∙ l .all
-
-      go : (fs : List File) → l .rest ≡ fs → At s at fs → InOrder s (take n places)
-      go [] z h = record {
+  sorting-all e q =
+      let z = at-short (l .here) e q in
+      let whole : l .done ≡ records s = sym (append-nil (l .done)) ∙ ap (λ (u : List File). l .done ++ u) (sym z) ∙ l .all in
+      record {
         array = a;
-        standing = subst (λ (u : List File). Places s (take n places) (byName u [])) (whole z) (l .standing);
-        distinct = subst Distinct (whole z) (l .distinct);
+        standing = subst (λ (u : List File). Places s (take n places) (byName u [])) whole (l .standing);
+        distinct = subst Distinct whole (l .distinct);
         unrefused = λ base next. l .left base next ∙ ap (λ (u : List File). unrepeated (l .before) (base + at) u next) z;
       }
-      go (f ∷ fs) z h = let w : O.Whole (fieldsOf at f) ≡ O.Short = sym (standing h .outline-is) ∙ sym e ∙ q in let y : _≡_ {A = ℕ} 0 1 = cc in absurd (omega arith)
-
-  -- the next record
-  record NextRecord (g : Fields) : Type 0 where
-    file-is : File
-    others : List File
-    is : l .rest ≡ file-is ∷ others
-    stands : At s at (file-is ∷ others)
-    fields : g ≡ fieldsOf at file-is
-
-  next-record : {x : Outline} {g : Fields} → x ≡ outlineOf s at → x ≡ O.Whole g → NextRecord g
-  next-record {x} {g} e q = go (l .rest) refl (l .here)
-    where
-      go : (fs : List File) → l .rest ≡ fs → At s at fs → NextRecord g
-      go [] z h = let w : O.Whole g ≡ O.Short = sym q ∙ e ∙ at-end h in let y : _≡_ {A = ℕ} 0 1 = cc in absurd (omega arith)
-      go (f ∷ fs) z h = let w : O.Whole g ≡ O.Whole (fieldsOf at f) = sym q ∙ e ∙ standing h .outline-is in record { file-is = f; others = fs; is = z; stands = h; fields = cc }
 
   module _ {x : Outline} {g : Fields} (e : x ≡ outlineOf s at) (q : x ≡ O.Whole g) where
-    nr : NextRecord g
-    nr = next-record e q
+    -- the next record
+    nr : Headed s at (l .rest) g
+    nr = at-whole (l .here) e q
 
-    past-is : g .past ≡ at + length (encode file (nr .file-is))
+    past-is : g .past ≡ at + length (encode file (nr .head))
     past-is = ap (λ (h : Fields). h .past) (nr .fields) ∙ standing (nr .stands) .sized
 
     pub sorting-grows : (at < g .past) × (g .past ≤ length s)
     sorting-grows =
         let p = standing (nr .stands) in
-        let m : g .past ≡ fieldsOf at (nr .file-is) .past = ap (λ (h : Fields). h .past) (nr .fields) in
+        let m : g .past ≡ fieldsOf at (nr .head) .past = ap (λ (h : Fields). h .past) (nr .fields) in
         (omega (arith, m), subst (λ (k : ℕ). k ≤ length s) (sym m) (p .next .inside))
 
     pub sorting-few : n < recordsLimit
@@ -148,12 +125,12 @@ module _ {s places : List ℕ} {at n : ℕ} (a : IsArray s) (l : Sorting s place
     pub sorting-repeated : {y : Slot} {ps : List ℕ} → ps ≡ take n places → y ≡ slotOf s ps (length ps) (nameOf s at) → y ≡ Repeated
         → (at ≤ length s) × ((base : ℕ) (next : Outcome) → unrepeated [] (base + 4) (records s) next ≡ refused 13 (base + at))
     sorting-repeated {y} {ps} h u v =
-        let w = slot-taken s ps (byName (l .done) []) (nr .file-is) at (nr .others, nr .stands) (subst (λ (p : List ℕ). Places s p (byName (l .done) [])) (sym h) (l .standing)) (l .rising) u v in (
+        let w = slot-taken s ps (byName (l .done) []) (nr .head) at (nr .tail, nr .stands) (subst (λ (p : List ℕ). Places s p (byName (l .done) [])) (sym h) (l .standing)) (l .rising) u v in (
           l .here .inside,
           λ base next.
               l .left base next
               ∙ ap (λ (r : List File). unrepeated (l .before) (base + at) r next) (nr .is)
-              ∙ ap (λ (b : Bool). cond b (refused 13 (base + at)) (unrepeated (nr .file-is ∷ l .before) (base + at + length (encode file (nr .file-is))) (nr .others) next)) (sym (l .names (nr .file-is .name)) ∙ w),
+              ∙ ap (λ (b : Bool). cond b (refused 13 (base + at)) (unrepeated (nr .head ∷ l .before) (base + at + length (encode file (nr .head))) (nr .tail) next)) (sym (l .names (nr .head .name)) ∙ w),
         )
 
     module _ {y : Slot} {ps : List ℕ} {j : ℕ} (h : ps ≡ take n places) (u : y ≡ slotOf s ps (length ps) (nameOf s at)) (v : y ≡ Free j) where
@@ -161,37 +138,37 @@ module _ {s places : List ℕ} {at n : ℕ} (a : IsArray s) (l : Sorting s place
       stands-so = subst (λ (p : List ℕ). Places s p (byName (l .done) [])) (sym h) (l .standing)
 
       pub sorting-slot : j ≤ length ps
-      sorting-slot = free-inside s ps (byName (l .done) []) (nr .file-is) at (nr .others, nr .stands) stands-so (l .rising) u v
+      sorting-slot = free-inside s ps (byName (l .done) []) (nr .head) at (nr .tail, nr .stands) stands-so (l .rising) u v
 
-      new : isNamed (nr .file-is .name) (byName (l .done) []) ≡ false
-      new = free-new s ps (byName (l .done) []) (nr .file-is) at (nr .others, nr .stands) stands-so (l .rising) u v
+      new : isNamed (nr .head .name) (byName (l .done) []) ≡ false
+      new = free-new s ps (byName (l .done) []) (nr .head) at (nr .tail, nr .stands) stands-so (l .rising) u v
 
-      sorted-last : byName (l .done ++ nr .file-is ∷ []) [] ≡ insert (nr .file-is) (byName (l .done) [])
-      sorted-last = by-name-last (l .done) (nr .file-is) []
+      sorted-last : byName (l .done ++ nr .head ∷ []) [] ≡ insert (nr .head) (byName (l .done) [])
+      sorted-last = by-name-last (l .done) (nr .head) []
 
       names-more : (x : List ℕ) {b : Bool} → isNamed x (byName (l .done) []) ≡ b
-          → isNamed x (byName (l .done ++ nr .file-is ∷ []) []) ≡ cond (isEqual (compareLists x (nr .file-is .name))) true b
-      names-more x k = ap (isNamed x) sorted-last ∙ insert-named x (nr .file-is) (byName (l .done) []) ∙ ap (cond (isEqual (compareLists x (nr .file-is .name))) true) k
+          → isNamed x (byName (l .done ++ nr .head ∷ []) []) ≡ cond (isEqual (compareLists x (nr .head .name))) true b
+      names-more x k = ap (isNamed x) sorted-last ∙ insert-named x (nr .head) (byName (l .done) []) ∙ ap (cond (isEqual (compareLists x (nr .head .name))) true) k
 
       pub sorting-more : {places′ : List ℕ} → take (n + 1) places′ ≡ take j (take n places) ++ (at ∷ drop j (take n places)) → Sorting s places′ (g .past) (n + 1)
       sorting-more {places′} k = record {
-        done = l .done ++ nr .file-is ∷ [];
-        rest = nr .others;
-        all = append-snoc (l .done) (nr .file-is) (nr .others) ∙ ap (λ (r : List File). l .done ++ r) (sym (nr .is)) ∙ l .all;
-        here = subst (λ (p : ℕ). At s p (nr .others)) (sym (ap (λ (h : Fields). h .past) (nr .fields))) (standing (nr .stands) .next);
-        counted = length-append (l .done) (nr .file-is ∷ []) ∙ ap (λ (i : ℕ). i + 1) (l .counted);
+        done = l .done ++ nr .head ∷ [];
+        rest = nr .tail;
+        all = append-snoc (l .done) (nr .head) (nr .tail) ∙ ap (λ (r : List File). l .done ++ r) (sym (nr .is)) ∙ l .all;
+        here = subst (λ (p : ℕ). At s p (nr .tail)) (sym (ap (λ (h : Fields). h .past) (nr .fields))) (standing (nr .stands) .next);
+        counted = length-append (l .done) (nr .head ∷ []) ∙ ap (λ (i : ℕ). i + 1) (l .counted);
         standing =
-            subst (λ (p : List ℕ). Places s p (byName (l .done ++ nr .file-is ∷ []) [])) (sym (k ∙ ap (λ (p : List ℕ). take j p ++ (at ∷ drop j p)) (sym h)))
+            subst (λ (p : List ℕ). Places s p (byName (l .done ++ nr .head ∷ []) [])) (sym (k ∙ ap (λ (p : List ℕ). take j p ++ (at ∷ drop j p)) (sym h)))
             (subst (Places s (take j ps ++ (at ∷ drop j ps))) (sym sorted-last)
-            (free-placed s ps (byName (l .done) []) (nr .file-is) at (nr .others, nr .stands) stands-so (l .rising) u v));
-        rising = subst Rising (sym sorted-last) (insert-rising (nr .file-is) (byName (l .done) []) (l .rising));
-        distinct = distinct-last (l .done) (nr .file-is) (l .distinct) (sym (l .names-done (nr .file-is .name)) ∙ new);
-        before = nr .file-is ∷ l .before;
+            (free-placed s ps (byName (l .done) []) (nr .head) at (nr .tail, nr .stands) stands-so (l .rising) u v));
+        rising = subst Rising (sym sorted-last) (insert-rising (nr .head) (byName (l .done) []) (l .rising));
+        distinct = distinct-last (l .done) (nr .head) (l .distinct) (sym (l .names-done (nr .head .name)) ∙ new);
+        before = nr .head ∷ l .before;
         names = λ x. names-more x (l .names x);
-        names-done = λ x. names-more x (l .names-done x) ∙ sym (named-last x (l .done) (nr .file-is));
+        names-done = λ x. names-more x (l .names-done x) ∙ sym (named-last x (l .done) (nr .head));
         left = λ base next.
             l .left base next
             ∙ ap (λ (r : List File). unrepeated (l .before) (base + at) r next) (nr .is)
-            ∙ ap (λ (b : Bool). cond b (refused 13 (base + at)) (unrepeated (nr .file-is ∷ l .before) (base + at + length (encode file (nr .file-is))) (nr .others) next)) (sym (l .names (nr .file-is .name)) ∙ new)
-            ∙ ap (λ (p : ℕ). unrepeated (nr .file-is ∷ l .before) p (nr .others) next) (add-assoc base at (length (encode file (nr .file-is))) ∙ ap (λ (p : ℕ). base + p) (sym past-is));
+            ∙ ap (λ (b : Bool). cond b (refused 13 (base + at)) (unrepeated (nr .head ∷ l .before) (base + at + length (encode file (nr .head))) (nr .tail) next)) (sym (l .names (nr .head .name)) ∙ new)
+            ∙ ap (λ (p : ℕ). unrepeated (nr .head ∷ l .before) p (nr .tail) next) (add-assoc base at (length (encode file (nr .head))) ∙ ap (λ (p : ℕ). base + p) (sym past-is));
       }

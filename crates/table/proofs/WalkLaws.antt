@@ -9,6 +9,8 @@ use Rattle.xdr.specs.Format.{encode}
 use Rattle.xdr.specs.Fields.{word}
 use Rattle.record.specs.File.{File, file, fromFlags}
 use Rattle.record.specs.Outline.{wordAt, outlineOf, fieldsOf}
+use Rattle.record.specs.declared.outline.Fields.{Fields}
+use Rattle.record.specs.declared.outline.Outline.{Outline}
 use Rattle.record.specs.declared.outline.Outline.the-variants as O
 use Rattle.record.proofs.FileLaws.{encoding-parts, encoding-rest}
 use Rattle.record.proofs.OutlineLaws.{outline-cut}
@@ -86,3 +88,22 @@ pub compared-there : {s t : List ℕ} {i j : ℕ} {f g : File} {fs gs : List Fil
     → compareAt s (fieldsOf i f) t (fieldsOf j g) ≡ compareFiles f g
 unfolding compareAt compareFiles
 compared-there u w = rw (key-is u, key-is w) refl
+
+-- which records are left, by the outline that was answered
+
+pub record Headed (t : List ℕ) (at : ℕ) (fs : List File) (g : Fields) : Type 0 where
+  pub head : File
+  pub tail : List File
+  pub is : fs ≡ head ∷ tail
+  pub stands : At t at (head ∷ tail)
+  pub fields : g ≡ fieldsOf at head
+
+pub at-whole : {t : List ℕ} {at : ℕ} {fs : List File} {x : Outline} {g : Fields} → At t at fs → x ≡ outlineOf t at → x ≡ O.Whole g → Headed t at fs g
+at-whole {fs = []} {g = g} w e q = let k : O.Whole g ≡ O.Short = sym q ∙ e ∙ at-end w in let z : _≡_ {A = ℕ} 0 1 = cc in absurd (omega arith)
+at-whole {at = at} {fs = f ∷ fs} {g = g} w e q =
+    let k : O.Whole g ≡ O.Whole (fieldsOf at f) = sym q ∙ e ∙ standing w .outline-is in
+    record { head = f; tail = fs; is = refl; stands = w; fields = cc }
+
+pub at-short : {t : List ℕ} {at : ℕ} {fs : List File} {x : Outline} → At t at fs → x ≡ outlineOf t at → x ≡ O.Short → fs ≡ []
+at-short {fs = []} w e q = refl
+at-short {at = at} {fs = f ∷ fs} w e q = let k : O.Whole (fieldsOf at f) ≡ O.Short = sym (standing w .outline-is) ∙ sym e ∙ q in let z : _≡_ {A = ℕ} 0 1 = cc in absurd (omega arith)

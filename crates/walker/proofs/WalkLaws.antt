@@ -1,5 +1,5 @@
 -- Walking from record to record up to a place.
-use Prim.Native.Nat.{ℕ, _+_, _-_, _≤_, _<_}
+use Prim.Native.Nat.{ℕ, _+_, _-_, _<_}
 use mathlib.Core.List.{List, [], _∷_}
 use mathlib.Core.Path.{_≡_, refl, sym, ap, subst, _∙_}
 use mathlib.Core.Bool.{true, false}
@@ -15,7 +15,7 @@ use Rattle.record.specs.declared.outline.Outline.{Outline}
 use Rattle.record.specs.declared.outline.Outline.the-variants as O
 use Rattle.table.specs.Table.{isGood, records}
 use Rattle.table.proofs.TableLaws.{good-table}
-use Rattle.table.proofs.WalkLaws.{At, at-start, at-end, standing}
+use Rattle.table.proofs.WalkLaws.{At, at-start, standing, Headed, at-whole, at-short}
 use Rattle.walker.specs.Walk.{bad, stepAmong, stepAt}
 use Rattle.walker.specs.declared.Step.the-variants.{Record, End}
 
@@ -45,39 +45,28 @@ module _ {t : List ℕ} {at place : ℕ} (c : Come t at place) where
   -- by the outline that was answered
 
   pub come-end : {x : Outline} → place < at → x ≡ outlineOf t place → x ≡ O.Short → bad ≡ stepAt t at
-  come-end {x} h e q = go (c .rest) refl (c .here)
-    where
-      go : (fs : List File) → c .rest ≡ fs → At t place fs → bad ≡ stepAt t at
-      go [] z w = sym (c .left ∙ ap (λ (l : List File). stepAmong l place at) z ∙ rw (ne-eqb place at (λ e. omega arith)) refl)
-      go (f ∷ fs) z w = let k : O.Whole (fieldsOf place f) ≡ O.Short = sym (standing w .outline-is) ∙ sym e ∙ q in let y : _≡_ {A = ℕ} 0 1 = cc in absurd (omega arith)
+  come-end h e q = sym (c .left ∙ ap (λ (l : List File). stepAmong l place at) (at-short (c .here) e q) ∙ rw (ne-eqb place at (λ e. omega arith)) refl)
 
-  come-more : {x : Outline} {g : Fields} → place < at → x ≡ outlineOf t place → x ≡ O.Whole g → Come t at (g .past) × ((place < g .past) × (g .past ≤ length t))
-  come-more {x} {g} h e q = go (c .rest) refl (c .here)
-    where
-      go : (fs : List File) → c .rest ≡ fs → At t place fs → Come t at (g .past) × ((place < g .past) × (g .past ≤ length t))
-      go [] z w = let k : O.Whole g ≡ O.Short = sym q ∙ e ∙ at-end w in let y : _≡_ {A = ℕ} 0 1 = cc in absurd (omega arith)
-      go (f ∷ fs) z w =
-          let s = standing w in
-          let k : O.Whole g ≡ O.Whole (fieldsOf place f) = sym q ∙ e ∙ s .outline-is in
-          let same : g ≡ fieldsOf place f = cc in
-          subst (λ (y : Fields). Come t at (y .past) × ((place < y .past) × (y .past ≤ length t))) (sym same) (
-            record {
-              rest = fs;
-              here = s .next;
-              left =
-                  c .left
-                  ∙ ap (λ (l : List File). stepAmong l place at) z
-                  ∙ rw (ne-eqb place at (λ e. omega arith)) refl
-                  ∙ ap (λ (p : ℕ). stepAmong fs p at) (sym (s .sized));
-            },
-            (omega arith, s .next .inside),
-          )
+  module _ {x : Outline} {g : Fields} (h : place < at) (e : x ≡ outlineOf t place) (q : x ≡ O.Whole g) where
+    r : Headed t place (c .rest) g
+    r = at-whole (c .here) e q
 
-  pub come-on : {x : Outline} {g : Fields} → place < at → x ≡ outlineOf t place → x ≡ O.Whole g → Come t at (g .past)
-  come-on h e q = come-more h e q .0
+    past-is : g .past ≡ fieldsOf place (r .head) .past
+    past-is = ap (λ (y : Fields). y .past) (r .fields)
 
-  pub come-grows : {x : Outline} {g : Fields} → place < at → x ≡ outlineOf t place → x ≡ O.Whole g → place < g .past
-  come-grows h e q = come-more h e q .1 .0
+    pub come-on : Come t at (g .past)
+    come-on = record {
+      rest = r .tail;
+      here = subst (λ (p : ℕ). At t p (r .tail)) (sym past-is) (standing (r .stands) .next);
+      left =
+          c .left
+          ∙ ap (λ (l : List File). stepAmong l place at) (r .is)
+          ∙ rw (ne-eqb place at (λ e. omega arith)) refl
+          ∙ ap (λ (p : ℕ). stepAmong (r .tail) p at) (sym (past-is ∙ standing (r .stands) .sized));
+    }
+
+    pub come-grows : place < g .past
+    come-grows = omega (arith, past-is)
 
   module _ (same : place ≡ at) {x : Outline} (e : x ≡ outlineOf t at) where
     at-here : At t at (c .rest)
@@ -87,18 +76,9 @@ module _ {t : List ℕ} {at place : ℕ} (c : Come t at place) where
     left-here = c .left ∙ ap (λ (p : ℕ). stepAmong (c .rest) p at) same
 
     pub ended : x ≡ O.Short → End ≡ stepAt t at
-    ended q = go (c .rest) refl at-here
-      where
-        go : (fs : List File) → c .rest ≡ fs → At t at fs → End ≡ stepAt t at
-        go [] z w = sym (left-here ∙ ap (λ (l : List File). stepAmong l at at) z ∙ rw (eq-eqb at at refl) refl)
-        go (f ∷ fs) z w = let k : O.Whole (fieldsOf at f) ≡ O.Short = sym (standing w .outline-is) ∙ sym e ∙ q in let y : _≡_ {A = ℕ} 0 1 = cc in absurd (omega arith)
+    ended q = sym (left-here ∙ ap (λ (l : List File). stepAmong l at at) (at-short at-here e q) ∙ rw (eq-eqb at at refl) refl)
 
     pub found : {g : Fields} → x ≡ O.Whole g → Record g ≡ stepAt t at
-    found {g} q = go (c .rest) refl at-here
-      where
-        go : (fs : List File) → c .rest ≡ fs → At t at fs → Record g ≡ stepAt t at
-        go [] z w = let k : O.Whole g ≡ O.Short = sym q ∙ e ∙ at-end w in let y : _≡_ {A = ℕ} 0 1 = cc in absurd (omega arith)
-        go (f ∷ fs) z w =
-            let k : O.Whole g ≡ O.Whole (fieldsOf at f) = sym q ∙ e ∙ standing w .outline-is in
-            let same : g ≡ fieldsOf at f = cc in
-            ap Record same ∙ sym (left-here ∙ ap (λ (l : List File). stepAmong l at at) z ∙ rw (eq-eqb at at refl) refl)
+    found q =
+        let r = at-whole at-here e q in
+        ap Record (r .fields) ∙ sym (left-here ∙ ap (λ (l : List File). stepAmong l at at) (r .is) ∙ rw (eq-eqb at at refl) refl)
