@@ -6,13 +6,12 @@ use mathlib.Core.Bool.{Bool, true, false, cond}
 use native.Mathlib.Omega.{arith}
 use lib.ListN.{length, drop}
 use Rattle.xdr.specs.Number.{IsBytes}
-use Rattle.xdr.specs.Format.{encode}
-use Rattle.record.specs.File.{File, file}
+use Rattle.record.specs.File.{File}
 use Rattle.table.specs.Limits.{recordsLimit, bytesLimit}
 use Rattle.table.specs.Table.{isGood, records, tableOf}
 use Rattle.table.proofs.TableLaws.{bytesOf, table-length, good-table}
 use Rattle.table.proofs.WalkLaws.{At, at-start, at-last}
-use Rattle.table.proofs.PassLaws.{Counted, counted-none, counted-more, Wrote, wrote-none}
+use Rattle.table.proofs.PassLaws.{Counted, counted-none, Wrote, wrote-none}
 use Rattle.merge.specs.declared.next.Step.{Step}
 use Rattle.merge.specs.declared.next.Next.{Next}
 use Rattle.merge.specs.declared.next.Next.the-variants.{End, More}
@@ -86,10 +85,3 @@ module _ {s places old : List ℕ} {i j : ℕ} (l : Left s places old i j) where
   -- what is left after it
   abbrev pub after : {t : Step} → Took s places (l .fs) old (l .gs) (i + j) t → Left s places old (t .i) (t .j)
   after t = record { fs = t .lefts; gs = t .rights; left = t .left; inside = t .inside; right = t .right }
-
--- a step counted
-pub counted-step : {all : List File} {count bytes : ℕ} {s places old : List ℕ} {i j : ℕ} {t : Step} (l : Left s places old i j) → Counted all (rest l) count bytes
-    → (k : Took s places (l .fs) old (l .gs) (i + j) t) → Counted all (rest (after l k)) (count + 1) (bytes + (t .end - t .start))
-counted-step {all} {count} {bytes} {t = t} l c k =
-    let n : length (encode file (k .head)) ≡ t .end - t .start = omega (arith, k .sized) in
-    subst (λ (x : ℕ). Counted all (rest (after l k)) (count + 1) (bytes + x)) n (counted-more c (k .is))

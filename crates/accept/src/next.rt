@@ -1,10 +1,10 @@
 // Which record comes next: the message's or the old table's.
 ghost use mathlib.Core.Path.{_≡_};
 ghost use Rattle.record.specs.Outline.{outlineOf};
-ghost use Rattle.merge.specs.Next.{fromRight};
 ghost use Rattle.accept.specs.Next.{fromSent, fromOld, nextOf};
 use merge::next::Next;
 use merge::next::Step;
+use merge::next::from_right;
 use record::Outline;
 use table::Order;
 
@@ -20,18 +20,6 @@ fn from_sent(at: usize, x: usize, i: usize, j: usize) -> Next
     })
 }
 
-fn from_old(j: usize, y: usize, i: usize) -> Next
-    ensures { λ r. ⌜ r ≡ fromRight j y i ⌝ }
-{
-    Next::More(Step {
-        left: false,
-        start: j,
-        end: y,
-        i,
-        j: y,
-    })
-}
-
 // The old record at j, where there is one.
 fn old_at(i: usize, old: &[u8], j: usize) -> Next
     ensures { λ r. ⌜ r ≡ fromOld i j (outlineOf (now (old .entry)) j) ⌝ }
@@ -39,7 +27,7 @@ fn old_at(i: usize, old: &[u8], j: usize) -> Next
     let Outline::Whole(g) = record::outline_at(old, j) else {
         return Next::End;
     };
-    from_old(j, g.past, i)
+    from_right(j, g.past, i)
 }
 
 // Number i of the message's records in order, or the old record at j: of one name the message's, without a look at which is the newer.
@@ -59,6 +47,6 @@ pub fn next_at(s: &[u8], places: &[usize], i: usize, old: &[u8], j: usize) -> Ne
     match table::compare_parts(s, f.name, f.stop, old, g.name, g.stop) {
         Order::Less => from_sent(at, f.past, i + 1, j),
         Order::Equal => from_sent(at, f.past, i + 1, g.past),
-        Order::Greater => from_old(j, g.past, i),
+        Order::Greater => from_right(j, g.past, i),
     }
 }

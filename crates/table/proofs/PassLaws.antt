@@ -1,7 +1,7 @@
 -- A pass over the records of a resulting table: counting them and their bytes, and writing them one after another from place 4 on.
-use Prim.Native.Nat.{ℕ, _+_, _≤_}
+use Prim.Native.Nat.{ℕ, _+_, _-_, _≤_}
 use mathlib.Core.List.{List, [], _∷_, _++_, append-assoc, append-nil}
-use mathlib.Core.Path.{_≡_, refl, sym, ap, _∙_}
+use mathlib.Core.Path.{_≡_, refl, sym, ap, subst, _∙_}
 use native.Mathlib.Omega.{arith}
 use native.Mathlib.Nat.{zero-add}
 use borrow.Author.Tests.{le-leb}
@@ -22,10 +22,16 @@ pub counted-none : (all : List File) → Counted all all 0 4
 counted-none all = record { counted = zero-add (length all); sized = sym (table-length all) }
 
 module _ {all rest : List File} {count bytes : ℕ} (c : Counted all rest count bytes) where
-  pub counted-more : {f : File} {others : List File} → rest ≡ f ∷ others → Counted all others (count + 1) (bytes + length (encode file f))
+  counted-more : {f : File} {others : List File} → rest ≡ f ∷ others → Counted all others (count + 1) (bytes + length (encode file f))
   counted-more {f} {others} e =
       let k : length (bytesOf rest) ≡ length (encode file f) + length (bytesOf others) = ap (λ (l : List File). length (bytesOf l)) e ∙ length-append (encode file f) (bytesOf others) in
       record { counted = omega (arith, c .counted, ap length e); sized = omega (arith, c .sized) }
+
+  -- by the places where it starts and ends
+  pub counted-step : {f : File} {others : List File} (start end : ℕ) → rest ≡ f ∷ others → end ≡ start + length (encode file f) → Counted all others (count + 1) (bytes + (end - start))
+  counted-step {f} {others} start end e h =
+      let n : length (encode file f) ≡ end - start = omega arith in
+      subst (λ (k : ℕ). Counted all others (count + 1) (bytes + k)) n (counted-more e)
 
   pub counted-all : rest ≡ [] → (count ≡ length all) × (bytes ≡ length (tableOf all))
   counted-all e =

@@ -4,10 +4,10 @@ use native.Mathlib.Omega.{arith}
 use denote.Ref.{now}
 use lib.ListN.{length}
 use Rattle.table.specs.Table.{records}
-use Rattle.table.proofs.PassLaws.{Counted, counted-all}
+use Rattle.table.proofs.PassLaws.{Counted, counted-step, counted-all}
 use Rattle.accept.specs.Resulting.{resulting}
 use Rattle.accept.proofs.StepLaws.{Took}
-use Rattle.accept.proofs.LoopLaws.{Left, rest, begun-counting, result-few, result-short, took, none-left, after, counted-step}
+use Rattle.accept.proofs.LoopLaws.{Left, rest, begun-counting, result-few, result-short, took, none-left, after}
 use borrow.Author.Needs.{needs}
 use Rattle.accept.proofs.accepting.measure.Statement.{statement}
 use Rattle.accept.proofs.accepting.measure.Tie as tie
@@ -30,7 +30,10 @@ counted : (c : tie.After-struct-known Inv-loop μ-loop)
     → let l = c .before .before .before .before .before in
     let a = l .before .before .before .before .before .args in
     Counted (resulting (a .update) (records (now (a .s))) (records (now (a .old)))) (rest (after (l .loop .inv .0) (taken c))) (l .loop .count + 1) (l .loop .bytes + (c .before .before .step .given .0 .0 .end - c .before .before .step .given .0 .0 .start))
-counted c = counted-step (c .before .before .before .before .before .loop .inv .0) (c .before .before .before .before .before .loop .inv .1) (taken c)
+counted c =
+    let t = taken c in
+    let s = c .before .before .step .given .0 .0 in
+    counted-step (c .before .before .before .before .before .loop .inv .1) (s .start) (s .end) (t .is) (t .sized)
 
 start-of-requires : tie.Need-start-of-requires Inv-loop μ-loop
 start-of-requires c κs = search needs

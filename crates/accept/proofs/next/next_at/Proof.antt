@@ -74,8 +74,8 @@ from-sent-requires-3 c κs = search needs
 enum-told-5 : tie.Need-enum-told-5
 enum-told-5 c = search needs
 
-from-old-requires : tie.Need-from-old-requires
-from-old-requires c κs = search needs
+from-right-requires : tie.Need-from-right-requires
+from-right-requires c κs = search needs
 
 returns-4 : tie.Need-returns-4
 returns-4 c =
@@ -93,7 +93,7 @@ returns-6 : tie.Need-returns-6
 returns-6 c =
     let a = c .before .before .before .before .before .before .before .before .before .before .before .before .before .before .before .before .before .args in
     next-by (now (a .s)) (now (a .places)) (a .i) (now (a .old)) (a .j) (omega (arith, c .before .before .before .before .before .before .before .before .before .before .before .before .before .if1 .left)) (c .before .before .before .before .before .before .before .before .before .before .before .outline-at .ensures) (c .before .before .before .before .before .before .before .before .before .f .given .1) (c .before .before .before .before .before .before .before .outline-at2 .ensures) (c .before .before .before .before .before .g .given .1)
-    (by-names (now (a .s)) (getD (now (a .places)) (a .i) 0) (c .before .before .before .before .before .before .before .before .before .f .given .0 .0) (a .i) (now (a .old)) (a .j) (c .before .before .before .before .before .g .given .0 .0) (c .before .before .before .compare-parts .ensures) (c .before .enum-told5 .given .1) (c .from-old .ensures))
+    (by-names (now (a .s)) (getD (now (a .places)) (a .i) 0) (c .before .before .before .before .before .before .before .before .before .f .given .0 .0) (a .i) (now (a .old)) (a .j) (c .before .before .before .before .before .g .given .0 .0) (c .before .before .before .compare-parts .ensures) (c .before .enum-told5 .given .1) (c .from-right .ensures))
 
 pub next-at-spec : {M : Type 1} → statement M
 next-at-spec =
@@ -121,7 +121,7 @@ next-at-spec =
     add-from-sent-3
     from-sent-requires-3
     enum-told-5
-    from-old-requires
+    from-right-requires
     returns-4
     returns-5
     returns-6)

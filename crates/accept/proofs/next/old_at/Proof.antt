@@ -17,13 +17,13 @@ enum-told c = search needs
 returns : tie.Need-returns
 returns c = ap (fromOld (c .before .before .before .before .args .i) (c .before .before .before .before .args .j)) (sym (c .enum-told .given .1) ∙ c .before .before .outline-at .ensures)
 
-from-old-requires : tie.Need-from-old-requires
-from-old-requires c κs = search needs
+from-right-requires : tie.Need-from-right-requires
+from-right-requires c κs = search needs
 
 returns-2 : tie.Need-returns-2
-returns-2 c = c .from-old .ensures ∙ ap (fromOld (c .before .before .before .before .before .before .args .i) (c .before .before .before .before .before .before .args .j)) (sym (c .before .before .g .given .1) ∙ c .before .before .before .before .outline-at .ensures)
+returns-2 c = c .from-right .ensures ∙ ap (fromOld (c .before .before .before .before .before .before .args .i) (c .before .before .before .before .before .before .args .j)) (sym (c .before .before .g .given .1) ∙ c .before .before .before .before .outline-at .ensures)
 
 pub old-at-spec : {M : Type 1} → statement M
 old-at-spec =
     tie.close
-    (tie.spec outline-at-requires enum-known-g enum-told returns from-old-requires returns-2)
+    (tie.spec outline-at-requires enum-known-g enum-told returns from-right-requires returns-2)
