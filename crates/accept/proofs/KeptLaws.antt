@@ -20,7 +20,7 @@ none-mentioned (g ∷ gs) = ap (λ (l : List File). g ∷ l) (none-mentioned gs)
 rest-above : (n : List ℕ) (g : File) (gs : List File) → Below n (g .name) → Rising (g ∷ gs) → Above n gs
 rest-above n g gs h r = above-below n (g .name) gs h (r .0)
 
-kept-above : (n : List ℕ) (fs gs : List File) → Above n gs → Rising gs → Above n (unmentioned fs gs)
+pub kept-above : (n : List ℕ) (fs gs : List File) → Above n gs → Rising gs → Above n (unmentioned fs gs)
 kept-above n fs [] a r = tt
 kept-above n fs (g ∷ gs) a r = go (isNamed (g .name) fs) (kept-above n fs gs (rest-above n g gs a r) (r .1))
   where

@@ -10,3 +10,4 @@ pub mod SortLaws
 pub mod StepLaws
 pub mod LoopLaws
 pub mod MessageLaws
+pub mod ResultLaws
