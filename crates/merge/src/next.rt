@@ -32,7 +32,8 @@ fn from_left(i: usize, x: usize, j: usize) -> Next
     })
 }
 
-fn from_right(j: usize, y: usize, i: usize) -> Next
+// The record of the second table at j, up to y.
+pub fn from_right(j: usize, y: usize, i: usize) -> Next
     ensures { λ r. ⌜ r ≡ fromRight j y i ⌝ }
 {
     Next::More(Step {

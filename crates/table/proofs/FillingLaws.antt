@@ -2,7 +2,7 @@
 use Prim.Native.Nat.{ℕ, _+_, _≤_, _<_}
 use mathlib.Core.List.{List, _++_}
 use mathlib.Core.Path.{_≡_, refl, sym, ap, _∙_}
-use mathlib.Core.Bool.{true, false}
+use mathlib.Core.Bool.{Bool, true, false}
 use native.Mathlib.Omega.{arith}
 use borrow.Author.Tests.{le-leb, lt-leb}
 use lib.ListN.{length}
@@ -23,6 +23,14 @@ module _ {x : Outcome} (out : List ℕ) where
 
   pub is-filled : {l o : List ℕ} {n : ℕ} → x ≡ accepted l → n ≡ length l → o ≡ filled out l → (F.Filled n ≡ fillingAnswer x) × (o ≡ bufferAfter x out)
   is-filled e f g = (ap F.Filled f ∙ ap fillingAnswer (sym e), g ∙ ap (λ (y : Outcome). bufferAfter y out) (sym e))
+
+  -- what was done, in other words
+  pub same-outcome : {y : Outcome} {r : Filling} {o : List ℕ} → x ≡ y → (r ≡ fillingAnswer y) × (o ≡ bufferAfter y out) → (r ≡ fillingAnswer x) × (o ≡ bufferAfter x out)
+  same-outcome e p = (p .0 ∙ ap fillingAnswer (sym e), p .1 ∙ ap (λ (y : Outcome). bufferAfter y out) (sym e))
+
+-- the limits, by the size that was measured
+pub within-measured : (fs : List File) {n k : ℕ} {t : Bool} → t ≡ isWithin n k → (n ≡ length fs) × (k ≡ length (tableOf fs)) → t ≡ isWithin (length fs) (length (tableOf fs))
+within-measured fs {n} {k} e m = e ∙ ap (λ (x : ℕ). isWithin x k) (m .0) ∙ ap (λ (x : ℕ). isWithin (length fs) x) (m .1)
 
 -- a resulting table: too large, too long for the buffer, or filled in
 module _ (fs : List File) (room : ℕ) where

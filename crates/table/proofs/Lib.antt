@@ -8,3 +8,4 @@ pub mod CheckLaws
 pub mod TableLaws
 pub mod WalkLaws
 pub mod FillingLaws
+pub mod PassLaws

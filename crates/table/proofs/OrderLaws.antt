@@ -164,6 +164,10 @@ below-asym a b h k = below-irrefl a (below-trans a b a h k)
 pub greater-above : (a b : List ℕ) → compareLists a b ≡ Greater → Below b a
 greater-above a b e = compare-turned a b ∙ ap turned e
 
+-- and what is above is greater
+pub above-greater : (a b : List ℕ) → Below a b → compareLists b a ≡ Greater
+above-greater a b h = compare-turned a b ∙ ap turned h
+
 -- a list is at most another
 abbrev pub AtMost : List ℕ → List ℕ → Type 0
 AtMost a b = Below b a → ⊥

@@ -46,7 +46,7 @@ pub record GoodTable (t : List ℕ) (fs : List File) : Type 0 where
   pub rising : Rising fs
   pub short : length t ≤ bytesLimit
 
-valid-parts : (fs : List File) → Valid table fs → AllValid fs × (length fs ≤ recordsLimit)
+pub valid-parts : (fs : List File) → Valid table fs → AllValid fs × (length fs ≤ recordsLimit)
 unfolding Valid
 valid-parts fs v = (v .1, leb-true (length fs) recordsLimit (v .0 .1))
 
@@ -71,10 +71,14 @@ table-read : (fs : List File) → AllValid fs → length fs ≤ recordsLimit →
 unfolding tableOf
 table-read fs v h = ap (read table) (sym (append-nil (encode table fs))) ∙ round table fs [] (valid-table fs v h)
 
+-- the records of an array are those that it was made of
+pub array-records : (fs : List File) → AllValid fs → length fs ≤ recordsLimit → records (tableOf fs) ≡ fs
+unfolding records
+array-records fs v h = ap recordsRead (table-read fs v h)
+
 -- records that make a good table are its records
 pub records-of : (t : List ℕ) (fs : List File) → GoodTable t fs → records t ≡ fs
-unfolding records
-records-of t fs g = ap (λ (l : List ℕ). recordsRead (read table l)) (g .is) ∙ ap recordsRead (table-read fs (g .valid) (g .few))
+records-of t fs g = ap records (g .is) ∙ array-records fs (g .valid) (g .few)
 
 pub table-good : (t : List ℕ) (fs : List File) → GoodTable t fs → isGood t ≡ true
 unfolding isGood

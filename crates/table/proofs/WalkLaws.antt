@@ -4,16 +4,19 @@ use mathlib.Core.List.{List, [], _∷_}
 use mathlib.Core.Path.{_≡_, refl, sym, ap, _∙_}
 use native.Mathlib.Omega.{arith}
 use lib.ListN.{length, take, drop, length-append, length-drop}
-use lib.Seq.{drop-drop, drop-at, take-at}
+use lib.Seq.{drop-drop, drop-length, drop-at, take-at}
 use Rattle.xdr.specs.Format.{encode}
 use Rattle.xdr.specs.Fields.{word}
 use Rattle.record.specs.File.{File, file, fromFlags}
 use Rattle.record.specs.Outline.{wordAt, outlineOf, fieldsOf}
+use Rattle.record.specs.declared.outline.Fields.{Fields}
+use Rattle.record.specs.declared.outline.Outline.{Outline}
 use Rattle.record.specs.declared.outline.Outline.the-variants as O
 use Rattle.record.proofs.FileLaws.{encoding-parts, encoding-rest}
 use Rattle.record.proofs.OutlineLaws.{outline-cut}
 use Rattle.table.specs.Order.{part}
 use Rattle.table.specs.Newest.{key, keyAt, compareFiles, compareAt}
+use Rattle.table.specs.Table.{tableOf}
 use Rattle.table.proofs.TableLaws.{bytesOf, AllValid, GoodTable, table-bytes, table-length, word-bytes}
 
 -- from a place on, the bytes are those of the records
@@ -22,14 +25,22 @@ pub record At (t : List ℕ) (at : ℕ) (fs : List File) : Type 0 where
   pub inside : at ≤ length t
   pub valid : AllValid fs
 
--- the records of a good table begin after the count
-pub at-start : {t : List ℕ} {fs : List File} → GoodTable t fs → At t 4 fs
-at-start {t} {fs} g =
+-- the records of an array begin after the count
+pub array-start : {t : List ℕ} {fs : List File} → t ≡ tableOf fs → AllValid fs → At t 4 fs
+array-start {t} {fs} e v =
     record {
-      here = ap (drop 4) (g .is ∙ table-bytes fs) ∙ drop-at (encode word (length fs)) (bytesOf fs) 4 (word-bytes (length fs));
-      inside = omega (arith, ap length (g .is), table-length fs);
-      valid = g .valid;
+      here = ap (drop 4) (e ∙ table-bytes fs) ∙ drop-at (encode word (length fs)) (bytesOf fs) 4 (word-bytes (length fs));
+      inside = omega (arith, ap length e, table-length fs);
+      valid = v;
     }
+
+-- those of a good table too
+pub at-start : {t : List ℕ} {fs : List File} → GoodTable t fs → At t 4 fs
+at-start g = array-start (g .is) (g .valid)
+
+-- where the bytes end there are none
+pub at-last : (t : List ℕ) → At t (length t) []
+at-last t = record { here = drop-length t; inside = omega arith; valid = tt }
 
 -- no record is left
 pub at-end : {t : List ℕ} {at : ℕ} → At t at [] → outlineOf t at ≡ O.Short
@@ -77,3 +88,22 @@ pub compared-there : {s t : List ℕ} {i j : ℕ} {f g : File} {fs gs : List Fil
     → compareAt s (fieldsOf i f) t (fieldsOf j g) ≡ compareFiles f g
 unfolding compareAt compareFiles
 compared-there u w = rw (key-is u, key-is w) refl
+
+-- which records are left, by the outline that was answered
+
+pub record Headed (t : List ℕ) (at : ℕ) (fs : List File) (g : Fields) : Type 0 where
+  pub head : File
+  pub tail : List File
+  pub is : fs ≡ head ∷ tail
+  pub stands : At t at (head ∷ tail)
+  pub fields : g ≡ fieldsOf at head
+
+pub at-whole : {t : List ℕ} {at : ℕ} {fs : List File} {x : Outline} {g : Fields} → At t at fs → x ≡ outlineOf t at → x ≡ O.Whole g → Headed t at fs g
+at-whole {fs = []} {g = g} w e q = let k : O.Whole g ≡ O.Short = sym q ∙ e ∙ at-end w in let z : _≡_ {A = ℕ} 0 1 = cc in absurd (omega arith)
+at-whole {at = at} {fs = f ∷ fs} {g = g} w e q =
+    let k : O.Whole g ≡ O.Whole (fieldsOf at f) = sym q ∙ e ∙ standing w .outline-is in
+    record { head = f; tail = fs; is = refl; stands = w; fields = cc }
+
+pub at-short : {t : List ℕ} {at : ℕ} {fs : List File} {x : Outline} → At t at fs → x ≡ outlineOf t at → x ≡ O.Short → fs ≡ []
+at-short {fs = []} w e q = refl
+at-short {at = at} {fs = f ∷ fs} w e q = let k : O.Whole (fieldsOf at f) ≡ O.Short = sym (standing w .outline-is) ∙ sym e ∙ q in let z : _≡_ {A = ℕ} 0 1 = cc in absurd (omega arith)

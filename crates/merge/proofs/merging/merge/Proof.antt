@@ -7,9 +7,9 @@ use borrow.Author.Tests.{not-true, not-false}
 use denote.Ref.{now}
 use lib.ListN.{length}
 use Rattle.table.specs.Table.{isGood, isWithin, tableOf}
-use Rattle.table.proofs.FillingLaws.{is-refused, is-filled, into-large, into-tight, into-room, table-filled}
+use Rattle.table.proofs.FillingLaws.{is-refused, is-filled, within-measured, into-large, into-tight, into-room, table-filled}
 use Rattle.merge.specs.Answer.{mergedRecords}
-use Rattle.merge.proofs.AnswerLaws.{first-bad, second-bad, both-good, within-measured}
+use Rattle.merge.proofs.AnswerLaws.{first-bad, second-bad, both-good}
 use borrow.Author.Needs.{needs}
 use Rattle.merge.proofs.merging.merge.Statement.{statement}
 use Rattle.merge.proofs.merging.merge.Tie as tie
@@ -27,7 +27,7 @@ within : (c : tie.After-within-limits)
     c .within-limits .result ≡ isWithin (length (mergedRecords (now (s .a)) (now (s .b)))) (length (tableOf (mergedRecords (now (s .a)) (now (s .b)))))
 within c =
     let s = c .before .before .before .before .before .before .before .before .before .args in
-    within-measured (now (s .a)) (now (s .b)) (c .within-limits .ensures) (c .before .measure .ensures)
+    within-measured (mergedRecords (now (s .a)) (now (s .b))) (c .within-limits .ensures) (c .before .measure .ensures)
 
 is-good-requires : tie.Need-is-good-requires
 is-good-requires c κs = search needs

@@ -1,0 +1,87 @@
+-- The passes over the resulting records: what is left at the places of both sources, and the turns.
+use Prim.Native.Nat.{ℕ, _+_, _-_, _≤_}
+use mathlib.Core.List.{List, []}
+use mathlib.Core.Path.{_≡_, sym, ap, subst, _∙_}
+use mathlib.Core.Bool.{Bool, true, false, cond}
+use native.Mathlib.Omega.{arith}
+use lib.ListN.{length, drop}
+use Rattle.xdr.specs.Number.{IsBytes}
+use Rattle.record.specs.File.{File}
+use Rattle.table.specs.Limits.{recordsLimit, bytesLimit}
+use Rattle.table.specs.Table.{isGood, records, tableOf}
+use Rattle.table.proofs.TableLaws.{bytesOf, table-length, good-table}
+use Rattle.table.proofs.WalkLaws.{At, at-start, at-last}
+use Rattle.table.proofs.PassLaws.{Counted, counted-none, Wrote, wrote-none}
+use Rattle.merge.specs.declared.next.Step.{Step}
+use Rattle.merge.specs.declared.next.Next.{Next}
+use Rattle.merge.specs.declared.next.Next.the-variants.{End, More}
+use Rattle.accept.specs.Next.{nextOf}
+use Rattle.accept.specs.Resulting.{byName, resulting}
+use Rattle.accept.specs.Sorted.{Places, InOrder}
+use Rattle.accept.proofs.InsertLaws.{by-name-count, by-name-size}
+use Rattle.accept.proofs.OverlayLaws.{overlay, overlay-sorted}
+use Rattle.accept.proofs.KeptLaws.{resulting-is}
+use Rattle.accept.proofs.StepLaws.{Took, Steps, steps}
+
+-- the records that are left, at number i of the message's and at place j of the old table
+pub record Left (s places old : List ℕ) (i j : ℕ) : Type 0 where
+  pub fs : List File
+  pub gs : List File
+  pub left : Places s (drop i places) fs
+  pub inside : i ≤ length places
+  pub right : At old j gs
+
+abbrev pub rest : {s places old : List ℕ} {i j : ℕ} → Left s places old i j → List File
+rest l = overlay (l .fs) (l .gs)
+
+-- before the first step all are
+module _ (s places old : List ℕ) (update : Bool) (p : InOrder s places) (b : IsBytes old) (g : isGood old ≡ true) where
+  abbrev all : List File
+  all = resulting update (records s) (records old)
+
+  abbrev source : List File
+  source = cond update (records old) []
+
+  starts : (u : Bool) → At old (cond u 4 (length old)) (cond u (records old) [])
+  starts true = at-start (good-table old b g)
+  starts false = at-last old
+
+  abbrev begun : {j : ℕ} → j ≡ cond update 4 (length old) → Left s places old 0 j
+  begun e = record { fs = byName (records s) []; gs = source; left = p .standing; inside = omega arith; right = subst (λ (k : ℕ). At old k source) (sym e) (starts update) }
+
+  result-is : all ≡ byName (records s) source
+  result-is = resulting-is update (records s) (records old) (p .distinct) (good-table old b g .rising)
+
+  begun-all : overlay (byName (records s) []) source ≡ all
+  begun-all = overlay-sorted (records s) source ∙ sym result-is
+
+  pub begun-counting : {j : ℕ} → j ≡ cond update 4 (length old) → (l : Left s places old 0 j) × Counted all (rest l) 0 4
+  begun-counting e = (begun e, subst (λ (l : List File). Counted all l 0 4) (sym begun-all) (counted-none all))
+
+  pub begun-writing : (out : List ℕ) {j : ℕ} → j ≡ cond update 4 (length old) → (l : Left s places old 0 j) × Wrote all out out (rest l) 4
+  begun-writing out e = (begun e, subst (λ (l : List File). Wrote all out out l 4) (sym begun-all) (wrote-none all out))
+
+  -- what the sizes can be at most
+  source-few : (u : Bool) → (length (cond u (records old) []) ≤ recordsLimit) × (4 + length (bytesOf (cond u (records old) [])) ≤ bytesLimit)
+  source-few true = let t = good-table old b g in (t .few, omega (arith, t .short, ap length (t .is), table-length (records old)))
+  source-few false = (omega arith, omega arith)
+
+  pub result-few : length all ≤ 1024
+  result-few = omega (arith, ap length result-is, by-name-count (records s) source, source-few update .0, p .array .few)
+
+  pub result-short : length (tableOf all) ≤ length s + bytesLimit
+  result-short =
+      omega (arith, table-length all, ap (λ (l : List File). length (bytesOf l)) result-is, by-name-size (records s) source, source-few update .1, ap length (p .array .is), table-length (records s))
+
+module _ {s places old : List ℕ} {i j : ℕ} (l : Left s places old i j) where
+  -- the next step, by the answer that was given
+
+  pub took : {r : Next} {t : Step} → r ≡ nextOf s places i old j → r ≡ More t → Took s places (l .fs) old (l .gs) (i + j) t
+  took e f = subst (Steps s places i (l .fs) old j (l .gs)) (sym e ∙ f) (steps s places i old j (l .fs) (l .gs) (l .inside) (l .left) (l .right))
+
+  pub none-left : {r : Next} → r ≡ nextOf s places i old j → r ≡ End → rest l ≡ []
+  none-left e f = subst (Steps s places i (l .fs) old j (l .gs)) (sym e ∙ f) (steps s places i old j (l .fs) (l .gs) (l .inside) (l .left) (l .right))
+
+  -- what is left after it
+  abbrev pub after : {t : Step} → Took s places (l .fs) old (l .gs) (i + j) t → Left s places old (t .i) (t .j)
+  after t = record { fs = t .lefts; gs = t .rights; left = t .left; inside = t .inside; right = t .right }

@@ -1,0 +1,208 @@
+-- The Index or IndexUpdate that was found in a message: what accepting it does, and where its parts are.
+use Prim.Native.Nat.{ℕ, _+_, _-_, _≤_}
+use mathlib.Core.List.{List, []}
+use mathlib.Core.Path.{_≡_, refl, sym, ap, subst, _∙_}
+use mathlib.Core.Bool.{Bool, true, false}
+use native.Mathlib.Omega.{arith}
+use lib.ListN.{length, take, drop, length-take, length-drop}
+use Rattle.xdr.specs.Reading.{Reading, taken, shifted, refused as unread}
+use Rattle.xdr.specs.Number.{IsBytes}
+use Rattle.xdr.specs.Format.{read, readAt}
+use Rattle.xdr.specs.declared.answer.Refusal.{Refusal}
+use Rattle.xdr.proofs.NumberLaws.{bytes-drop}
+use Rattle.xdr.proofs.Steps.{Reads, opened, passed, ends, ends-word}
+use Rattle.xdr.proofs.Strings.{string-ends, string-within}
+use Rattle.xdr.proofs.Parts.{pair-parts}
+use Rattle.xdr.proofs.Corollaries.{read-exactly}
+use Rattle.record.specs.File.{File}
+use Rattle.record.proofs.OutlineLaws.{word-read}
+use Rattle.message.specs.Header.{typeOf, idOf}
+use Rattle.message.specs.Message.{Kind, isIndex, isRequest, isResponse, isPing, isPong, isIndexUpdate, isOptions, kindOf, Body, body, Sent, index, message}
+use Rattle.message.specs.Answers.{past, indexSpan, bodyAnswer, messageAnswer}
+use Rattle.message.specs.declared.answer.IndexSpan.{IndexSpan}
+use Rattle.table.specs.Limits.{recordsLimit}
+use Rattle.table.specs.Order.{isEqual, compareLists, part}
+use Rattle.table.specs.Table.{table, isGood, records, tableOf}
+use Rattle.table.specs.Filling.{refused, tableInto}
+use Rattle.table.proofs.TableLaws.{AllValid, valid-parts, array-records}
+use Rattle.accept.specs.Resulting.{resulting}
+use Rattle.accept.specs.Accepting.{unrepeated, listed, ofKind, ofReading, acceptOutcome}
+use Rattle.accept.specs.Found.{foundIn, foundRefusal}
+use Rattle.accept.specs.Sorted.{IsArray}
+use Rattle.accept.specs.declared.found.Found.{Found}
+use Rattle.accept.specs.declared.found.Found.the-variants as F
+
+-- what was found of a body of some kind
+record Body-found (k : Kind) (b : Body k) (next : ℕ) (m : List ℕ) (update : Bool) (x : IndexSpan) : Type 0 where
+  sent : List ℕ × List File
+  outcome : (old expected : List ℕ) (room : ℕ) → ofKind old expected room k b ≡ listed update old expected room sent
+  reads : Reads index m 4 (taken sent next)
+  span : x ≡ indexSpan sent next
+
+no-list : {r : Refusal} {update : Bool} {x : IndexSpan} {P : Type 0} → F.Refused r ≡ F.Taken update x → P
+no-list e = let z : _≡_ {A = ℕ} 0 1 = cc in absurd (omega arith)
+
+no-refusal : {r : Refusal} {update : Bool} {x : IndexSpan} {P : Type 0} → F.Taken update x ≡ F.Refused r → P
+no-refusal e = let z : _≡_ {A = ℕ} 0 1 = cc in absurd (omega arith)
+
+body-found : (k : Kind) (b : Body k) (id next : ℕ) (m : List ℕ) {update : Bool} {x : IndexSpan} → Reads (body k) m 4 (taken b next) → foundIn (bodyAnswer k id (taken b next)) ≡ F.Taken update x
+    → Body-found k b next m update x
+body-found isIndex b id next m {update} {x} r e =
+    let u : false ≡ update = cc in record { sent = b; outcome = λ old expected room. ap (λ (v : Bool). listed v old expected room b) u; reads = r; span = cc }
+body-found isRequest b id next m r e = no-list e
+body-found isResponse b id next m r e = no-list e
+body-found isPing b id next m r e = no-list e
+body-found isPong b id next m r e = no-list e
+body-found isIndexUpdate b id next m {update} {x} r e =
+    let u : true ≡ update = cc in record { sent = b; outcome = λ old expected room. ap (λ (v : Bool). listed v old expected room b) u; reads = r; span = cc }
+body-found isOptions b id next m r e = no-list e
+
+-- what was found in a message
+pub record Listing (m : List ℕ) (update : Bool) (x : IndexSpan) : Type 0 where
+  pub sent : List ℕ × List File
+  pub next : ℕ
+  pub outcome : (old expected : List ℕ) (room : ℕ) → ofReading old expected room (readAt message m 0) ≡ listed update old expected room sent
+  pub reads : Reads index m 4 (taken sent next)
+  pub span : x ≡ indexSpan sent next
+
+pub found-list : (m : List ℕ) {f : Found} {update : Bool} {x : IndexSpan} → f ≡ foundIn (messageAnswer (readAt message m 0)) → f ≡ F.Taken update x → Listing m update x
+found-list m {f} {update} {x} e q = go (readAt message m 0) refl
+  where
+    go : (r : Reading Sent) → readAt message m 0 ≡ r → Listing m update x
+    go (taken v next) h =
+        let p = pair-parts (record { is = h }) in
+        let at : p .0 ≡ 4 = ends-word (passed (passed (passed (p .1)))) .0 in
+        let w = body-found (kindOf (typeOf (v .0))) (v .1) (idOf (v .0)) next m (subst (λ (k : ℕ). Reads (body (kindOf (typeOf (v .0)))) m k (taken (v .1) next)) at (p .2))
+        (ap (λ (r : Reading Sent). foundIn (messageAnswer r)) (sym h) ∙ sym e ∙ q) in
+        record {
+          sent = w .sent;
+          next = next;
+          outcome = λ old expected room. ap (ofReading old expected room) h ∙ w .outcome old expected room;
+          reads = w .reads;
+          span = w .span;
+        }
+    go (unread k p) h = no-list (ap (λ (r : Reading Sent). foundIn (messageAnswer r)) (sym h) ∙ sym e ∙ q)
+
+-- a refusal
+
+other : {r : Refusal} → F.Refused (record { number = 18; place = 0 }) ≡ F.Refused r → refused 18 0 ≡ refused (r .number) (r .place)
+other e = ap (λ (u : Found). refused (foundRefusal u .number) (foundRefusal u .place)) e
+
+body-refused : (k : Kind) (b : Body k) (id next : ℕ) {r : Refusal} → foundIn (bodyAnswer k id (taken b next)) ≡ F.Refused r
+    → (old expected : List ℕ) (room : ℕ) → ofKind old expected room k b ≡ refused (r .number) (r .place)
+body-refused isIndex b id next e old expected room = no-refusal e
+body-refused isRequest b id next e old expected room = other e
+body-refused isResponse b id next e old expected room = other e
+body-refused isPing b id next e old expected room = other e
+body-refused isPong b id next e old expected room = other e
+body-refused isIndexUpdate b id next e old expected room = no-refusal e
+body-refused isOptions b id next e old expected room = other e
+
+found-refused : (m : List ℕ) {f : Found} {r g : Refusal} → f ≡ foundIn (messageAnswer (readAt message m 0)) → f ≡ F.Refused r → g ≡ foundRefusal f
+    → (old expected : List ℕ) (room : ℕ) → ofReading old expected room (readAt message m 0) ≡ refused (g .number) (g .place)
+found-refused m {f} {r} {g} e q s old expected room = go (readAt message m 0) refl ∙ ap (λ (u : Refusal). refused (u .number) (u .place)) (sym (s ∙ ap foundRefusal q))
+  where
+    go : (x : Reading Sent) → readAt message m 0 ≡ x → ofReading old expected room (readAt message m 0) ≡ refused (r .number) (r .place)
+    go (taken v next) h =
+        ap (ofReading old expected room) h
+        ∙ body-refused (kindOf (typeOf (v .0))) (v .1) (idOf (v .0)) next (ap (λ (x : Reading Sent). foundIn (messageAnswer x)) (sym h) ∙ sym e ∙ q) old expected room
+    go (unread k p) h =
+        ap (ofReading old expected room) h
+        ∙ ap (λ (u : Found). refused (foundRefusal u .number) (foundRefusal u .place)) (ap (λ (x : Reading Sent). foundIn (messageAnswer x)) (sym h) ∙ sym e ∙ q)
+
+-- an array that was read at a place
+
+read-there : {A : Type 0} (k : ℕ) (r : Reading A) {a : A} {m : ℕ} → shifted k r ≡ taken a m → (r ≡ taken a (m - k)) × (k ≤ m)
+read-there k (taken b u) {a} {m} e = let n : m ≡ k + u = cc in let v : m - k ≡ u = omega arith in (ap (taken b) (sym v) ∙ cc, omega arith)
+read-there k (unread n p) e = let z : _≡_ {A = ℕ} 0 1 = cc in absurd (omega arith)
+
+array-there : (m : List ℕ) (k : ℕ) (fs : List File) {next : ℕ} → IsBytes m → Reads table m k (taken fs next) → (records (part m k next) ≡ fs) × IsArray (part m k next)
+unfolding readAt tableOf
+array-there m k fs {next} b r =
+    let q = read-exactly table (drop k m) fs (next - k) (bytes-drop k m b) (read-there k (read table (drop k m)) (r .is) .0) in
+    let v = valid-parts fs (q .1) in
+    let is : part m k next ≡ tableOf fs = sym (q .0) in
+    let same : records (part m k next) ≡ fs = ap records is ∙ array-records fs (v .0) (v .1) in
+    (same, record { is = is ∙ ap tableOf (sym same); valid = subst AllValid (sym same) (v .0); few = subst (λ (l : List File). length l ≤ recordsLimit) (sym same) (v .1) })
+
+-- the parts of the message, by the spans
+module _ {m : List ℕ} {update : Bool} {x : IndexSpan} (b : IsBytes m) (l : Listing m update x) where
+  abbrev repository : List ℕ
+  repository = l .sent .0
+
+  starts : x .files .start ≡ past 4 repository
+  starts = ap (λ (y : IndexSpan). y .files .start) (l .span)
+
+  stops : x .end ≡ l .next
+  stops = ap (λ (y : IndexSpan). y .end) (l .span)
+
+  record Parts : Type 0 where
+    repository-is : repository ≡ take (length repository) (drop 8 m)
+    files-read : Reads table m (past 4 repository) (taken (l .sent .1) (l .next))
+    room : past 4 repository ≤ length m
+
+  parts : Parts
+  parts =
+      let p = pair-parts (l .reads) in
+      let o = opened (passed (p .1)) in
+      let w = word-read (passed (o .size)) in
+      let stop = string-ends (passed (p .1)) in
+      record {
+        repository-is = o .contents-are ∙ ap (λ (k : ℕ). take (length repository) (drop k m)) (w .ends);
+        files-read = subst (λ (k : ℕ). Reads table m k (taken (l .sent .1) (l .next))) stop (p .2);
+        room = omega (arith, stop, string-within (passed (p .1)));
+      }
+
+  repository-starts : x .repository .start ≡ 8
+  repository-starts = ap (λ (y : IndexSpan). y .repository .start) (l .span)
+
+  repository-long : x .repository .length ≡ length repository
+  repository-long = ap (λ (y : IndexSpan). y .repository .length) (l .span)
+
+  pub repository-fits : x .repository .start + x .repository .length ≤ length m
+  repository-fits = omega (arith, repository-starts, repository-long, parts .room)
+
+  pub repository-part : part m (x .repository .start) (x .repository .start + x .repository .length) ≡ repository
+  repository-part =
+      let long : x .repository .start + x .repository .length - x .repository .start ≡ length repository = omega (arith, repository-long) in
+      ap (λ (n : ℕ). take n (drop (x .repository .start) m)) long ∙ ap (λ (n : ℕ). take (length repository) (drop n m)) repository-starts ∙ sym (parts .repository-is)
+
+  pub files-fit : x .files .start + length (part m (x .files .start) (x .end)) ≤ length m + length m
+  files-fit = omega (arith, starts, parts .room, length-take (x .end - x .files .start) (drop (x .files .start) m), length-drop (x .files .start) m)
+
+  array-part : (records (part m (x .files .start) (x .end)) ≡ l .sent .1) × IsArray (part m (x .files .start) (x .end))
+  array-part =
+      let same : part m (x .files .start) (x .end) ≡ part m (past 4 repository) (l .next) = ap (λ (k : ℕ). part m k (x .end)) starts ∙ ap (part m (past 4 repository)) stops in
+      subst (λ (p : List ℕ). (records p ≡ l .sent .1) × IsArray p) (sym same) (array-there m (past 4 repository) (l .sent .1) b (parts .files-read))
+
+  pub files-array : IsArray (part m (x .files .start) (x .end))
+  files-array = array-part .1
+
+  -- what accepting it does
+
+  module _ (old expected : List ℕ) (room : ℕ) (g : isGood old ≡ true) where
+    pub by-list : acceptOutcome old m expected room ≡ listed update old expected room (l .sent)
+    unfolding acceptOutcome
+    by-list = rw g (l .outcome old expected room)
+
+    pub another-repository : isEqual (compareLists repository expected) ≡ false → acceptOutcome old m expected room ≡ refused 21 0
+    another-repository e = by-list ∙ rw e refl
+
+    pub this-repository : isEqual (compareLists repository expected) ≡ true
+        → let p = part m (x .files .start) (x .end) in
+        acceptOutcome old m expected room ≡ unrepeated [] (x .files .start + 4) (records p) (tableInto (resulting update (records p) (records old)) room)
+    this-repository e =
+        by-list
+        ∙ rw e refl
+        ∙ ap (λ (k : ℕ). unrepeated [] (k + 4) (l .sent .1) (tableInto (resulting update (l .sent .1) (records old)) room)) (sym starts)
+        ∙ ap (λ (fs : List File). unrepeated [] (x .files .start + 4) fs (tableInto (resulting update fs (records old)) room)) (sym (array-part .0))
+
+module _ (old m expected : List ℕ) (room : ℕ) where
+  pub old-bad : isGood old ≡ false → acceptOutcome old m expected room ≡ refused 15 0
+  unfolding acceptOutcome
+  old-bad e = rw e refl
+
+  pub message-refused : {f : Found} {r g : Refusal} → isGood old ≡ true → f ≡ foundIn (messageAnswer (readAt message m 0)) → f ≡ F.Refused r → g ≡ foundRefusal f
+      → acceptOutcome old m expected room ≡ refused (g .number) (g .place)
+  unfolding acceptOutcome
+  message-refused h e q s = rw h (found-refused m e q s old expected room)

@@ -1,0 +1,156 @@
+-- What an accepted call filled in is a good table of the resulting records.
+use Prim.Native.Nat.{ℕ, _≤_}
+use mathlib.Core.List.{List, [], _∷_}
+use mathlib.Core.Path.{_≡_, refl, sym, ap, subst, _∙_}
+use mathlib.Core.Bool.{Bool, true, false, cond}
+use native.Mathlib.Omega.{arith}
+use borrow.Author.Tests.{leb-true}
+use lib.ListN.{length}
+use lib.Dec.{leb}
+use Rattle.xdr.specs.Reading.{Reading, taken, refused as unread}
+use Rattle.xdr.specs.Number.{IsBytes}
+use Rattle.xdr.specs.Format.{read, readAt, Valid}
+use Rattle.xdr.proofs.Steps.{shifted-zero}
+use Rattle.xdr.proofs.Corollaries.{read-exactly}
+use Rattle.record.specs.File.{File, file}
+use Rattle.message.specs.Header.{typeOf}
+use Rattle.message.specs.Message.{Kind, isIndex, isRequest, isResponse, isPing, isPong, isIndexUpdate, isOptions, kindOf, Body, body, Sent, message}
+use Rattle.table.specs.Limits.{recordsLimit, bytesLimit}
+use Rattle.table.specs.Order.{isEqual, compareLists}
+use Rattle.table.specs.Table.{isGood, isWithin, records, tableOf}
+use Rattle.table.specs.Filling.{Outcome, accepted, refused, tableInto}
+use Rattle.table.specs.declared.order.Order.{Order}
+use Rattle.table.specs.declared.order.Order.the-variants.{Less, Equal, Greater}
+use Rattle.table.proofs.RisingLaws.{Rising, both-true}
+use Rattle.table.proofs.TableLaws.{AllValid, GoodTable, good-table, table-good}
+use Rattle.accept.specs.Resulting.{isNamed, unmentioned, placed, insert, byName, resulting}
+use Rattle.accept.specs.Accepting.{unrepeated, firstRecord, listed, ofKind, ofReading, acceptOutcome}
+use Rattle.accept.proofs.InsertLaws.{insert-rising}
+use Rattle.accept.proofs.KeptLaws.{kept-above}
+
+not-accepted : {k p : ℕ} {l : List ℕ} {P : Type 0} → refused k p ≡ accepted l → P
+not-accepted e = let z : _≡_ {A = ℕ} 0 1 = cc in absurd (omega arith)
+
+-- the resulting records are valid, and their names rise
+
+insert-valid : (f : File) (l : List File) → Valid file f → AllValid l → AllValid (insert f l)
+insert-valid f [] v w = (v, tt)
+insert-valid f (g ∷ l) v w = go (compareLists (f .name) (g .name)) (insert-valid f l v (w .1))
+  where
+    go : (o : Order) → AllValid (insert f l) → AllValid (placed o f g l (insert f l))
+    go Less ih = (v, w)
+    go Equal ih = (v, w .1)
+    go Greater ih = (w .0, ih)
+
+by-name-valid : (fs l : List File) → AllValid fs → AllValid l → AllValid (byName fs l)
+unfolding byName
+by-name-valid [] l v w = w
+by-name-valid (f ∷ fs) l v w = by-name-valid fs (insert f l) (v .1) (insert-valid f l (v .0) w)
+
+by-name-rising : (fs l : List File) → Rising l → Rising (byName fs l)
+unfolding byName
+by-name-rising [] l r = r
+by-name-rising (f ∷ fs) l r = by-name-rising fs (insert f l) (insert-rising f l r)
+
+kept-valid : (fs gs : List File) → AllValid gs → AllValid (unmentioned fs gs)
+kept-valid fs [] w = tt
+kept-valid fs (g ∷ gs) w = go (isNamed (g .name) fs) (kept-valid fs gs (w .1))
+  where
+    go : (b : Bool) → AllValid (unmentioned fs gs) → AllValid (cond b (unmentioned fs gs) (g ∷ unmentioned fs gs))
+    go true ih = ih
+    go false ih = (w .0, ih)
+
+kept-rising : (fs gs : List File) → Rising gs → Rising (unmentioned fs gs)
+kept-rising fs [] r = tt
+kept-rising fs (g ∷ gs) r = go (isNamed (g .name) fs) (kept-rising fs gs (r .1))
+  where
+    go : (b : Bool) → Rising (unmentioned fs gs) → Rising (cond b (unmentioned fs gs) (g ∷ unmentioned fs gs))
+    go true ih = ih
+    go false ih = (kept-above (g .name) fs gs (r .0) (r .1), ih)
+
+pub resulting-valid : (update : Bool) (fs gs : List File) → AllValid fs → AllValid gs → AllValid (resulting update fs gs)
+unfolding resulting
+resulting-valid true fs gs v w = by-name-valid fs (unmentioned fs gs) v (kept-valid fs gs w)
+resulting-valid false fs gs v w = by-name-valid fs [] v tt
+
+pub resulting-rising : (update : Bool) (fs gs : List File) → Rising gs → Rising (resulting update fs gs)
+unfolding resulting
+resulting-rising true fs gs r = by-name-rising fs (unmentioned fs gs) (kept-rising fs gs r)
+resulting-rising false fs gs r = by-name-rising fs [] tt
+
+-- what an accepted outcome went through
+
+into-accepted : (fs : List File) (room : ℕ) (l : List ℕ) → AllValid fs → Rising fs → tableInto fs room ≡ accepted l → GoodTable l fs
+into-accepted fs room l v r e = go (isWithin (length fs) (length (tableOf fs))) refl (leb (length (tableOf fs)) room) e
+  where
+    go : (b : Bool) → isWithin (length fs) (length (tableOf fs)) ≡ b → (c : Bool) → cond b (cond c (accepted (tableOf fs)) (refused 14 0)) (refused 19 0) ≡ accepted l → GoodTable l fs
+    go true w true q =
+        let is : l ≡ tableOf fs = cc in
+        let p = both-true (leb (length fs) recordsLimit) (leb (length (tableOf fs)) bytesLimit) w in
+        record {
+          is = is;
+          valid = v;
+          few = leb-true (length fs) recordsLimit (p .0);
+          rising = r;
+          short = subst (λ (k : List ℕ). length k ≤ bytesLimit) (sym is) (leb-true (length (tableOf fs)) bytesLimit (p .1));
+        }
+    go true w false q = not-accepted q
+    go false w c q = not-accepted q
+
+unrepeated-accepted : (before : List File) (at : ℕ) (fs : List File) (next : Outcome) (l : List ℕ) → unrepeated before at fs next ≡ accepted l → next ≡ accepted l
+unrepeated-accepted before at [] next l e = e
+unrepeated-accepted before at (f ∷ fs) next l e = go (isNamed (f .name) before) e (λ q. unrepeated-accepted (f ∷ before) _ fs next l q)
+  where
+    go : {x : Outcome} (b : Bool) → cond b (refused 13 at) x ≡ accepted l → (x ≡ accepted l → next ≡ accepted l) → next ≡ accepted l
+    go true q ih = not-accepted q
+    go false q ih = ih q
+
+-- the sender's table of records that it sent
+pub record Result (old l : List ℕ) : Type 0 where
+  pub update : Bool
+  pub sent : List File
+  pub good : GoodTable l (resulting update sent (records old))
+
+module _ (old expected : List ℕ) (room : ℕ) (l : List ℕ) (b : IsBytes old) (g : isGood old ≡ true) where
+  listed-accepted : (update : Bool) (sent : List ℕ × List File) → AllValid (sent .1) → listed update old expected room sent ≡ accepted l → Result old l
+  listed-accepted update sent v e = go (isEqual (compareLists (sent .0) expected)) e
+    where
+      go : (t : Bool) → cond t (unrepeated [] (firstRecord (sent .0)) (sent .1) (tableInto (resulting update (sent .1) (records old)) room)) (refused 21 0) ≡ accepted l → Result old l
+      go true q = record {
+        update = update;
+        sent = sent .1;
+        good = into-accepted (resulting update (sent .1) (records old)) room l (resulting-valid update (sent .1) (records old) v (good-table old b g .valid))
+            (resulting-rising update (sent .1) (records old) (good-table old b g .rising))
+            (unrepeated-accepted [] (firstRecord (sent .0)) (sent .1) (tableInto (resulting update (sent .1) (records old)) room) l q);
+      }
+      go false q = not-accepted q
+
+  kind-accepted : (k : Kind) (s : Body k) → Valid (body k) s → ofKind old expected room k s ≡ accepted l → Result old l
+  unfolding Valid
+  kind-accepted isIndex s v e = listed-accepted false s (v .1 .1) e
+  kind-accepted isRequest s v e = not-accepted e
+  kind-accepted isResponse s v e = not-accepted e
+  kind-accepted isPing s v e = not-accepted e
+  kind-accepted isPong s v e = not-accepted e
+  kind-accepted isIndexUpdate s v e = listed-accepted true s (v .1 .1) e
+  kind-accepted isOptions s v e = not-accepted e
+
+  reading-accepted : (m : List ℕ) → IsBytes m → ofReading old expected room (readAt message m 0) ≡ accepted l → Result old l
+  unfolding readAt Valid
+  reading-accepted m c e = go (read message m) refl (ap (ofReading old expected room) (sym (shifted-zero (read message m))) ∙ e)
+    where
+      go : (r : Reading Sent) → read message m ≡ r → ofReading old expected room r ≡ accepted l → Result old l
+      go (taken v n) q h = kind-accepted (kindOf (typeOf (v .0))) (v .1) (read-exactly message m v n c q .1 .1) h
+      go (unread k p) q h = not-accepted h
+
+-- an accepted call fills in a good table: of what was sent, and of what it keeps of the old table
+pub accept-result : (old m expected : List ℕ) (room : ℕ) (l : List ℕ) → IsBytes old → IsBytes m → acceptOutcome old m expected room ≡ accepted l → Result old l
+unfolding acceptOutcome
+accept-result old m expected room l b c e = go (isGood old) refl e
+  where
+    go : (t : Bool) → isGood old ≡ t → cond t (ofReading old expected room (readAt message m 0)) (refused 15 0) ≡ accepted l → Result old l
+    go true g q = reading-accepted old expected room l b g m c q
+    go false g q = not-accepted q
+
+pub accept-good : (old m expected : List ℕ) (room : ℕ) (l : List ℕ) → IsBytes old → IsBytes m → acceptOutcome old m expected room ≡ accepted l → isGood l ≡ true
+accept-good old m expected room l b c e = let r = accept-result old m expected room l b c e in table-good l (resulting (r .update) (r .sent) (records old)) (r .good)

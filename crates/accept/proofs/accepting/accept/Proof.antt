@@ -1,0 +1,127 @@
+-- `accept::accepting::accept` meets its contract.
+use mathlib.Core.Path.{_≡_, refl, sym, ap, subst, _∙_}
+use mathlib.Core.Bool.{true}
+use mathlib.Core.List.{List, []}
+use Prim.Native.Nat.{ℕ, _+_}
+use native.Mathlib.Omega.{arith}
+use borrow.Author.Tests.{not-true, not-false}
+use denote.Ref.{now}
+use lib.ListN.{length}
+use Rattle.table.specs.Order.{isEqual, compareLists}
+use Rattle.table.specs.Table.{isGood, records}
+use Rattle.table.specs.Filling.{tableInto}
+use Rattle.table.proofs.FillingLaws.{is-refused, same-outcome}
+use Rattle.accept.specs.Resulting.{resulting}
+use Rattle.accept.specs.Accepting.{unrepeated}
+use Rattle.accept.specs.Sorted.{IsArray}
+use Rattle.accept.proofs.MessageLaws.{Listing, found-list, repository-fits, repository-part, files-fit, files-array, another-repository, this-repository, old-bad, message-refused}
+use borrow.Author.Needs.{needs}
+use Rattle.accept.proofs.accepting.accept.Statement.{statement}
+use Rattle.accept.proofs.accepting.accept.Tie as tie
+
+-- the old table is good
+good : (c : tie.Else1) → isGood (now (c .before .before .before .before .before .before .args .old)) ≡ true
+good c = sym (c .before .is-good .ensures) ∙ not-false _ (c .if1 .left)
+
+-- what was found
+list : (c : tie.After-struct-known) → Listing (now (c .before .before .before .before .before .before .before .before .before .before .before .args .message)) (c .before .before .found .given .0 .0) (c .before .before .found .given .0 .1 .0)
+list c = found-list (now (c .before .before .before .before .before .before .before .before .before .before .before .args .message)) (c .before .before .before .before .find .ensures) (c .before .before .found .given .1)
+
+-- whether its Repository is the one expected
+repository : (c : tie.After-is-equal) → c .is-equal .result ≡ isEqual (compareLists (list (c .before .before .before) .sent .0) (now (c .before .before .before .before .before .before .before .before .before .before .before .before .before .before .args .repository)))
+repository c =
+    c .is-equal .ensures
+    ∙ ap isEqual (c .before .compare-bytes .ensures
+    ∙ ap (λ (l : List ℕ). compareLists l (now (c .before .before .before .before .before .before .before .before .before .before .before .before .before .before .args .repository))) (c .before .before .part .ensures ∙ repository-part (λ i. c .before .before .before .before .before .before .before .before .before .before .before .before .shared-slice-known2 .given i .fits) (list (c .before .before .before))))
+
+is-good-requires : tie.Need-is-good-requires
+is-good-requires c κs = search needs
+
+refused-requires : tie.Need-refused-requires
+refused-requires c κs = search needs
+
+returns : tie.Need-returns
+returns c = let a = c .before .before .before .before .before .before .before .args in is-refused (now (a .out)) (old-bad (now (a .old)) (now (a .message)) (now (a .repository)) (length (now (a .out))) (sym (c .before .before .is-good .ensures) ∙ not-true _ (c .before .if1 .taken))) (c .refused .ensures)
+
+find-requires : tie.Need-find-requires
+find-requires c κs = search needs
+
+enum-known-found : tie.Need-enum-known-found
+enum-known-found c = search needs
+
+enum-told : tie.Need-enum-told
+enum-told c = search needs
+
+refusal-requires : tie.Need-refusal-requires
+refusal-requires c κs = search needs
+
+returns-2 : tie.Need-returns-2
+returns-2 c = let a = c .before .before .before .before .before .before .before .before .before .before .args in is-refused (now (a .out)) (message-refused (now (a .old)) (now (a .message)) (now (a .repository)) (length (now (a .out))) (good (c .before .before .before .before)) (c .before .before .before .find .ensures) (c .before .enum-told .given .1) (c .refusal .ensures)) refl
+
+add-stop : tie.Need-add-stop
+add-stop c = omega (arith, c .before .before .before .before .before .before .before .before .before .before .before .good, repository-fits (λ i. c .before .before .before .before .before .before .before .before .before .shared-slice-known2 .given i .fits) (list c))
+
+part-requires : tie.Need-part-requires
+part-requires c κs = search needs
+
+compare-bytes-requires : tie.Need-compare-bytes-requires
+compare-bytes-requires c κs = search needs
+
+is-equal-requires : tie.Need-is-equal-requires
+is-equal-requires c κs = search needs
+
+refused-requires-2 : tie.Need-refused-requires-2
+refused-requires-2 c κs = search needs
+
+returns-3 : tie.Need-returns-3
+returns-3 c =
+    let a = c .before .before .before .before .before .before .before .before .before .before .before .before .before .before .before .before .args in
+    is-refused (now (a .out))
+    (another-repository (λ i. c .before .before .before .before .before .before .before .before .before .before .before .before .before .before .shared-slice-known2 .given i .fits) (list (c .before .before .before .before .before)) (now (a .old)) (now (a .repository)) (length (now (a .out))) (good (c .before .before .before .before .before .before .before .before .before .before)) (sym (repository (c .before .before)) ∙ not-true _ (c .before .if2 .taken))) (c .refused2 .ensures)
+
+part-requires-2 : tie.Need-part-requires-2
+part-requires-2 c κs = search needs
+
+accept-list-requires : tie.Need-accept-list-requires
+accept-list-requires c κs =
+    let l = list (c .before .before .before .before .before .before) in
+    let files = c .before .part2 .ensures in (
+      subst IsArray (sym files) (files-array (λ i. c .before .before .before .before .before .before .before .before .before .before .before .before .before .before .before .shared-slice-known2 .given i .fits) l),
+      good (c .before .before .before .before .before .before .before .before .before .before .before),
+      omega (arith, c .before .before .before .before .before .before .before .before .before .before .before .before .before .before .before .before .before .good, files-fit (λ i. c .before .before .before .before .before .before .before .before .before .before .before .before .before .before .before .shared-slice-known2 .given i .fits) l, ap length files),
+    )
+
+same-length : tie.Need-same-length
+same-length c = search needs
+
+returns-4 : tie.Need-returns-4
+returns-4 c =
+    let a = c .before .before .before .before .before .before .before .before .before .before .before .before .before .before .before .before .before .before .before .before .args in
+    let x = c .before .before .before .before .before .before .before .before .before .before .before .found .given .0 .1 .0 in
+    same-outcome (now (a .out))
+    (this-repository (λ i. c .before .before .before .before .before .before .before .before .before .before .before .before .before .before .before .before .before .before .shared-slice-known2 .given i .fits) (list (c .before .before .before .before .before .before .before .before .before)) (now (a .old)) (now (a .repository)) (length (now (a .out))) (good (c .before .before .before .before .before .before .before .before .before .before .before .before .before .before)) (sym (repository (c .before .before .before .before .before .before)) ∙ not-false _ (c .before .before .before .before .before .if2 .left))
+    ∙ ap (λ (p : List ℕ). unrepeated [] (x .files .start + 4) (records p) (tableInto (resulting (c .before .before .before .before .before .before .before .before .before .before .before .found .given .0 .0) (records p) (records (now (a .old)))) (length (now (a .out))))) (sym (c .before .before .before .before .part2 .ensures)))
+    (c .before .before .accept-list .ensures)
+
+pub accept-spec : {M : Type 1} → statement M
+accept-spec =
+    tie.close
+    (tie.spec
+    is-good-requires
+    refused-requires
+    returns
+    find-requires
+    enum-known-found
+    enum-told
+    refusal-requires
+    returns-2
+    add-stop
+    part-requires
+    compare-bytes-requires
+    is-equal-requires
+    refused-requires-2
+    returns-3
+    part-requires-2
+    accept-list-requires
+    same-length
+    returns-4)

@@ -1,0 +1,20 @@
+use mathlib.Core.Path.{sym, ap}
+use Rattle.accept.specs.Found.{foundRefusal}
+use borrow.Author.Needs.{needs}
+use Rattle.accept.proofs.found.Found.refusal.Statement.{statement}
+use Rattle.accept.proofs.found.Found.refusal.Tie as tie
+
+enum-told : tie.Need-enum-told
+enum-told c = search needs
+
+enum-known-self : tie.Need-enum-known-self
+enum-known-self c = search needs
+
+returns : tie.Need-returns
+returns c = ap foundRefusal (sym (c .enum-told .given .1))
+
+returns-2 : tie.Need-returns-2
+returns-2 c = search needs
+
+pub refusal-spec : {M : Type 1} → statement M
+refusal-spec = tie.close (tie.spec enum-told enum-known-self returns returns-2)

@@ -1,0 +1,62 @@
+-- `accept::slot::name_at` meets its contract.
+use native.Mathlib.Omega.{arith}
+use denote.Ref.{now}
+use Rattle.record.specs.Outline.{wordAt}
+use Rattle.record.proofs.OutlineLaws.{There, word-there, word-missing}
+use Rattle.accept.proofs.SlotLaws.{name-missing, name-there}
+use borrow.Author.Needs.{needs}
+use Rattle.accept.proofs.slot.name_at.Statement.{statement}
+use Rattle.accept.proofs.slot.name_at.Tie as tie
+
+-- the length of the name
+length-there : (c : tie.After-known-told) → There 4 wordAt (now (c .before .before .before .before .before .args .s)) (c .before .before .before .before .before .args .at) (c .before .n .given .0 .0) (c .before .n .given .0 .1 .0)
+length-there c = word-there (c .before .before .before .read-word .ensures) (c .before .n .given .1)
+
+read-word-requires : tie.Need-read-word-requires
+read-word-requires c κs = search needs
+
+enum-known-n : tie.Need-enum-known-n
+enum-known-n c = search needs
+
+enum-told : tie.Need-enum-told
+enum-told c = search needs
+
+sub-result : tie.Need-sub-result
+sub-result c = search needs
+
+part-result-start : tie.Need-part-result-start
+part-result-start c = search needs
+
+part-result-end : tie.Need-part-result-end
+part-result-end c = search needs
+
+returns : tie.Need-returns
+returns c = name-missing (now (c .before .before .before .before .before .args .s)) (c .before .before .before .before .before .args .at) (word-missing (c .before .before .before .read-word .ensures) (c .before .enum-told .given .1) .cut)
+
+cast-part : tie.Need-cast-part
+cast-part c = search needs
+
+add-part : tie.Need-add-part
+add-part c = omega (arith, length-there c .room)
+
+part-requires : tie.Need-part-requires
+part-requires c κs = search needs
+
+returns-2 : tie.Need-returns-2
+returns-2 c = name-there (now (c .before .before .before .before .before .before .args .s)) (c .before .before .before .before .before .before .args .at) (length-there (c .before)) (c .part .ensures)
+
+pub name-at-spec : {M : Type 1} → statement M
+name-at-spec =
+    tie.close
+    (tie.spec
+    read-word-requires
+    enum-known-n
+    enum-told
+    sub-result
+    part-result-start
+    part-result-end
+    returns
+    cast-part
+    add-part
+    part-requires
+    returns-2)

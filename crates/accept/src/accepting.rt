@@ -1,0 +1,171 @@
+// Accepting an Index or an IndexUpdate.
+ghost use mathlib.Core.Path.{_≡_};
+ghost use mathlib.Core.List.{[], _∷_, _++_};
+ghost use mathlib.Core.Bool.{true, cond};
+ghost use Prim.Native.Nat.{_+_, _-_, _≤_, _<_};
+ghost use lib.ListN.{length, take, drop};
+ghost use Rattle.xdr.specs.Buffer.{over};
+ghost use Rattle.xdr.specs.Format.{encode, encodeAll};
+ghost use Rattle.record.specs.File.{file};
+ghost use Rattle.table.specs.Table.{isGood, records, tableOf};
+ghost use Rattle.table.specs.Filling.{fillingAnswer, bufferAfter, tableInto};
+ghost use Rattle.accept.specs.Resulting.{resulting};
+ghost use Rattle.accept.specs.Accepting.{unrepeated, acceptOutcome};
+ghost use Rattle.accept.specs.Sorted.{IsArray, InOrder, SortedTo};
+use crate::found::Found;
+use crate::found::find;
+use crate::next::next_at;
+use crate::slot::Slot;
+use crate::slot::slot_of;
+use merge::next::Next;
+use merge::next::put_step;
+use record::Outline;
+use table::Filling;
+use xdr::Refusal;
+
+// How many records are in order, or the place of the first whose name stood before.
+enum Sorting {
+    Sorted(usize),
+    Repeated(usize),
+}
+
+// How many records a table has, and how many bytes.
+struct Size {
+    count: u32,
+    bytes: usize,
+}
+
+// A place among places: those behind it move up, and the last is lost.
+fn insert_at(places: &mut [usize], j: usize, at: usize)
+    requires { ⌜ j < length (now places) ⌝ }
+    ensures { λ _. ⌜ now (places .exit) ≡ take j (now (places .entry)) ++ (at ∷ take (length (now (places .entry)) - 1 - j) (drop j (now (places .entry)))) ⌝ }
+{
+    let mut k = places.len() - 1;
+    while j < k {
+        places[k] = places[k - 1];
+        k -= 1;
+    }
+    places[j] = at;
+}
+
+// The places of an array's records, in the order of their names.
+fn sort(s: &[u8], places: &mut [usize]) -> Sorting
+    requires { ⌜ IsArray (now s) × (length (now places) ≡ 512) ⌝ }
+    ensures { λ r. ⌜ SortedTo (now (s .entry)) (now (places .exit)) r ⌝ }
+{
+    let mut at = 4;
+    let mut n = 0;
+    loop {
+        let Outline::Whole(f) = record::outline_at(s, at) else {
+            return Sorting::Sorted(n);
+        };
+        let Slot::Free(j) = slot_of(s, &places[0..n], at) else {
+            return Sorting::Repeated(at);
+        };
+        insert_at(&mut places[0..n + 1], j, at);
+        at = f.past;
+        n += 1;
+    }
+}
+
+// Where the old records that may be kept begin: none are after an Index.
+fn start_of(old: &[u8], update: bool) -> usize
+    ensures { λ r. ⌜ r ≡ cond update 4 (length (now (old .entry))) ⌝ }
+{
+    if update {
+        return 4;
+    }
+    old.len()
+}
+
+// The size of the resulting table.
+fn measure(s: &[u8], places: &[usize], old: &[u8], update: bool) -> Size
+    requires { ⌜ InOrder (now s) (now places) × (isGood (now old) ≡ true) ⌝ }
+    ensures { λ r. ⌜ (r .count ≡ length (resulting update (records (now (s .entry))) (records (now (old .entry))))) × (r .bytes ≡ length (tableOf (resulting update (records (now (s .entry))) (records (now (old .entry)))))) ⌝ }
+{
+    let mut i = 0;
+    let mut j = start_of(old, update);
+    let mut count = 0;
+    let mut bytes = 4;
+    loop {
+        let Next::More(step) = next_at(s, places, i, old, j) else {
+            return Size { count, bytes };
+        };
+        bytes += step.end - step.start;
+        count += 1;
+        i = step.i;
+        j = step.j;
+    }
+}
+
+// The resulting records, from place 4 on.
+fn write_records(s: &[u8], places: &[usize], old: &[u8], update: bool, out: &mut [u8])
+    requires { ⌜ InOrder (now s) (now places) × (isGood (now old) ≡ true) ⌝ }
+    requires { ⌜ length (tableOf (resulting update (records (now s)) (records (now old)))) ≤ length (now out) ⌝ }
+    ensures { λ _. ⌜ now (out .exit) ≡ over (now (out .entry)) 4 (encodeAll (λ f. encode file f) (resulting update (records (now (s .entry))) (records (now (old .entry))))) ⌝ }
+{
+    let mut i = 0;
+    let mut j = start_of(old, update);
+    let mut at = 4;
+    loop {
+        let Next::More(step) = next_at(s, places, i, old, j) else {
+            return;
+        };
+        at += put_step(s, old, step, out, at);
+        i = step.i;
+        j = step.j;
+    }
+}
+
+// The resulting table of records in order, in the first bytes of the buffer.
+fn fill(s: &[u8], places: &[usize], old: &[u8], update: bool, out: &mut [u8]) -> Filling
+    requires { ⌜ InOrder (now s) (now places) × (isGood (now old) ≡ true) ⌝ }
+    ensures { λ r. ⌜ (r ≡ fillingAnswer (tableInto (resulting update (records (now (s .entry))) (records (now (old .entry)))) (length (now (out .entry))))) × (now (out .exit) ≡ bufferAfter (tableInto (resulting update (records (now (s .entry))) (records (now (old .entry)))) (length (now (out .entry)))) (now (out .entry))) ⌝ }
+{
+    let size = measure(s, places, old, update);
+    if !table::within_limits(size.count, size.bytes) {
+        return table::refused(19);
+    }
+    if out.len() < size.bytes {
+        return table::refused(14);
+    }
+    xdr::put_word(out, 0, size.count);
+    write_records(s, places, old, update, out);
+    Filling::Filled(size.bytes)
+}
+
+// The records of a message's array, which begins at a place of the message.
+fn accept_list(s: &[u8], start: usize, old: &[u8], update: bool, out: &mut [u8]) -> Filling
+    requires { ⌜ IsArray (now s) × (isGood (now old) ≡ true) × (start + length (now s) < 18446744073709551616) ⌝ }
+    ensures { λ r. ⌜ (r ≡ fillingAnswer (unrepeated [] (start + 4) (records (now (s .entry))) (tableInto (resulting update (records (now (s .entry))) (records (now (old .entry)))) (length (now (out .entry)))))) × (now (out .exit) ≡ bufferAfter (unrepeated [] (start + 4) (records (now (s .entry))) (tableInto (resulting update (records (now (s .entry))) (records (now (old .entry)))) (length (now (out .entry))))) (now (out .entry))) ⌝ }
+{
+    let mut places = [0usize; 512];
+    match sort(s, &mut places) {
+        Sorting::Repeated(at) => Filling::Refused(Refusal {
+            number: 13,
+            place: start + at,
+        }),
+        Sorting::Sorted(n) => fill(s, &places[0..n], old, update, out),
+    }
+}
+
+// The sender's new table: of the records of an Index, or of an IndexUpdate and the old records that it doesn't mention, in the first bytes of
+// the buffer.
+pub fn accept(old: &[u8], message: &[u8], repository: &[u8], out: &mut [u8]) -> Filling
+    ensures { λ r. ⌜ (r ≡ fillingAnswer (acceptOutcome (now (old .entry)) (now (message .entry)) (now (repository .entry)) (length (now (out .entry))))) × (now (out .exit) ≡ bufferAfter (acceptOutcome (now (old .entry)) (now (message .entry)) (now (repository .entry)) (length (now (out .entry)))) (now (out .entry))) ⌝ }
+{
+    if !table::is_good(old) {
+        return table::refused(15);
+    }
+    let found = find(message);
+    let Found::Taken(update, x) = found else {
+        return Filling::Refused(found.refusal());
+    };
+    let stop = x.repository.start + x.repository.length;
+    let order = table::compare_bytes(table::part(message, x.repository.start, stop), repository);
+    if !order.is_equal() {
+        return table::refused(21);
+    }
+    let start = x.files.start;
+    accept_list(table::part(message, start, x.end), start, old, update, out)
+}

@@ -1,0 +1,83 @@
+// What a line is made of.
+use libc::STDOUT_FILENO;
+use record::Fields;
+use walker::Step;
+
+pub fn text(s: &[u8]) {
+    io::write_all(STDOUT_FILENO, s);
+}
+
+fn labelled(label: &[u8], n: u64) {
+    text(label);
+    io::print_decimal(STDOUT_FILENO, n);
+}
+
+// A byte of a name: a control byte in hexadecimal.
+fn name_byte(b: u8) {
+    if 32 <= b {
+        if b != 127 {
+            let one = [b];
+            text(&one);
+            return;
+        }
+    }
+    text(b"\\x");
+    io::print_hex(STDOUT_FILENO, b as u64, 2);
+}
+
+fn name(s: &[u8]) {
+    let mut i = 0;
+    while i < s.len() {
+        name_byte(s[i]);
+        i += 1;
+    }
+}
+
+// Modified, which is signed.
+fn modified(m: u64) {
+    if m < 9223372036854775808 {
+        labelled(b" modified ", m);
+        return;
+    }
+    labelled(b" modified -", 18446744073709551615 - m + 1);
+}
+
+// Deleted, invalid, or the blocks of the file and their bytes.
+fn contents(table: &[u8], f: Fields) {
+    if record::is_deleted(f.flags) {
+        text(b" deleted");
+        return;
+    }
+    if record::is_invalid(f.flags) {
+        text(b" invalid");
+        return;
+    }
+    labelled(b" blocks ", f.blocks as u64);
+    labelled(b" bytes ", record::offset_of(table, f.first, f.blocks));
+}
+
+fn line(table: &[u8], number: u32, f: Fields) {
+    labelled(b"", number as u64);
+    text(b" ");
+    name(table::part(table, f.name, f.stop));
+    contents(table, f);
+    modified(f.modified);
+    labelled(b" version ", f.version as u64);
+    text(b"\n");
+}
+
+// The line of a step, and whether the walk goes on.
+pub fn show(table: &[u8], number: u32, step: Step) -> bool {
+    match step {
+        Step::Record(f) => {
+            line(table, number, f);
+            true
+        }
+        Step::End => false,
+        Step::Refused(r) => {
+            labelled(b"refused ", r.number as u64);
+            text(b"\n");
+            false
+        }
+    }
+}
