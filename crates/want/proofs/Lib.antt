@@ -1,0 +1,3 @@
+-- Laws of the request list.
+pub mod ListingLaws
+pub mod SearchLaws

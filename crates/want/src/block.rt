@@ -1,0 +1,60 @@
+// Blocks at places of a table.
+ghost use mathlib.Core.Path.{_≡_};
+ghost use Prim.Native.Nat.{_+_, _≤_};
+ghost use lib.ListN.{length, take, drop};
+ghost use Rattle.record.specs.Outline.{wordAt, blockPlace};
+ghost use Rattle.want.specs.Listing.{isCurrent, isSame};
+ghost use Rattle.want.specs.Blocks.{blockWith, blockHere, listedCount};
+use record::BlockOutline;
+use record::Fields;
+
+// Valid and undeleted.
+fn is_current(flags: u32) -> bool
+    ensures { λ r. ⌜ r ≡ isCurrent flags ⌝ }
+{
+    if record::is_invalid(flags) {
+        return false;
+    }
+    !record::is_deleted(flags)
+}
+
+// How many blocks a record lists: none where it is invalid or deleted.
+pub fn listed(f: Fields) -> u32
+    ensures { λ r. ⌜ r ≡ listedCount f ⌝ }
+{
+    if is_current(f.flags) {
+        return f.blocks;
+    }
+    0
+}
+
+// The Length of block j.
+pub(crate) fn block_size(s: &[u8], first: usize, j: u32) -> u32
+    requires { ⌜ blockPlace first j + 40 ≤ length (now s) ⌝ }
+    ensures { λ r. ⌜ r ≡ wordAt (now (s .entry)) (blockPlace first j) ⌝ }
+{
+    let BlockOutline::Whole(size, _) = record::block_at(s, first, j) else {
+        return 0;
+    };
+    size
+}
+
+// The hash of block j.
+pub(crate) fn block_hash(s: &[u8], first: usize, j: u32) -> &[u8]
+    requires { ⌜ blockPlace first j + 40 ≤ length (now s) ⌝ }
+    ensures { λ r. ⌜ now r ≡ take 32 (drop (blockPlace first j + 8) (now (s .entry))) ⌝ }
+{
+    let at = first + (j as usize) * 40 + 8;
+    &s[at..at + 32]
+}
+
+// Whether block j has a Length and a hash.
+pub(crate) fn same_block(s: &[u8], first: usize, j: u32, size: u32, hash: &[u8]) -> bool
+    requires { ⌜ blockPlace first j + 40 ≤ length (now s) ⌝ }
+    ensures { λ r. ⌜ r ≡ isSame (blockHere (now (s .entry)) (blockPlace first j)) (blockWith size (now (hash .entry))) ⌝ }
+{
+    if block_size(s, first, j) != size {
+        return false;
+    }
+    table::compare_bytes(block_hash(s, first, j), hash).is_equal()
+}
