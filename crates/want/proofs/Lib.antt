@@ -1,3 +1,5 @@
 -- Laws of the request list.
 pub mod ListingLaws
 pub mod SearchLaws
+pub mod ThereLaws
+pub mod PlaceLaws

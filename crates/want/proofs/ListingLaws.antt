@@ -48,7 +48,7 @@ blocks-by s l first next e (b ∷ m) i d =
     let rest : blocksFrom s first (i + 1) (length m) ≡ m = blocks-by s l first next e m (i + 1) after in
     ap (λ (c : Block). c ∷ blocksFrom s first (i + 1) (length m)) same ∙ ap (λ (k : List Block). b ∷ k) rest
 
-listed-few : (b : Bool) (n : ℕ) → cond b n 0 ≤ n
+pub listed-few : (b : Bool) (n : ℕ) → cond b n 0 ≤ n
 listed-few true n = omega arith
 listed-few false n = omega arith
 

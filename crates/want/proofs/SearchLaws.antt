@@ -146,3 +146,7 @@ found-among n j (c ∷ l) b r = go (isSame c b) (found-among n (j + 1) l b r)
 pub found-held : (n : ℕ) (fs : List File) (b : Block) → isFound (foundFrom n fs b) ≡ isHeld fs b
 found-held n [] b = refl
 found-held n (f ∷ fs) b = found-among n 0 (listed f) b (foundFrom (n + 1) fs b) ∙ ap (λ (r : Bool). hasBlock (listed f) b || r) (found-held (n + 1) fs b)
+
+-- by the answer of a search
+pub held-by : (fs : List File) (b : Block) {x y : Found} → x ≡ y → x ≡ foundFrom 0 fs b → isFound y ≡ isHeld fs b
+held-by fs b e f = ap isFound (sym e ∙ f) ∙ found-held 0 fs b

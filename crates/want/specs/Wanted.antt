@@ -27,22 +27,21 @@ abbrev pub peerFrom : (k : ℕ) → List (List File) → (name : List ℕ) → (
 peerFrom k [] name offset b = 0
 peerFrom k (p ∷ ps) name offset b = cond (listsThere p name offset b) k (peerFrom (k + 1) ps name offset b)
 
-module _ (local : List File) (peers : List (List File)) where
-  -- of a file's blocks from one on, those that are not held
-  abbrev pub wantedBlocks : (file : ℕ) → (name : List ℕ) → (block offset : ℕ) → List Block → List Wanted
-  wantedBlocks file name block offset [] = []
-  wantedBlocks file name block offset (b ∷ l) =
-      cond (isHeld local b) [] (record { file = file; block = block; offset = offset; size = b .size; peer = peerFrom 1 peers name offset b } ∷ [])
-      ++ wantedBlocks file name (block + 1) (offset + b .size) l
+-- of a file's blocks, from a number and an offset on, those that are not held; `peer` is whom to ask for each
+abbrev pub wantedBlocks : (local : List File) → (peer : ℕ → Block → ℕ) → (file block offset : ℕ) → List Block → List Wanted
+wantedBlocks local peer file block offset [] = []
+wantedBlocks local peer file block offset (b ∷ l) =
+    cond (isHeld local b) [] (record { file = file; block = block; offset = offset; size = b .size; peer = peer offset b } ∷ [])
+    ++ wantedBlocks local peer file (block + 1) (offset + b .size) l
 
-  -- of files, counted from a number
-  abbrev pub wantedFiles : (file : ℕ) → List File → List Wanted
-  wantedFiles file [] = []
-  wantedFiles file (f ∷ fs) = wantedBlocks file (f .name) 0 0 (listed f) ++ wantedFiles (file + 1) fs
+-- of files, counted from a number
+abbrev pub wantedFiles : (local : List File) → (peers : List (List File)) → (file : ℕ) → List File → List Wanted
+wantedFiles local peers file [] = []
+wantedFiles local peers file (f ∷ fs) = wantedBlocks local (peerFrom 1 peers (f .name)) file 0 0 (listed f) ++ wantedFiles local peers (file + 1) fs
 
-  -- of the highest records over all tables
-  unfoldable pub requestList : List Wanted
-  requestList = wantedFiles 0 (mergedOf (local ∷ peers))
+-- of the highest records over all tables
+unfoldable pub requestList : (local : List File) → (peers : List (List File)) → List Wanted
+requestList local peers = wantedFiles local peers 0 (mergedOf (local ∷ peers))
 
 -- 24 bytes a block
 abbrev pub wantedBytes : Wanted → List ℕ

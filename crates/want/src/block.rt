@@ -1,10 +1,12 @@
 // Blocks at places of a table.
 ghost use mathlib.Core.Path.{_≡_};
+ghost use mathlib.Core.Bool.{_&&_};
+ghost use lib.Dec.{eqb};
 ghost use Prim.Native.Nat.{_+_, _≤_};
 ghost use lib.ListN.{length, take, drop};
-ghost use Rattle.record.specs.Outline.{wordAt, blockPlace};
-ghost use Rattle.want.specs.Listing.{isCurrent, isSame};
-ghost use Rattle.want.specs.Blocks.{blockWith, blockHere, listedCount};
+ghost use Rattle.record.specs.Outline.{wordAt, blocksSize, blockPlace};
+ghost use Rattle.want.specs.Listing.{isCurrent, isSame, hasThere};
+ghost use Rattle.want.specs.Blocks.{blockWith, blockHere, blocksFrom, listedCount};
 use record::BlockOutline;
 use record::Fields;
 
@@ -57,4 +59,35 @@ pub(crate) fn same_block(s: &[u8], first: usize, j: u32, size: u32, hash: &[u8])
         return false;
     }
     table::compare_bytes(block_hash(s, first, j), hash).is_equal()
+}
+
+// Whether block j, which is at one offset, has a Length and a hash at another.
+fn is_there(s: &[u8], first: usize, j: u32, from: u64, offset: u64, size: u32, hash: &[u8]) -> bool
+    requires { ⌜ blockPlace first j + 40 ≤ length (now s) ⌝ }
+    ensures { λ r. ⌜ r ≡ (eqb from offset && isSame (blockHere (now (s .entry)) (blockPlace first j)) (blockWith size (now (hash .entry)))) ⌝ }
+{
+    if from != offset {
+        return false;
+    }
+    same_block(s, first, j, size, hash)
+}
+
+// Whether one of so many blocks has a Length and a hash at an offset.
+pub(crate) fn has_there(s: &[u8], first: usize, count: u32, offset: u64, size: u32, hash: &[u8]) -> bool
+    requires { ⌜ first + blocksSize count ≤ length (now s) ⌝ }
+    ensures { λ r. ⌜ r ≡ hasThere 0 (blocksFrom (now (s .entry)) first 0 count) offset (blockWith size (now (hash .entry))) ⌝ }
+{
+    let mut from: u64 = 0;
+    let mut j = 0;
+    while j < count {
+        if offset < from {
+            return false;
+        }
+        if is_there(s, first, j, from, offset, size, hash) {
+            return true;
+        }
+        from += block_size(s, first, j) as u64;
+        j += 1;
+    }
+    false
 }

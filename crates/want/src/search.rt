@@ -3,6 +3,7 @@ ghost use mathlib.Core.Path.{_≡_};
 ghost use mathlib.Core.Bool.{true};
 ghost use Rattle.table.specs.Table.{isGood, records};
 ghost use Rattle.want.specs.Blocks.{blockWith};
+ghost use Rattle.want.specs.Listing.{isHeld};
 ghost use Rattle.want.specs.Found.{foundFrom, foundIn};
 use crate::block::listed;
 use crate::block::same_block;
@@ -41,6 +42,18 @@ fn search(table: &[u8], size: u32, hash: &[u8]) -> Found
         n += 1;
     }
     Found::At(n, j)
+}
+
+// Whether a valid, undeleted record of a good table lists a block.
+pub(crate) fn is_held(table: &[u8], size: u32, hash: &[u8]) -> bool
+    requires { ⌜ isGood (now table) ≡ true ⌝ }
+    ensures { λ r. ⌜ r ≡ isHeld (records (now (table .entry))) (blockWith size (now (hash .entry))) ⌝ }
+{
+    match search(table, size, hash) {
+        Found::At(_, _) => true,
+        Found::Nothing => false,
+        Found::Refused(_) => false,
+    }
 }
 
 // Where a table first lists a block of a Length and a hash: by name, then by block.

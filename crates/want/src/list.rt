@@ -1,0 +1,5 @@
+// The request list.
+pub fn request_list() -> bool
+{
+    true
+}
