@@ -27,7 +27,7 @@ module _ (ts : List (List ℕ)) (ps : List ℕ) where
       ap (λ (t : Bool). cond t best k)
       (sym h ∙ e ∙ ap (λ (x : List ℕ). isFirst (nextOf x (placeAt ps best) b (placeAt ps k))) f ∙ ap (λ (x : List ℕ). isFirst (nextOf (tableAt ts best) (placeAt ps best) x (placeAt ps k))) g)
 
-  lower-small : (best k : ℕ) → best < 5 → k < 5 → lowerOf ts ps best k < 5
+  pub lower-small : (best k : ℕ) → best < 5 → k < 5 → lowerOf ts ps best k < 5
   lower-small best k p q = go (isFirst (nextOf (tableAt ts best) (placeAt ps best) (tableAt ts k) (placeAt ps k)))
     where
       go : (b : Bool) → cond b best k < 5

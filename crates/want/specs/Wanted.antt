@@ -1,8 +1,7 @@
 -- The request list: the blocks to ask for, and whom.
 use Prim.Native.Nat.{ℕ, _+_}
-use mathlib.Core.List.{List, [], _∷_, _++_}
-use mathlib.Core.Bool.{cond, true, false, Bool, _&&_}
-use mathlib.Core.List.{map}
+use mathlib.Core.List.{List, [], _∷_, _++_, map}
+use mathlib.Core.Bool.{Bool, true, cond, _&&_}
 use lib.ListN.{length}
 use lib.Dec.{leb}
 use Rattle.xdr.specs.Format.{encode, encodeAll}
@@ -13,26 +12,22 @@ use Rattle.table.specs.Table.{isGood, records}
 use Rattle.table.specs.Filling.{Outcome, accepted, refused}
 use Rattle.merge.specs.Merged.{mergedOf}
 use Rattle.want.specs.Listing.{listed, isHeld, listsThere}
-
--- a block to ask for: its file's number, its own, its offset and Length, and the peer
-pub record Wanted : Type 0 where
-  pub file : ℕ
-  pub block : ℕ
-  pub offset : ℕ
-  pub size : ℕ
-  pub peer : ℕ
+use Rattle.want.specs.declared.list.Wanted.{Wanted}
 
 -- the lowest-numbered of the peers, counted from k, that lists a block there; 0 where none does
 abbrev pub peerFrom : (k : ℕ) → List (List File) → (name : List ℕ) → (offset : ℕ) → Block → ℕ
 peerFrom k [] name offset b = 0
 peerFrom k (p ∷ ps) name offset b = cond (listsThere p name offset b) k (peerFrom (k + 1) ps name offset b)
 
--- of a file's blocks, from a number and an offset on, those that are not held; `peer` is whom to ask for each
+-- a block to ask for (its file's number, its own, its offset and Length, and the peer), where it is not held
+abbrev pub wantedBlock : (local : List File) → (peer : ℕ → Block → ℕ) → (file block offset : ℕ) → Block → List Wanted
+wantedBlock local peer file block offset b =
+    cond (isHeld local b) [] (record { file = file; block = block; offset = offset; size = b .size; peer = peer offset b } ∷ [])
+
+-- of a file's blocks, from a number and an offset on; `peer` is whom to ask for each
 abbrev pub wantedBlocks : (local : List File) → (peer : ℕ → Block → ℕ) → (file block offset : ℕ) → List Block → List Wanted
 wantedBlocks local peer file block offset [] = []
-wantedBlocks local peer file block offset (b ∷ l) =
-    cond (isHeld local b) [] (record { file = file; block = block; offset = offset; size = b .size; peer = peer offset b } ∷ [])
-    ++ wantedBlocks local peer file (block + 1) (offset + b .size) l
+wantedBlocks local peer file block offset (b ∷ l) = wantedBlock local peer file block offset b ++ wantedBlocks local peer file (block + 1) (offset + b .size) l
 
 -- of files, counted from a number
 abbrev pub wantedFiles : (local : List File) → (peers : List (List File)) → (file : ℕ) → List File → List Wanted

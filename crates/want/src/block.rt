@@ -73,7 +73,14 @@ fn is_there(s: &[u8], first: usize, j: u32, from: u64, offset: u64, size: u32, h
 }
 
 // Whether one of so many blocks has a Length and a hash at an offset.
-pub(crate) fn has_there(s: &[u8], first: usize, count: u32, offset: u64, size: u32, hash: &[u8]) -> bool
+pub(crate) fn has_there(
+    s: &[u8],
+    first: usize,
+    count: u32,
+    offset: u64,
+    size: u32,
+    hash: &[u8],
+) -> bool
     requires { ⌜ first + blocksSize count ≤ length (now s) ⌝ }
     ensures { λ r. ⌜ r ≡ hasThere 0 (blocksFrom (now (s .entry)) first 0 count) offset (blockWith size (now (hash .entry))) ⌝ }
 {

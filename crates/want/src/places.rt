@@ -85,13 +85,20 @@ fn lists_at(t: &[u8], at: usize, name: &[u8], offset: u64, size: u32, hash: &[u8
 }
 
 // The lowest peer whose record at its place is of a name and lists a block there, or 0.
-pub(crate) fn peer_of(tables: [&[u8]; 5], places: [usize; 5], name: &[u8], offset: u64, size: u32, hash: &[u8]) -> usize
+pub(crate) fn peer_of(
+    tables: [&[u8]; 5],
+    places: [usize; 5],
+    name: &[u8],
+    offset: u64,
+    size: u32,
+    hash: &[u8],
+) -> u32
     ensures { λ r. ⌜ r ≡ peerAt (map now (tables .entry)) places (now (name .entry)) 1 4 offset (blockWith size (now (hash .entry))) ⌝ }
 {
     let mut k = 1;
     while k < 5 {
         if lists_at(tables[k], places[k], name, offset, size, hash) {
-            return k;
+            return k as u32;
         }
         k += 1;
     }

@@ -34,6 +34,9 @@ array-read-lists-at c = c .before .loop-test .taken
 lists-at-requires : tie.Need-lists-at-requires Inv-loop μ-loop
 lists-at-requires c κs = search needs
 
+cast-result : tie.Need-cast-result Inv-loop μ-loop
+cast-result c = omega (arith, c .before .before .before .loop-test .taken)
+
 returns : tie.Need-returns Inv-loop μ-loop
 returns c = let s = c .before .before .before .before .before .before .before .args in asking-found _ _ _ _ _ (c .before .before .before .before .loop .inv) (c .before .before .before .loop-test .taken) (c .before .lists-at .ensures) (element now (s .t1) (c .before .before .before .before .loop .k) _ refl) (c .if1 .taken)
 
@@ -61,6 +64,7 @@ peer-of-spec =
     mul-lists-at-2
     array-read-lists-at
     lists-at-requires
+    cast-result
     returns
     add-k
     loop-less
