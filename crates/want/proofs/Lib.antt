@@ -1,4 +1,5 @@
 -- Laws of the request list.
+pub mod HashLaws
 pub mod ListingLaws
 pub mod SearchLaws
 pub mod ThereLaws
