@@ -6,6 +6,7 @@ use mathlib.Core.Logic.{_⊎_, inl, inr}
 use mathlib.Core.Bool.{Bool, true, false, _&&_}
 use native.Mathlib.Omega.{arith}
 use native.Mathlib.Decide.{decLt}
+use borrow.Author.Tests.{eq-eqb, eqb-true}
 use lib.ListN.{length, getD, take, drop, length-drop}
 use lib.Seq.{ext-getD, length-take-le}
 use lib.Dec.{eqb}
@@ -13,6 +14,7 @@ use Rattle.record.specs.Outline.{wordAt}
 use Rattle.table.specs.Order.{isEqual, compareLists}
 use Rattle.table.specs.declared.order.Order.{Order}
 use Rattle.table.specs.declared.order.Order.the-variants.{Less, Equal, Greater}
+use Rattle.table.proofs.RisingLaws.{both-true}
 use Rattle.table.proofs.OrderLaws.{equal-same, same-equal}
 use Rattle.want.specs.Listing.{isSame}
 use Rattle.want.specs.Blocks.{blockWith, blockHere}
@@ -25,9 +27,15 @@ differ a b h = go (compareLists a b) refl
     go Equal e = absurd (h (equal-same a b e))
     go Greater e = refl
 
--- a byte differs
-pub differ-at : (a b : List ℕ) (i : ℕ) → (getD a i 0 ≡ getD b i 0 → ⊥) → false ≡ isEqual (compareLists a b)
-differ-at a b i h = differ a b (λ e. h (ap (λ (l : List ℕ). getD l i 0) e))
+-- not of 32 bytes, or they end otherwise
+pub differ-end : (a b : List ℕ) → length a ≡ 32 → {r : Bool} → r ≡ (eqb (length b) 32 && eqb (getD a 31 0) (getD b 31 0)) → r ≡ false → false ≡ isEqual (compareLists a b)
+differ-end a b h e f = differ a b (λ q. no (subst (λ (l : List ℕ). (eqb (length l) 32 && eqb (getD a 31 0) (getD l 31 0)) ≡ false) (sym q) (sym e ∙ f)))
+  where
+    no : (eqb (length a) 32 && eqb (getD a 31 0) (getD a 31 0)) ≡ false → ⊥
+    no g = let z : _≡_ {A = Bool} true false = sym (rw (eq-eqb (length a) 32 h, eq-eqb (getD a 31 0) (getD a 31 0) refl) refl) ∙ g in let y : _≡_ {A = ℕ} 0 1 = cc in omega arith
+
+pub ends-long : (a b : List ℕ) {r : Bool} → r ≡ (eqb (length b) 32 && eqb (getD a 31 0) (getD b 31 0)) → r ≡ true → length b ≡ 32
+ends-long a b e f = eqb-true (length b) 32 (both-true (eqb (length b) 32) (eqb (getD a 31 0) (getD b 31 0)) (sym e ∙ f) .0)
 
 -- `same` tells whether the first i bytes are alike
 pub record Alike (a b : List ℕ) (i : ℕ) (same : Bool) : Type 0 where
@@ -64,24 +72,24 @@ alike-ends {a} {b} {i} {same} w h p q = go same refl
 
 -- a block, by the hash that was compared first
 
+and-false : (b : Bool) → false ≡ (b && false)
+and-false true = refl
+and-false false = refl
+
+and-true : (b : Bool) → b ≡ (b && true)
+and-true true = refl
+and-true false = refl
+
 module _ (s : List ℕ) (at : ℕ) {l : List ℕ} (k : l ≡ take 32 (drop (at + 8) s)) where
   pub hash-long : at + 40 ≤ length s → length l ≡ 32
   hash-long h = ap length k ∙ length-take-le 32 (drop (at + 8) s) (simp length-drop (omega arith))
 
-  module _ (size : ℕ) (hash : List ℕ) {r : Bool} (e : r ≡ isEqual (compareLists l hash)) where
-    told : {v : Bool} → r ≡ v → isEqual (compareLists (take 32 (drop (at + 8) s)) hash) ≡ v
-    told f = ap (λ (x : List ℕ). isEqual (compareLists x hash)) (sym k) ∙ sym e ∙ f
+  module _ (size : ℕ) (hash : List ℕ) where
+    told : {v : Bool} → v ≡ isEqual (compareLists l hash) → isEqual (compareLists (take 32 (drop (at + 8) s)) hash) ≡ v
+    told e = ap (λ (x : List ℕ). isEqual (compareLists x hash)) (sym k) ∙ sym e
 
-    pub hash-differs : r ≡ false → false ≡ isSame (blockHere s at) (blockWith size hash)
-    hash-differs f = rw (told f) (go (eqb (wordAt s at) size))
-      where
-        go : (b : Bool) → false ≡ (b && false)
-        go true = refl
-        go false = refl
+    pub hash-differs : false ≡ isEqual (compareLists l hash) → false ≡ isSame (blockHere s at) (blockWith size hash)
+    hash-differs e = rw (told e) (and-false (eqb (wordAt s at) size))
 
-    pub hash-same : {n : ℕ} → r ≡ true → n ≡ wordAt s at → eqb n size ≡ isSame (blockHere s at) (blockWith size hash)
-    hash-same {n} f g = ap (λ (m : ℕ). eqb m size) g ∙ rw (told f) (go (eqb (wordAt s at) size))
-      where
-        go : (b : Bool) → b ≡ (b && true)
-        go true = refl
-        go false = refl
+    pub hash-same : {n : ℕ} → true ≡ isEqual (compareLists l hash) → n ≡ wordAt s at → eqb n size ≡ isSame (blockHere s at) (blockWith size hash)
+    hash-same {n} e g = ap (λ (m : ℕ). eqb m size) g ∙ rw (told e) (and-true (eqb (wordAt s at) size))

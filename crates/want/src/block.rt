@@ -3,7 +3,7 @@ ghost use mathlib.Core.Path.{_≡_};
 ghost use mathlib.Core.Bool.{_&&_};
 ghost use lib.Dec.{eqb};
 ghost use Prim.Native.Nat.{_+_, _≤_};
-ghost use lib.ListN.{length, take, drop};
+ghost use lib.ListN.{length, getD, take, drop};
 ghost use Rattle.record.specs.Outline.{wordAt, blocksSize, blockPlace};
 ghost use Rattle.table.specs.Order.{isEqual, compareLists};
 ghost use Rattle.want.specs.Listing.{isCurrent, isSame, hasThere};
@@ -51,18 +51,22 @@ pub(crate) fn block_hash(s: &[u8], first: usize, j: u32) -> &[u8]
     &s[at..at + 32]
 }
 
-// Whether two hashes are the same. Most are not, and the last byte tells; the rest is compared with no early exit, which is two steps of 16
-// bytes.
-fn same_hash(a: &[u8], b: &[u8]) -> bool
+// Whether both are 32 bytes long and end alike: most hashes differ there, and this is small enough to stand in the loops.
+fn ends_alike(a: &[u8], b: &[u8]) -> bool
     requires { ⌜ length (now a) ≡ 32 ⌝ }
-    ensures { λ r. ⌜ r ≡ isEqual (compareLists (now (a .entry)) (now (b .entry))) ⌝ }
+    ensures { λ r. ⌜ r ≡ (eqb (length (now (b .entry))) 32 && eqb (getD (now (a .entry)) 31 0) (getD (now (b .entry)) 31 0)) ⌝ }
 {
     if b.len() != 32 {
         return false;
     }
-    if a[31] != b[31] {
-        return false;
-    }
+    a[31] == b[31]
+}
+
+// Whether two hashes are the same. With no early exit the loop is two steps of 16 bytes.
+fn same_hash(a: &[u8], b: &[u8]) -> bool
+    requires { ⌜ (length (now a) ≡ 32) × (length (now b) ≡ 32) ⌝ }
+    ensures { λ r. ⌜ r ≡ isEqual (compareLists (now (a .entry)) (now (b .entry))) ⌝ }
+{
     let mut same = true;
     let mut i = 0;
     while i < 32 {
@@ -79,6 +83,9 @@ pub(crate) fn same_block(s: &[u8], first: usize, j: u32, size: u32, hash: &[u8])
     requires { ⌜ blockPlace first j + 40 ≤ length (now s) ⌝ }
     ensures { λ r. ⌜ r ≡ isSame (blockHere (now (s .entry)) (blockPlace first j)) (blockWith size (now (hash .entry))) ⌝ }
 {
+    if !ends_alike(block_hash(s, first, j), hash) {
+        return false;
+    }
     if !same_hash(block_hash(s, first, j), hash) {
         return false;
     }
