@@ -6,7 +6,7 @@ use mathlib.Core.Logic.{_⊎_, inl, inr}
 use mathlib.Core.Bool.{Bool, true, false, _&&_}
 use native.Mathlib.Omega.{arith}
 use native.Mathlib.Decide.{decLt}
-use borrow.Author.Tests.{eq-eqb, eqb-true}
+use borrow.Author.Tests.{eq-eqb}
 use lib.ListN.{length, getD, take, drop, length-drop}
 use lib.Seq.{ext-getD, length-take-le}
 use lib.Dec.{eqb}
@@ -14,7 +14,6 @@ use Rattle.record.specs.Outline.{wordAt}
 use Rattle.table.specs.Order.{isEqual, compareLists}
 use Rattle.table.specs.declared.order.Order.{Order}
 use Rattle.table.specs.declared.order.Order.the-variants.{Less, Equal, Greater}
-use Rattle.table.proofs.RisingLaws.{both-true}
 use Rattle.table.proofs.OrderLaws.{equal-same, same-equal}
 use Rattle.want.specs.Listing.{isSame}
 use Rattle.want.specs.Blocks.{blockWith, blockHere}
@@ -33,9 +32,6 @@ differ-end a b h e f = differ a b (λ q. no (subst (λ (l : List ℕ). (eqb (len
   where
     no : (eqb (length a) 32 && eqb (getD a 31 0) (getD a 31 0)) ≡ false → ⊥
     no g = let z : _≡_ {A = Bool} true false = sym (rw (eq-eqb (length a) 32 h, eq-eqb (getD a 31 0) (getD a 31 0) refl) refl) ∙ g in let y : _≡_ {A = ℕ} 0 1 = cc in omega arith
-
-pub ends-long : (a b : List ℕ) {r : Bool} → r ≡ (eqb (length b) 32 && eqb (getD a 31 0) (getD b 31 0)) → r ≡ true → length b ≡ 32
-ends-long a b e f = eqb-true (length b) 32 (both-true (eqb (length b) 32) (eqb (getD a 31 0) (getD b 31 0)) (sym e ∙ f) .0)
 
 -- `same` tells whether the first i bytes are alike
 pub record Alike (a b : List ℕ) (i : ℕ) (same : Bool) : Type 0 where

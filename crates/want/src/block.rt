@@ -51,17 +51,6 @@ pub(crate) fn block_hash(s: &[u8], first: usize, j: u32) -> &[u8]
     &s[at..at + 32]
 }
 
-// Whether both are 32 bytes long and end alike: most hashes differ there, and this is small enough to stand in the loops.
-fn ends_alike(a: &[u8], b: &[u8]) -> bool
-    requires { ⌜ length (now a) ≡ 32 ⌝ }
-    ensures { λ r. ⌜ r ≡ (eqb (length (now (b .entry))) 32 && eqb (getD (now (a .entry)) 31 0) (getD (now (b .entry)) 31 0)) ⌝ }
-{
-    if b.len() != 32 {
-        return false;
-    }
-    a[31] == b[31]
-}
-
 // Whether two hashes are the same. With no early exit the loop is two steps of 16 bytes.
 fn same_hash(a: &[u8], b: &[u8]) -> bool
     requires { ⌜ (length (now a) ≡ 32) × (length (now b) ≡ 32) ⌝ }
@@ -79,17 +68,39 @@ fn same_hash(a: &[u8], b: &[u8]) -> bool
 }
 
 // Whether block j has a Length and a hash.
-pub(crate) fn same_block(s: &[u8], first: usize, j: u32, size: u32, hash: &[u8]) -> bool
+fn same_block(s: &[u8], first: usize, j: u32, size: u32, hash: &[u8]) -> bool
     requires { ⌜ blockPlace first j + 40 ≤ length (now s) ⌝ }
     ensures { λ r. ⌜ r ≡ isSame (blockHere (now (s .entry)) (blockPlace first j)) (blockWith size (now (hash .entry))) ⌝ }
 {
-    if !ends_alike(block_hash(s, first, j), hash) {
+    if hash.len() != 32 {
         return false;
     }
     if !same_hash(block_hash(s, first, j), hash) {
         return false;
     }
     block_size(s, first, j) == size
+}
+
+// Whether both are 32 bytes long and end alike.
+fn ends_alike(a: &[u8], b: &[u8]) -> bool
+    requires { ⌜ length (now a) ≡ 32 ⌝ }
+    ensures { λ r. ⌜ r ≡ (eqb (length (now (b .entry))) 32 && eqb (getD (now (a .entry)) 31 0) (getD (now (b .entry)) 31 0)) ⌝ }
+{
+    if b.len() != 32 {
+        return false;
+    }
+    a[31] == b[31]
+}
+
+// The same as same_block, for the search: most hashes differ in the last byte, and that test is small enough to stand in its loop.
+pub(crate) fn is_block(s: &[u8], first: usize, j: u32, size: u32, hash: &[u8]) -> bool
+    requires { ⌜ blockPlace first j + 40 ≤ length (now s) ⌝ }
+    ensures { λ r. ⌜ r ≡ isSame (blockHere (now (s .entry)) (blockPlace first j)) (blockWith size (now (hash .entry))) ⌝ }
+{
+    if !ends_alike(block_hash(s, first, j), hash) {
+        return false;
+    }
+    same_block(s, first, j, size, hash)
 }
 
 // Whether block j, which is at one offset, has a Length and a hash at another.

@@ -5,8 +5,8 @@ ghost use Rattle.table.specs.Table.{isGood, records};
 ghost use Rattle.want.specs.Blocks.{blockWith};
 ghost use Rattle.want.specs.Listing.{isHeld};
 ghost use Rattle.want.specs.Found.{foundFrom, foundIn};
+use crate::block::is_block;
 use crate::block::listed;
-use crate::block::same_block;
 use record::Outline;
 use xdr::Refusal;
 
@@ -33,7 +33,7 @@ fn search(table: &[u8], size: u32, hash: &[u8]) -> Found
         let first = f.first;
         j = 0;
         while j < count {
-            if same_block(table, first, j, size, hash) {
+            if is_block(table, first, j, size, hash) {
                 break 'records;
             }
             j += 1;
