@@ -11,3 +11,4 @@ pub mod CountLaws
 pub mod DoneLaws
 pub mod EntryLaws
 pub mod OutcomeLaws
+pub mod RequestLaws

@@ -44,14 +44,14 @@ fn count_block(local: &[u8], t: &[u8], first: usize, j: u32) -> usize
 }
 
 // How many of a record's blocks are not held.
-fn count_blocks(local: &[u8], t: &[u8], first: usize, count: u32) -> usize
+fn count_blocks(local: &[u8], t: &[u8], first: usize, blocks: u32) -> usize
     requires { ⌜ isGood (now local) ≡ true ⌝ }
-    requires { ⌜ first + blocksSize count ≤ length (now t) ⌝ }
-    ensures { λ r. ⌜ r ≡ wantedCount (records (now (local .entry))) (blocksFrom (now (t .entry)) first 0 count) ⌝ }
+    requires { ⌜ first + blocksSize blocks ≤ length (now t) ⌝ }
+    ensures { λ r. ⌜ r ≡ wantedCount (records (now (local .entry))) (blocksFrom (now (t .entry)) first 0 blocks) ⌝ }
 {
     let mut n = 0;
     let mut j = 0;
-    while j < count {
+    while j < blocks {
         n += count_block(local, t, first, j);
         j += 1;
     }

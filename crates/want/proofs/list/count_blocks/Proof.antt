@@ -8,13 +8,13 @@ use Rattle.want.proofs.list.count_blocks.Statement.{statement}
 use Rattle.want.proofs.list.count_blocks.Tie as tie
 
 abbrev Inv-loop : tie.InvT-loop
-Inv-loop local t first count n₀ j₀ n j = Counting (records local) t first count n j
+Inv-loop local t first blocks n₀ j₀ n j = Counting (records local) t first blocks n j
 
 abbrev μ-loop : tie.MeasureT-loop
-μ-loop local t first count n₀ j₀ n j = count - j
+μ-loop local t first blocks n₀ j₀ n j = blocks - j
 
 loop-holds : tie.Need-loop-holds Inv-loop μ-loop
-loop-holds c = let s = c .before .before .args in counting-starts (records (now (s .local))) (now (s .t)) (s .first) (s .count)
+loop-holds c = let s = c .before .before .args in counting-starts (records (now (s .local))) (now (s .t)) (s .first) (s .blocks)
 
 count-block-requires : tie.Need-count-block-requires Inv-loop μ-loop
 count-block-requires c κs = (c .before .before .before .before .pre .0, omega (arith, c .loop-test .taken, c .before .before .before .before .pre .1))
