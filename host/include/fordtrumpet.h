@@ -191,6 +191,28 @@ uint32_t bep_compare(const uint8_t *a, size_t a_len, size_t i,
 uint32_t bep_merge(uint8_t *out, size_t out_len, const uint8_t *a, size_t a_len,
                    const uint8_t *b, size_t b_len, uint64_t answer[1]);
 
+/*
+ * Fills the buffer with the blocks to request: of each name over the five tables the newest record
+ * counts, and its blocks are wanted where it is valid and undeleted and no valid, undeleted record of
+ * the local table has their length and hash. An absent peer is the empty table. 24 bytes a block,
+ * big-endian, by name and then by block: the file's number among all names and the block's number,
+ * from 0 (32 bits each), the offset (64), the length and the peer, 1 to 4 (32 each). Refused with 15
+ * or 14. answer[0] is the number of bytes filled, or 0.
+ */
+uint32_t bep_request_list(uint8_t *out, size_t out_len, const uint8_t *local, size_t local_len,
+                          const uint8_t *peer1, size_t peer1_len,
+                          const uint8_t *peer2, size_t peer2_len,
+                          const uint8_t *peer3, size_t peer3_len,
+                          const uint8_t *peer4, size_t peer4_len, uint64_t answer[1]);
+
+/*
+ * Where a valid, undeleted record of a table first has a block with this length and hash: answer[0]
+ * is 1, [1] the record's number and [2] the block's, from 0. All are 0 where none has. Refused with
+ * 15.
+ */
+uint32_t bep_find(const uint8_t *table, size_t table_len, uint32_t length,
+                  const uint8_t *hash, size_t hash_len, uint64_t answer[3]);
+
 #ifdef __cplusplus
 }
 #endif

@@ -130,4 +130,33 @@ unsafe extern "C" {
         b_len: usize,
         answer: *mut [u64; 1],
     ) -> u32;
+
+    /// Fills the buffer with the request list of a local table and four peers', 24 bytes a block.
+    /// `answer[0]` is the number of bytes filled, or the place of the refusal, which is 0.
+    pub fn bep_request_list(
+        out: *mut u8,
+        out_len: usize,
+        local: *const u8,
+        local_len: usize,
+        peer1: *const u8,
+        peer1_len: usize,
+        peer2: *const u8,
+        peer2_len: usize,
+        peer3: *const u8,
+        peer3_len: usize,
+        peer4: *const u8,
+        peer4_len: usize,
+        answer: *mut [u64; 1],
+    ) -> u32;
+
+    /// Where a table first lists a block: `answer[0]` is 1, `[1]` the record's number and `[2]` the
+    /// block's, from 0; or all are 0.
+    pub fn bep_find(
+        table: *const u8,
+        table_len: usize,
+        length: u32,
+        hash: *const u8,
+        hash_len: usize,
+        answer: *mut [u64; 3],
+    ) -> u32;
 }

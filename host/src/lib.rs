@@ -48,6 +48,7 @@ mod message;
 mod records;
 mod refusal;
 mod table;
+mod want;
 mod write;
 
 pub use builders::{FilesBuilder, OptionsBuilder};
@@ -58,6 +59,7 @@ pub use records::{
 };
 pub use refusal::Refusal;
 pub use table::{compare, is_good, merge, Table, MAX_TABLE};
+pub use want::{find_local, request_list, RequestList, RequestListIter, Wanted};
 pub use write::{
     write_index, write_index_update, write_options, write_ping, write_pong, write_request,
     write_response,
