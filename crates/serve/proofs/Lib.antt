@@ -1,0 +1,2 @@
+-- Laws of the ruling.
+pub mod RulingLaws
