@@ -6,8 +6,7 @@ use mathlib.Core.Bool.{Bool, true, false}
 use native.Mathlib.Omega.{arith}
 use lib.ListN.{length, take, drop}
 use Rattle.xdr.specs.Reading.{Reading, taken, refused}
-use Rattle.xdr.specs.Format.{Format, bytes, readAt}
-use Rattle.xdr.specs.Fields.{text}
+use Rattle.xdr.specs.Format.{readAt}
 use Rattle.xdr.proofs.Steps.{Reads, opened, passed}
 use Rattle.xdr.proofs.Strings.{string-ends}
 use Rattle.xdr.proofs.Parts.{pair-parts}

@@ -2,12 +2,12 @@
 ghost use mathlib.Core.Path.{_≡_};
 ghost use mathlib.Core.Bool.{true};
 ghost use mathlib.Core.List.{[]};
-ghost use lib.ListN.{length, take, drop};
+ghost use lib.ListN.{length};
 ghost use Rattle.message_write.specs.Writing.{writing, responseBytes, writtenAnswer, writtenBuffer};
 ghost use Rattle.table.specs.Table.{isGood, records};
 ghost use Rattle.want.specs.Listing.{listsThere};
 ghost use Rattle.want.specs.Blocks.{blockWith};
-ghost use Rattle.serve.specs.Ruling.{spanBytes, isOurs as isOursOf, refuses, rulingBy, rulingOf, replyAnswer, servingAnswer, servingBuffer, otherOf, askingOf};
+ghost use Rattle.serve.specs.Ruling.{spanBytes, isOurs as isOursOf, refuses, rulingOf, replyAnswer, servingAnswer, servingBuffer, otherOf, askingOf};
 use message::Message;
 use message::RequestSpan;
 use message::Span;

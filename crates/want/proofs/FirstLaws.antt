@@ -19,7 +19,6 @@ use Rattle.table.proofs.WalkLaws.{At, at-end, standing, compared-there}
 use Rattle.merge.specs.Highest.{AtLeast}
 use Rattle.merge.specs.Next.{chosen, nextOf}
 use Rattle.merge.specs.declared.next.Next.{Next}
-use Rattle.merge.specs.declared.next.Next.the-variants.{End, More}
 use Rattle.merge.proofs.NextLaws.{next-by, by-records}
 use Rattle.want.specs.Places.{isFirst, tableAt, placeAt, lowerOf, lowestFrom}
 use Rattle.want.proofs.HeadLaws.{Leads}
