@@ -1,22 +1,18 @@
 -- Counting a record's blocks that are not held, and how long lists of wanted blocks are.
-use Prim.Native.Nat.{ℕ, zero, suc, _+_, _-_, _*_, _≤_, _<_}
-use mathlib.Core.List.{List, [], _∷_, _++_}
+use Prim.Native.Nat.{ℕ, zero, suc, _+_, _-_, _≤_, _<_}
+use mathlib.Core.List.{List, [], _∷_}
 use mathlib.Core.Path.{_≡_, refl, sym, ap, _∙_}
 use mathlib.Core.Bool.{Bool, true, false, cond}
 use native.Mathlib.Omega.{arith}
-use lib.ListN.{length, take, drop, length-append}
+use lib.ListN.{length, length-append}
 use Rattle.record.specs.Block.{Block}
 use Rattle.record.specs.File.{File}
-use Rattle.record.specs.Outline.{wordAt, blockPlace}
+use Rattle.record.specs.Outline.{blockPlace}
 use Rattle.want.specs.Listing.{isHeld}
-use Rattle.want.specs.Blocks.{blockWith, blockHere, blocksFrom}
+use Rattle.want.specs.Blocks.{blockHere, blocksFrom}
 use Rattle.want.specs.Wanted.{wantedBlock, wantedBlocks}
 use Rattle.want.specs.Places.{wantedCount}
 use Rattle.want.specs.declared.list.Wanted.{Wanted}
-
--- a block is held, by its Length and hash as they were read
-pub held-here : (local : List File) (t : List ℕ) (at : ℕ) {n : ℕ} {h : List ℕ} {r : Bool} → r ≡ isHeld local (blockWith n h) → n ≡ wordAt t at → h ≡ take 32 (drop (at + 8) t) → r ≡ isHeld local (blockHere t at)
-held-here local t at {n} {h} e f g = e ∙ ap (λ (k : ℕ). isHeld local (blockWith k h)) f ∙ ap (λ (l : List ℕ). isHeld local (blockWith (wordAt t at) l)) g
 
 -- what the loop keeps: so many of the blocks before j are not held
 pub record Counting (local : List File) (t : List ℕ) (first count n j : ℕ) : Type 0 where

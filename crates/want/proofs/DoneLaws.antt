@@ -1,11 +1,10 @@
 -- How far the list has come: the blocks done, and those of the records left, make up the request list.
-use Prim.Native.Nat.{ℕ, suc, _+_, _-_, _*_, _≤_, _<_}
+use Prim.Native.Nat.{ℕ, _+_, _-_, _≤_, _<_}
 use mathlib.Core.List.{List, [], _∷_, _++_, map, append-assoc, append-nil}
 use mathlib.Core.Path.{_≡_, refl, sym, ap, _∙_}
 use mathlib.Core.Bool.{true}
 use native.Mathlib.Omega.{arith}
 use lib.ListN.{length, getD, drop, length-append}
-use Rattle.record.specs.Block.{Block}
 use Rattle.record.specs.File.{File}
 use Rattle.record.specs.Outline.{outlineOf}
 use Rattle.record.specs.declared.outline.Fields.{Fields}

@@ -2,7 +2,7 @@
 use Prim.Native.Nat.{ℕ, suc, _+_, _-_, _*_, _≤_, _<_}
 use mathlib.Core.List.{List, [], _∷_, _++_, append-assoc, append-nil, map}
 use mathlib.Core.Path.{_≡_, refl, sym, ap, _∙_}
-use mathlib.Core.Bool.{Bool, true, false, cond}
+use mathlib.Core.Bool.{Bool, true, false}
 use native.Mathlib.Omega.{arith}
 use borrow.Author.Tests.{le-leb}
 use lib.ListN.{length, getD, take, drop, length-append, take-append-drop}
@@ -23,13 +23,13 @@ use Rattle.merge.specs.Merged.{mergedOf}
 use Rattle.want.specs.Listing.{isHeld}
 use Rattle.want.specs.Blocks.{blockWith, blockHere, listedCount}
 use Rattle.want.specs.Wanted.{wantedBlock, wantedFiles, wantedBytes, listBytes}
-use Rattle.want.specs.Places.{tableAt, placeAt, lowestFrom, peerAt, Five, listOf, wantedHere, wantedFrom}
+use Rattle.want.specs.Places.{tableAt, placeAt, lowestFrom, Five, listOf, wantedHere, wantedFrom}
 use Rattle.want.specs.declared.list.Wanted.{Wanted}
 use Rattle.table.proofs.TableLaws.{word-bytes}
 use Rattle.want.proofs.PlaceLaws.{element}
 use Rattle.want.proofs.HeadLaws.{without}
-use Rattle.want.proofs.SideLaws.{total, placesAfter, starts, Turn}
-use Rattle.want.proofs.DoneLaws.{localOf, peersOf, Done, done-starts, done-all, done-begins, done-turn, done-less}
+use Rattle.want.proofs.SideLaws.{placesAfter, starts, Turn}
+use Rattle.want.proofs.DoneLaws.{localOf, peersOf, Done, done-starts, done-all, done-begins, done-turn}
 
 -- bytes put right behind others
 pub over-put : (out : List ℕ) (at : ℕ) (l m : List ℕ) {o p : List ℕ} {k : ℕ} → o ≡ over out at l → k ≡ at + length l → k + length m ≤ length out → p ≡ put o k m → p ≡ over out at (l ++ m)

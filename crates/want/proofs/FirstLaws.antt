@@ -19,9 +19,9 @@ use Rattle.table.proofs.WalkLaws.{At, at-end, standing, compared-there}
 use Rattle.merge.specs.Highest.{AtLeast}
 use Rattle.merge.specs.Next.{chosen, nextOf}
 use Rattle.merge.specs.declared.next.Next.{Next}
-use Rattle.merge.specs.declared.next.Next.the-variants.{End, More}
 use Rattle.merge.proofs.NextLaws.{next-by, by-records}
 use Rattle.want.specs.Places.{isFirst, tableAt, placeAt, lowerOf, lowestFrom}
+use Rattle.want.proofs.PlaceLaws.{lower-small}
 use Rattle.want.proofs.HeadLaws.{Leads}
 
 -- the head of the first list leads the second; where there is none, the second is empty too
@@ -92,18 +92,11 @@ module _ (ts : List (List ℕ)) (ps : List ℕ) (ls : List (List File)) (at : (k
       go true f m h = last best m f h (decLt m k) (λ l. lead m l)
       go false f m h = last k m (first-self (getD ls k [])) h (decLt m k) (λ l. first-trans (getD ls k []) (getD ls best []) (getD ls m []) f (lead m l))
 
-  lead-small : (best k : ℕ) → best < 5 → k < 5 → lowerOf ts ps best k < 5
-  lead-small best k p q = go (isFirst (nextOf (tableAt ts best) (placeAt ps best) (tableAt ts k) (placeAt ps k)))
-    where
-      go : (b : Bool) → cond b best k < 5
-      go true = p
-      go false = q
-
   lead-all : (left best k : ℕ) → k + left ≡ 5 → best < 5 → Leading best k → Lead (lowestFrom ts ps best k left)
   unfolding lowestFrom
   lead-all zero best k e p lead = record { small = p; leads = λ m h. lead m (omega arith) }
   lead-all (suc left) best k e p lead =
-      lead-all left (lowerOf ts ps best k) (k + 1) (omega arith) (lead-small best k p (omega arith)) (lead-more best k p (omega arith) lead)
+      lead-all left (lowerOf ts ps best k) (k + 1) (omega arith) (lower-small ts ps best k p (omega arith)) (lead-more best k p (omega arith) lead)
 
   -- the table that is found leads all
   pub lowest-leads : Lead (lowestFrom ts ps 0 1 4)

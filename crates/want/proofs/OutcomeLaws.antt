@@ -1,15 +1,15 @@
 -- What the request list does, by the checks of the tables and the room.
 use Prim.Native.Nat.{ℕ, _*_, _≤_, _<_}
-use mathlib.Core.List.{List, [], _∷_, map}
+use mathlib.Core.List.{List, [], _∷_}
 use mathlib.Core.Path.{_≡_, refl, sym, ap, _∙_}
 use mathlib.Core.Bool.{Bool, true, false, _&&_}
 use borrow.Author.Tests.{le-leb, lt-leb}
 use lib.ListN.{length}
 use Rattle.xdr.specs.Number.{IsBytes}
-use Rattle.table.specs.Table.{isGood, records}
+use Rattle.table.specs.Table.{isGood}
 use Rattle.table.specs.Filling.{accepted, refused}
 use Rattle.table.proofs.RisingLaws.{both-true}
-use Rattle.want.specs.Wanted.{requestList, listBytes, allGood, requestOutcome}
+use Rattle.want.specs.Wanted.{listBytes, allGood, requestOutcome}
 use Rattle.want.specs.Places.{tableAt, Five, listOf}
 use Rattle.want.proofs.SideLaws.{by-five}
 use Rattle.want.proofs.EntryLaws.{bytes-length}

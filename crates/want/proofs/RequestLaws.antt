@@ -1,6 +1,6 @@
 -- What the request list holds: an entry for each block of a highest record that is valid and undeleted and that no such local record lists, and
 -- nothing else; by name, then by block; and for each the lowest peer that lists it there, which there always is.
-use Prim.Native.Nat.{ℕ, zero, suc, _+_, _-_, _≤_, _<_}
+use Prim.Native.Nat.{ℕ, zero, suc, _+_, _-_, _<_}
 use mathlib.Core.List.{List, [], _∷_, _++_, List·Memᴰ, List·Memᴰ·head, List·Memᴰ·tail, List·Memᴰ·cases-cons, List·Memᴰ·not-nil, List·Memᴰ·append-cases, Memᴰ·append-left, Memᴰ·append-right}
 use mathlib.Core.Path.{_≡_, refl, sym, ap, subst, _∙_}
 use mathlib.Core.Logic.{_⊎_, inl, inr, ⊎-elim}
@@ -11,11 +11,9 @@ use lib.ListN.{length, getD}
 use lib.Dec.{eqb}
 use Rattle.record.specs.Block.{Block, totalSize}
 use Rattle.record.specs.File.{File}
-use Rattle.table.specs.Order.{isEqual, compareLists}
 use Rattle.table.proofs.OrderLaws.{same-equal}
 use Rattle.table.proofs.RisingLaws.{Rising}
 use Rattle.merge.specs.Merged.{mergedOf}
-use Rattle.merge.specs.Highest.{joined}
 use Rattle.merge.proofs.HighestLaws.{_∈_, above-all, merged-highest}
 use Rattle.want.specs.Listing.{isSame, listed, hasBlock, isHeld, hasThere, listsThere}
 use Rattle.want.specs.Wanted.{peerFrom, wantedBlock, wantedBlocks, wantedFiles, requestList}

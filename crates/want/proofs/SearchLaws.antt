@@ -20,7 +20,7 @@ use Rattle.want.specs.Blocks.{blockHere, blocksFrom, listedCount}
 use Rattle.want.specs.Found.{foundAmong, foundFrom, foundIn}
 use Rattle.want.specs.declared.search.Found.{Found}
 use Rattle.want.specs.declared.search.Found.the-variants as F
-use Rattle.want.proofs.ListingLaws.{Heads, heads, none-here, listed-blocks, listed-within}
+use Rattle.want.proofs.ListingLaws.{heads, none-here, listed-blocks, listed-within}
 
 -- before record n, at a place: nothing was found so far
 pub record Searched (t : List ℕ) (b : Block) (at n : ℕ) : Type 0 where

@@ -2,7 +2,7 @@
 use Prim.Native.Nat.{ℕ, zero, suc, _+_, _*_, _≤_, _<_}
 use mathlib.Core.List.{List, [], _∷_, map, List·Memᴰ·head, List·Memᴰ·not-nil}
 use mathlib.Core.Path.{_≡_, refl, sym, ap, subst, _∙_}
-use mathlib.Core.Logic.{_⊎_, inl, inr}
+use mathlib.Core.Logic.{inl, inr}
 use mathlib.Core.Bool.{Bool, true, false, cond}
 use native.Mathlib.Omega.{arith}
 use lib.ListN.{length, getD, drop, List·getD-map}
@@ -28,7 +28,7 @@ use Rattle.want.specs.Listing.{listed, isCurrent, hasThere, listsThere}
 use Rattle.want.specs.Blocks.{blocksFrom, listedCount}
 use Rattle.want.specs.Wanted.{peerFrom}
 use Rattle.want.specs.Places.{tableAt, placeAt, lowestFrom, pastName, listsAt, peerAt, Five}
-use Rattle.want.proofs.ListingLaws.{listed-few, Heads, heads, none-here, listed-blocks, listed-within}
+use Rattle.want.proofs.ListingLaws.{listed-few, heads, none-here, listed-blocks, listed-within}
 use Rattle.want.proofs.ThereLaws.{past-none, past-by, lists-none, lists-by}
 use Rattle.want.proofs.PlaceLaws.{peer-next, peer-none}
 use Rattle.want.proofs.HeadLaws.{Leads, without, above-test, same-test, all-left, tail-left, rest-rising, in-joined, length-map, left-of, Heading, head-in, left-above, left-in, merged-next}

@@ -72,7 +72,7 @@ pub(crate) fn advanced(tables: [&[u8]; 5], places: [usize; 5], name: &[u8]) -> [
 }
 
 // Whether the record at a place is of a name and lists a block there.
-fn lists_at(t: &[u8], at: usize, name: &[u8], offset: u64, size: u32, hash: &[u8]) -> bool
+pub fn lists_at(t: &[u8], at: usize, name: &[u8], offset: u64, size: u32, hash: &[u8]) -> bool
     ensures { λ r. ⌜ r ≡ listsAt (now (t .entry)) at (now (name .entry)) offset (blockWith size (now (hash .entry))) ⌝ }
 {
     let Outline::Whole(f) = record::outline_at(t, at) else {

@@ -2,7 +2,6 @@
 use mathlib.Core.Path.{refl}
 use native.Mathlib.Omega.{arith}
 use borrow.Author.Tests.{eq-eqb, ne-eqb}
-use borrow.Author.Needs.{needs}
 use Rattle.want.proofs.block.ends_alike.Statement.{statement}
 use Rattle.want.proofs.block.ends_alike.Tie as tie
 

@@ -1,7 +1,7 @@
 -- `want::list::count` meets its contract.
-use Prim.Native.Nat.{ℕ, _-_}
-use mathlib.Core.List.{List, map}
-use mathlib.Core.Path.{_≡_, refl, ap, _∙_}
+use Prim.Native.Nat.{_-_}
+use mathlib.Core.List.{map}
+use mathlib.Core.Path.{refl}
 use native.Mathlib.Omega.{arith}
 use denote.Ref.{now}
 use Rattle.want.proofs.PlaceLaws.{element}

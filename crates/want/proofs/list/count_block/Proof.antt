@@ -2,8 +2,7 @@
 use mathlib.Core.Path.{refl, sym, _∙_}
 use denote.Ref.{now}
 use Rattle.record.specs.Outline.{blockPlace}
-use Rattle.table.specs.Table.{records}
-use Rattle.want.proofs.CountLaws.{held-here}
+use Rattle.want.proofs.EntryLaws.{held-first}
 use borrow.Author.Needs.{needs}
 use Rattle.want.proofs.list.count_block.Statement.{statement}
 use Rattle.want.proofs.list.count_block.Tie as tie
@@ -18,10 +17,10 @@ is-held-requires : tie.Need-is-held-requires
 is-held-requires c κs = search needs
 
 returns : tie.Need-returns
-returns c = let s = c .before .before .before .before .before .before .args in rw (sym (held-here (records (now (s .local))) (now (s .t)) (blockPlace (s .first) (s .j)) (c .before .is-held .ensures) (c .before .before .before .block-size .ensures) (c .before .before .block-hash .ensures)) ∙ c .if1 .taken) refl
+returns c = let s = c .before .before .before .before .before .before .args in rw (sym (held-first (now (s .t)) (blockPlace (s .first) (s .j)) (c .before .before .before .block-size .ensures) (c .before .before .block-hash .ensures) (c .before .is-held .ensures) refl) ∙ c .if1 .taken) refl
 
 returns-2 : tie.Need-returns-2
-returns-2 c = let s = c .before .before .before .before .before .before .args in rw (sym (held-here (records (now (s .local))) (now (s .t)) (blockPlace (s .first) (s .j)) (c .before .is-held .ensures) (c .before .before .before .block-size .ensures) (c .before .before .block-hash .ensures)) ∙ c .if1 .left) refl
+returns-2 c = let s = c .before .before .before .before .before .before .args in rw (sym (held-first (now (s .t)) (blockPlace (s .first) (s .j)) (c .before .before .before .block-size .ensures) (c .before .before .block-hash .ensures) (c .before .is-held .ensures) refl) ∙ c .if1 .left) refl
 
 pub count-block-spec : {M : Type 1} → statement M
 count-block-spec =
