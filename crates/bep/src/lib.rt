@@ -5,5 +5,6 @@
 pub mod outline;
 pub mod read;
 pub mod requests;
+pub mod ruling;
 pub mod tables;
 pub mod write;
