@@ -213,6 +213,18 @@ uint32_t bep_request_list(uint8_t *out, size_t out_len, const uint8_t *local, si
 uint32_t bep_find(const uint8_t *table, size_t table_len, uint32_t length,
                   const uint8_t *hash, size_t hash_len, uint64_t answer[3]);
 
+/*
+ * Rules on an incoming Request, by our own table and Repository. It is served where it names our
+ * Repository and our table has a valid, undeleted record of that name with that length and hash at
+ * that offset: answer[0] is 1, [1] and [2] start and length of the name in the message, [3] the
+ * offset, [4] the length, and nothing is written. Otherwise the reply, a Response with the same ID and
+ * no data (8 bytes), is written: answer[0] is 0 and [1] its length. Refused with 15, what reading the
+ * message gives, 18 or 14: answer[0] is 0 and [1] the place.
+ */
+uint32_t bep_serve(uint8_t *out, size_t out_len, const uint8_t *table, size_t table_len,
+                   const uint8_t *repository, size_t repository_len,
+                   const uint8_t *message, size_t message_len, uint64_t answer[5]);
+
 #ifdef __cplusplus
 }
 #endif

@@ -159,4 +159,19 @@ unsafe extern "C" {
         hash_len: usize,
         answer: *mut [u64; 3],
     ) -> u32;
+
+    /// Rules on a Request. `answer[0]` is 1 where it is served: `[1]` and `[2]` are start and length
+    /// of the name in the message, `[3]` the offset and `[4]` the length. It is 0 where the reply was
+    /// written, and `[1]` its length. Refused, `[1]` is the place.
+    pub fn bep_serve(
+        out: *mut u8,
+        out_len: usize,
+        table: *const u8,
+        table_len: usize,
+        repository: *const u8,
+        repository_len: usize,
+        message: *const u8,
+        message_len: usize,
+        answer: *mut [u64; 5],
+    ) -> u32;
 }

@@ -47,6 +47,7 @@ mod ffi;
 mod message;
 mod records;
 mod refusal;
+mod serve;
 mod table;
 mod want;
 mod write;
@@ -58,6 +59,7 @@ pub use records::{
     KeyValuesIter,
 };
 pub use refusal::Refusal;
+pub use serve::{serve, Serving};
 pub use table::{compare, is_good, merge, Table, MAX_TABLE};
 pub use want::{find_local, request_list, RequestList, RequestListIter, Wanted};
 pub use write::{

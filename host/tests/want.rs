@@ -8,8 +8,11 @@ mod support;
 use std::collections::BTreeMap;
 use std::env;
 use std::io::Write;
-use support::compare::{same, Compared};
+use support::compare::{same, same_bytes, Compared};
+use support::damage;
+use support::draft::{Body, Draft};
 use support::encode::{Block, File};
+use support::generate;
 use support::library::Answer;
 use support::random::Random;
 use support::table_calls::{expected, TableComparison, TABLE_CALLS};
@@ -37,6 +40,128 @@ fn list(tables: [&[u8]; 5], out: &mut [u8]) -> Answer<1> {
 
 fn find(table: &[u8], length: u32, hash: &[u8]) -> Result<Option<(u32, u32)>, u32> {
     fordtrumpet::find_local(table, length, hash).map_err(|refusal| refusal.number)
+}
+
+/// What a ruling came to, in words that both sides share.
+#[derive(Clone, Copy, Debug, PartialEq, Eq)]
+enum Ruling {
+    Served(usize, usize, u64, u32),
+    Replied(usize),
+    Refused(u32, usize),
+}
+
+fn serve(table: &[u8], repository: &[u8], message: &[u8], out: &mut [u8]) -> Ruling {
+    match fordtrumpet::serve(table, repository, message, out) {
+        Ok(fordtrumpet::Serving::Served {
+            name,
+            offset,
+            length,
+        }) => {
+            let start = name.as_ptr() as usize - message.as_ptr() as usize;
+            Ruling::Served(start, name.len(), offset, length)
+        }
+        Ok(fordtrumpet::Serving::Replied(len)) => Ruling::Replied(len),
+        Err(refusal) => Ruling::Refused(refusal.number, refusal.place),
+    }
+}
+
+fn serve_by_reference(table: &[u8], repository: &[u8], message: &[u8], out: &mut [u8]) -> Ruling {
+    match reference::serve(table, repository, message, out) {
+        Ok(reference::Serving::Served {
+            name,
+            offset,
+            length,
+        }) => Ruling::Served(name.start, name.len, offset, length),
+        Ok(reference::Serving::Replied(len)) => Ruling::Replied(len),
+        Err(refusal) => Ruling::Refused(refusal.number, refusal.place),
+    }
+}
+
+/// A Request for a block of a record, mostly as it is, or off by a little.
+fn request(random: &mut Random, files: &[File]) -> Draft {
+    let file = random.pick_from(files);
+    let at = random.below(file.blocks.len() + 1);
+    let before: u64 = file.blocks[..at]
+        .iter()
+        .map(|block| u64::from(block.length))
+        .sum();
+    let block = match file.blocks.get(at) {
+        Some(block) => *block,
+        None => generate::block(random),
+    };
+    let mut hash = block.hash.to_vec();
+    let (mut name, mut offset, mut length) = (file.name.clone(), before, block.length);
+    let mut repository = b"default".to_vec();
+    match random.below(12) {
+        0 => repository.push(b's'),
+        1 => name.push(b'a'),
+        2 => offset = offset.wrapping_add(1),
+        3 => length = length % 131_072 + 1,
+        4 => hash[random.below(32)] ^= 1,
+        _ => {}
+    }
+    Draft {
+        id: random.word() % 4096,
+        body: Body::Request {
+            repository,
+            name,
+            offset,
+            length,
+            hash,
+        },
+    }
+}
+
+fn compare_serving(number: u64, met: &mut BTreeMap<u32, u64>) -> Compared {
+    let mut random = random_of(!number);
+    let pool = Pool::new(&mut random);
+    let mut files = pool.files(&mut random);
+    if files.is_empty() {
+        files.push(pool.file(&mut random));
+    }
+    let table = match random.below(12) {
+        0 => pool.table(&mut random),
+        _ => encode(&files),
+    };
+    let draft = match random.below(12) {
+        0 => generate::draft(&mut random),
+        _ => request(&mut random, &files),
+    };
+    let mut message = draft.encode();
+    if random.once_in(12) {
+        damage::encoding(&mut message, &mut random);
+    }
+    let room = random.pick(&[0, 7, 8, 8, 8, 9, 20]);
+    let before = random.bytes(room);
+    let (mut out, mut expected_out) = (before.clone(), before);
+    let answer = serve(&table, b"default", &message.bytes, &mut out);
+    let expected = serve_by_reference(&table, b"default", &message.bytes, &mut expected_out);
+    let kind = match expected {
+        Ruling::Served(..) => 100,
+        Ruling::Replied(_) => 101,
+        Ruling::Refused(number, _) => number,
+    };
+    *met.entry(kind).or_default() += 1;
+    same("serve", &answer, &expected)?;
+    same_bytes("buffer of a ruling", &out, &expected_out)
+}
+
+#[test]
+fn generated_requests_get_the_same_rulings() {
+    let from = setting("SOAK_FROM").unwrap_or(0);
+    let inputs = setting("SOAK").unwrap_or(INPUTS) * 4;
+    let mut met = BTreeMap::new();
+    for number in from..from + inputs {
+        if let Err(difference) = compare_serving(number, &mut met) {
+            panic!("ruling {number}: {difference}");
+        }
+    }
+    say(&format!("{inputs} rulings compared, no difference"));
+    if inputs >= INPUTS {
+        for kind in [1, 7, 8, 9, 10, 14, 15, 18, 100, 101] {
+            assert!(met.get(&kind) >= Some(&20), "{kind} in {met:?}");
+        }
+    }
 }
 
 fn random_of(number: u64) -> Random {
