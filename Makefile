@@ -1,18 +1,29 @@
-# run: what a sample message holds      cases: the worked cases, a line each      test: the whole gate
+# run: the request list of the tables in DIR (an example's by default)      list: the records of the table in DIR
+# show: what a sample message holds      cases: the worked cases, a line each      test: the whole gate
 # bench: library and reference side by side      soak N=..: that many generated inputs compared
-.PHONY: run cases test bench soak
+.PHONY: run list show cases test bench soak
 
 LIB := target/staticlib/libbep.a
+DIR ?= crates/wanted/data
 
-run: $(LIB)
+# Proves a program and what it uses, and compiles it.
+target/bin/%: $(wildcard crates/*/src/*.rt)
+	@rt check $* >/dev/null
+
+run: target/bin/wanted
+	@cd $(DIR) && $(CURDIR)/target/bin/wanted
+
+list: target/bin/listing
+	@cd $(DIR) && $(CURDIR)/target/bin/listing
+
+show: $(LIB)
 	@cd host && cargo run --quiet --release --offline --example make_sample ../target/sample.bin
 	@cc -std=c99 -Wall -Wextra -Werror -Ihost/include host/examples/show.c $(LIB) -o target/show
 	@target/show target/sample.bin
 
-cases:
-	@rt check cases table_cases >/dev/null
-	@target/bin/cases
-	@target/bin/table_cases
+CASES := cases table_cases
+cases: $(addprefix target/bin/,$(CASES))
+	@for program in $(CASES); do target/bin/$$program; done
 
 test:
 	@.ci/run
@@ -22,7 +33,7 @@ bench: $(LIB)
 
 N ?= 1000000
 soak: $(LIB)
-	@cd host && SOAK=$(N) cargo test --quiet --release --offline --test differential --test tables generated lists -- --nocapture
+	@cd host && SOAK=$(N) cargo test --quiet --release --offline generated lists -- --nocapture
 
 $(LIB): $(wildcard crates/*/src/*.rt)
 	@rt staticlib bep >/dev/null

@@ -1,6 +1,7 @@
 -- The promises.
 pub mod Worked
 pub mod Messages
+pub mod Numbers
 mod MemoryLaws
 pub mod Merges
 pub mod SampleMerges
