@@ -1,3 +1,6 @@
 -- Laws of the answers as words.
 mod WriteLaws
 mod TableLaws
+mod StepLaws
+mod PackLaws
+mod RequestLaws

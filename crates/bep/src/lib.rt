@@ -4,5 +4,6 @@
 // an answer or a message overlaps nothing else that the call is given.
 pub mod outline;
 pub mod read;
+pub mod requests;
 pub mod tables;
 pub mod write;

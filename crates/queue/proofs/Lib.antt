@@ -4,4 +4,4 @@ pub mod QueueLaws
 pub mod IssueLaws
 pub mod AnswerLaws
 mod ShiftLaws
-mod OwnedArray
+pub mod OwnedArray
