@@ -1,6 +1,6 @@
 //! Compares the calls on tables with the reference.
 
-use super::compare::{same, same_bytes, Compared};
+use super::compare::{file_words, same, same_bytes, Compared};
 use super::library::{ffi, Answer, UNSET};
 use super::random::Random;
 use crate::reference;
@@ -142,15 +142,14 @@ impl TableComparison {
         let room = old.len() + message.len() + random.below(9);
         let calls = self.calls;
         let call = |out: &mut [u8]| (calls.accept)(old, message, repository, out);
-        let reference =
-            |out: &mut [u8]| expected(reference::accept(old, message, repository, out));
+        let reference = |out: &mut [u8]| expected(reference::accept(old, message, repository, out));
         self.fill_all("accept", room, random, call, reference)
     }
 
     /// What stands at a place of a table.
     pub fn step(&mut self, table: &[u8], at: usize) -> Compared {
         let expected = match reference::step(table, at) {
-            Ok(Some(file)) => (0, file_words(&file)),
+            Ok(Some(file)) => file_words(Some(file)),
             Ok(None) => (0, [0; 8]),
             Err(refusal) => (refusal.number, [0; 8]),
         };
