@@ -22,7 +22,7 @@ bench: $(LIB)
 
 N ?= 1000000
 soak: $(LIB)
-	@cd host && SOAK=$(N) cargo test --quiet --release --offline --test differential --test tables generated lists -- --nocapture
+	@cd host && SOAK=$(N) cargo test --quiet --release --offline --test differential --test tables --test queues generated lists -- --nocapture
 
 $(LIB): $(wildcard crates/*/src/*.rt)
 	@rt staticlib bep >/dev/null
