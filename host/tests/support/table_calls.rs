@@ -7,13 +7,16 @@ use crate::reference;
 use std::cmp::Ordering;
 use std::collections::BTreeMap;
 
+/// Old table, message, repository, buffer.
+pub type Accept = fn(&[u8], &[u8], &[u8], &mut [u8]) -> Answer<1>;
+
 /// The calls under test. Faults are planted by exchanging one of them.
 #[derive(Clone, Copy)]
 pub struct TableCalls {
     pub is_good: fn(&[u8]) -> bool,
     pub compare: fn(&[u8], usize, &[u8], usize) -> Answer<1>,
     pub merge: fn(&[u8], &[u8], &mut [u8]) -> Answer<1>,
-    pub accept: fn(&[u8], &[u8], &[u8], &mut [u8]) -> Answer<1>,
+    pub accept: Accept,
     pub step: fn(&[u8], usize) -> Answer<8>,
 }
 
