@@ -10,9 +10,10 @@ run: $(LIB)
 	@target/show target/sample.bin
 
 cases:
-	@rt check cases table_cases >/dev/null
+	@rt check cases table_cases queue_cases >/dev/null
 	@target/bin/cases
 	@target/bin/table_cases
+	@target/bin/queue_cases
 
 test:
 	@.ci/run
