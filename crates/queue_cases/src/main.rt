@@ -15,26 +15,31 @@ fn main() {
     openings();
 }
 
+// Two requests of one Length.
+fn twice(q: RequestQueue, size: u32) -> RequestQueue {
+    let q = calls::issue(q, size, 68);
+    calls::issue(q, size, 68)
+}
+
 // Four requests of 131,072 bytes and a fifth of one.
 fn allowance(window: u32, label: &[u8]) {
     lines::text(label);
-    let q = calls::open_with(window);
-    let q = calls::issue(q, 131072, 68);
-    let q = calls::issue(q, 131072, 68);
-    let q = calls::issue(q, 131072, 68);
-    let q = calls::issue(q, 131072, 68);
+    let q = twice(twice(calls::open_with(window), 131072), 131072);
     let q = calls::issue(q, 1, 68);
-    let q = calls::answer(q, 0, 0);
-    calls::issue(q, 1, 68);
+    again(q, 0, 0, 1);
+}
+
+// An answer, and another request in the freed room.
+fn again(q: RequestQueue, id: u32, n: usize, size: u32) -> RequestQueue {
+    let q = calls::answer(q, id, n);
+    calls::issue(q, size, 68)
 }
 
 // 4,096 issues and answers use every ID.
 fn ids() {
     lines::text(b"IDs\n");
-    let q = calls::open_with(16);
-    let q = calls::pairs(q, 4095);
-    let q = calls::issue(q, 5, 68);
-    let q = calls::issue(q, 5, 68);
+    let q = calls::pairs(calls::open_with(16), 4095);
+    let q = twice(q, 5);
     let q = calls::answer(q, 0, 5);
     let q = calls::answer(q, 4095, 5);
     calls::answer(q, 0, 5);
@@ -43,15 +48,15 @@ fn ids() {
 // Data, none, or too little: each frees the room.
 fn outcomes() {
     lines::text(b"outcomes\n");
-    let q = calls::open_with(1);
-    let q = calls::issue(q, 5, 68);
-    let q = calls::issue(q, 5, 68);
-    let q = calls::answer(q, 0, 5);
-    let q = calls::issue(q, 5, 68);
-    let q = calls::answer(q, 1, 0);
-    let q = calls::issue(q, 5, 68);
-    let q = calls::answer(q, 2, 4);
-    let q = calls::issue(q, 5, 68);
+    let q = twice(calls::open_with(1), 5);
+    let q = again(q, 0, 5, 5);
+    let q = again(q, 1, 0, 5);
+    let q = again(q, 2, 4, 5);
+    others(q);
+}
+
+// Messages that answer nothing, and too much data.
+fn others(q: RequestQueue) {
     let q = calls::message(q, b"\x00\x03\x05\x00");
     let q = calls::message(q, b"\x00\x03\x03\x00\x00\x00\x00");
     calls::answer(q, 3, 6);
@@ -59,12 +64,10 @@ fn outcomes() {
 
 fn drops() {
     lines::text(b"drops\n");
-    let q = calls::open_with(2);
-    let q = calls::issue(q, 131072, 68);
+    let q = calls::issue(calls::open_with(2), 131072, 68);
     let q = calls::issue(q, 7, 68);
     let q = calls::drop_link(q);
-    let q = calls::answer(q, 0, 0);
-    let q = calls::issue(q, 9, 68);
+    let q = again(q, 0, 0, 9);
     calls::answer(q, 2, 9);
 }
 
