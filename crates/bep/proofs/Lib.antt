@@ -4,3 +4,4 @@ mod TableLaws
 mod StepLaws
 mod PackLaws
 mod RequestLaws
+pub mod Unchanged
