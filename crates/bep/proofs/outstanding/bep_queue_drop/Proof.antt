@@ -1,10 +1,10 @@
--- `bep::requests::bep_queue_drop` meets its contract: by what the drop gives.
+-- `bep::outstanding::bep_queue_drop` meets its contract: by what the drop gives.
 use mathlib.Core.Path.{ap, _∙_}
 use Rattle.queue.specs.Queue.{dropOf}
 use Rattle.bep.proofs.RequestLaws.{becomes}
 use borrow.Author.Needs.{needs}
-use Rattle.bep.proofs.requests.bep_queue_drop.Statement.{statement}
-use Rattle.bep.proofs.requests.bep_queue_drop.Tie as tie
+use Rattle.bep.proofs.outstanding.bep_queue_drop.Statement.{statement}
+use Rattle.bep.proofs.outstanding.bep_queue_drop.Tie as tie
 
 unpacked-requires : tie.Need-unpacked-requires
 unpacked-requires c κs = search needs

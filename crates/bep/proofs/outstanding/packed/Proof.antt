@@ -1,11 +1,11 @@
--- `bep::requests::packed` meets its contract: by how its entries are stored.
+-- `bep::outstanding::packed` meets its contract: by how its entries are stored.
 use mathlib.Core.Path.{_≡_, refl, _∙_}
 use lib.ListN.{length, replicate}
 use Rattle.queue.proofs.OwnedArray.{unmapped}
 use Rattle.bep.proofs.PackLaws.{packed}
 use borrow.Author.Needs.{needs}
-use Rattle.bep.proofs.requests.packed.Statement.{statement}
-use Rattle.bep.proofs.requests.packed.Tie as tie
+use Rattle.bep.proofs.outstanding.packed.Statement.{statement}
+use Rattle.bep.proofs.outstanding.packed.Tie as tie
 
 long : (c : tie.After-put-entries) → length (c .before .before .args .queue .entries) ≡ 16
 long c = search (needs, unmapped)

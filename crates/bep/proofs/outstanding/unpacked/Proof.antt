@@ -1,4 +1,4 @@
--- `bep::requests::unpacked` meets its contract: one entry a turn.
+-- `bep::outstanding::unpacked` meets its contract: one entry a turn.
 use Prim.Native.Nat.{_≤_, _-_}
 use mathlib.Core.Path.{_≡_, refl}
 use mathlib.Core.List.{_++_}
@@ -8,8 +8,8 @@ use borrow.Author.Needs.{needs}
 use Rattle.queue.specs.Requests.{blank}
 use Rattle.bep.specs.Queues.{upTo, entryAt}
 use Rattle.bep.proofs.PackLaws.{upTo-more}
-use Rattle.bep.proofs.requests.unpacked.Statement.{statement}
-use Rattle.bep.proofs.requests.unpacked.Tie as tie
+use Rattle.bep.proofs.outstanding.unpacked.Statement.{statement}
+use Rattle.bep.proofs.outstanding.unpacked.Tie as tie
 
 abbrev Inv-loop : tie.InvT-loop
 Inv-loop words entries₀ i₀ entries i = (i ≤ 16) × (entries ≡ upTo (entryAt words) i ++ replicate (16 - i) blank)

@@ -1,9 +1,9 @@
--- `bep::requests::bep_queue_totals` meets its contract: by the totals of the queue.
+-- `bep::outstanding::bep_queue_totals` meets its contract: by the totals of the queue.
 use mathlib.Core.Path.{refl}
 use Rattle.bep.proofs.RequestLaws.{totals}
 use borrow.Author.Needs.{needs}
-use Rattle.bep.proofs.requests.bep_queue_totals.Statement.{statement}
-use Rattle.bep.proofs.requests.bep_queue_totals.Tie as tie
+use Rattle.bep.proofs.outstanding.bep_queue_totals.Statement.{statement}
+use Rattle.bep.proofs.outstanding.bep_queue_totals.Tie as tie
 
 unpacked-requires : tie.Need-unpacked-requires
 unpacked-requires c κs = search needs

@@ -1,9 +1,9 @@
--- `bep::requests::give_issuing` meets its contract: by the variant that the answer is.
+-- `bep::outstanding::give_issuing` meets its contract: by the variant that the answer is.
 use mathlib.Core.Path.{sym, ap}
 use Rattle.bep.specs.Queues.{issuingNumber, issuingWords}
 use borrow.Author.Needs.{needs}
-use Rattle.bep.proofs.requests.give_issuing.Statement.{statement}
-use Rattle.bep.proofs.requests.give_issuing.Tie as tie
+use Rattle.bep.proofs.outstanding.give_issuing.Statement.{statement}
+use Rattle.bep.proofs.outstanding.give_issuing.Tie as tie
 
 enum-known-o : tie.Need-enum-known-o
 enum-known-o c = search needs

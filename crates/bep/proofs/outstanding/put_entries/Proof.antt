@@ -1,4 +1,4 @@
--- `bep::requests::put_entries` meets its contract: one entry a turn.
+-- `bep::outstanding::put_entries` meets its contract: one entry a turn.
 use Prim.Native.Nat.{_+_, _*_, _≤_, _-_}
 use mathlib.Core.Path.{_≡_, ap, _∙_}
 use native.Mathlib.Omega.{arith}
@@ -8,8 +8,8 @@ use borrow.Author.Needs.{needs}
 use Rattle.queue.proofs.OwnedArray.{unmapped}
 use Rattle.bep.specs.Queues.{pairs}
 use Rattle.bep.proofs.PackLaws.{put-more}
-use Rattle.bep.proofs.requests.put_entries.Statement.{statement}
-use Rattle.bep.proofs.requests.put_entries.Tie as tie
+use Rattle.bep.proofs.outstanding.put_entries.Statement.{statement}
+use Rattle.bep.proofs.outstanding.put_entries.Tie as tie
 
 abbrev Inv-loop : tie.InvT-loop
 Inv-loop entries out₀ i₀ out i =

@@ -1,8 +1,8 @@
--- `bep::requests::bep_queue_open` meets its contract: by what the opening gives.
+-- `bep::outstanding::bep_queue_open` meets its contract: by what the opening gives.
 use Rattle.bep.proofs.RequestLaws.{becomes}
 use borrow.Author.Needs.{needs}
-use Rattle.bep.proofs.requests.bep_queue_open.Statement.{statement}
-use Rattle.bep.proofs.requests.bep_queue_open.Tie as tie
+use Rattle.bep.proofs.outstanding.bep_queue_open.Statement.{statement}
+use Rattle.bep.proofs.outstanding.bep_queue_open.Tie as tie
 
 open-with-requires : tie.Need-open-with-requires
 open-with-requires c κs = search needs

@@ -1,9 +1,9 @@
--- `bep::requests::give_answering` meets its contract: by the variant that the answer is.
+-- `bep::outstanding::give_answering` meets its contract: by the variant that the answer is.
 use mathlib.Core.Path.{sym, ap}
 use Rattle.bep.specs.Queues.{answeringNumber, answeringWords}
 use borrow.Author.Needs.{needs}
-use Rattle.bep.proofs.requests.give_answering.Statement.{statement}
-use Rattle.bep.proofs.requests.give_answering.Tie as tie
+use Rattle.bep.proofs.outstanding.give_answering.Statement.{statement}
+use Rattle.bep.proofs.outstanding.give_answering.Tie as tie
 
 enum-known-o : tie.Need-enum-known-o
 enum-known-o c = search needs

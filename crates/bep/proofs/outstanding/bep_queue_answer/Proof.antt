@@ -1,8 +1,8 @@
--- `bep::requests::bep_queue_answer` meets its contract: by what the answer gives.
+-- `bep::outstanding::bep_queue_answer` meets its contract: by what the answer gives.
 use Rattle.bep.proofs.RequestLaws.{answers}
 use borrow.Author.Needs.{needs}
-use Rattle.bep.proofs.requests.bep_queue_answer.Statement.{statement}
-use Rattle.bep.proofs.requests.bep_queue_answer.Tie as tie
+use Rattle.bep.proofs.outstanding.bep_queue_answer.Statement.{statement}
+use Rattle.bep.proofs.outstanding.bep_queue_answer.Tie as tie
 
 unpacked-requires : tie.Need-unpacked-requires
 unpacked-requires c κs = search needs

@@ -1,8 +1,8 @@
--- `bep::requests::bep_queue_issue` meets its contract: by what the issue gives.
+-- `bep::outstanding::bep_queue_issue` meets its contract: by what the issue gives.
 use Rattle.bep.proofs.RequestLaws.{issues}
 use borrow.Author.Needs.{needs}
-use Rattle.bep.proofs.requests.bep_queue_issue.Statement.{statement}
-use Rattle.bep.proofs.requests.bep_queue_issue.Tie as tie
+use Rattle.bep.proofs.outstanding.bep_queue_issue.Statement.{statement}
+use Rattle.bep.proofs.outstanding.bep_queue_issue.Tie as tie
 
 unpacked-requires : tie.Need-unpacked-requires
 unpacked-requires c κs = search needs
