@@ -210,6 +210,40 @@ uint32_t bep_accept(uint8_t *out, size_t out_len, const uint8_t *old, size_t old
 uint32_t bep_step(const uint8_t *table, size_t table_len, size_t at, uint64_t answer[8]);
 
 /*
+ * Fills the buffer with the blocks to request: of each name over the five tables the newest record
+ * counts, and its blocks are wanted where it is valid and undeleted and no valid, undeleted record of
+ * the local table has their length and hash. An absent peer is the empty table. 24 bytes a block,
+ * big-endian, by name and then by block: the file's number among all names and the block's number,
+ * from 0 (32 bits each), the offset (64), the length and the peer, 1 to 4 (32 each). Refused with 15
+ * or 14. answer[0] is the number of bytes filled, or 0.
+ */
+uint32_t bep_request_list(uint8_t *out, size_t out_len, const uint8_t *local, size_t local_len,
+                          const uint8_t *peer1, size_t peer1_len,
+                          const uint8_t *peer2, size_t peer2_len,
+                          const uint8_t *peer3, size_t peer3_len,
+                          const uint8_t *peer4, size_t peer4_len, uint64_t answer[1]);
+
+/*
+ * Where a valid, undeleted record of a table first has a block with this length and hash: answer[0]
+ * is 1, [1] the record's number and [2] the block's, from 0. All are 0 where none has. Refused with
+ * 15.
+ */
+uint32_t bep_find(const uint8_t *table, size_t table_len, uint32_t length,
+                  const uint8_t *hash, size_t hash_len, uint64_t answer[3]);
+
+/*
+ * Rules on an incoming Request, by our own table and Repository. It is served where it names our
+ * Repository and our table has a valid, undeleted record of that name with that length and hash at
+ * that offset: answer[0] is 1, [1] and [2] start and length of the name in the message, [3] the
+ * offset, [4] the length, and nothing is written. Otherwise the reply, a Response with the same ID and
+ * no data (8 bytes), is written: answer[0] is 0 and [1] its length. Refused with 15, what reading the
+ * message gives, 18 or 14: answer[0] is 0 and [1] the place.
+ */
+uint32_t bep_serve(uint8_t *out, size_t out_len, const uint8_t *table, size_t table_len,
+                   const uint8_t *repository, size_t repository_len,
+                   const uint8_t *message, size_t message_len, uint64_t answer[5]);
+
+/*
  * Outstanding requests of one link, within a window of 1 to 16 requests and an allowance of 524,288
  * bytes. The caller keeps the queue:
  *

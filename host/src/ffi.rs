@@ -149,6 +149,50 @@ unsafe extern "C" {
     /// end; 15 and zeros where the table isn't good or no record starts at the place.
     pub fn bep_step(table: *const u8, table_len: usize, at: usize, answer: *mut [u64; 8]) -> u32;
 
+    /// Fills the buffer with the request list of a local table and four peers', 24 bytes a block.
+    /// `answer[0]` is the number of bytes filled, or the place of the refusal, which is 0.
+    pub fn bep_request_list(
+        out: *mut u8,
+        out_len: usize,
+        local: *const u8,
+        local_len: usize,
+        peer1: *const u8,
+        peer1_len: usize,
+        peer2: *const u8,
+        peer2_len: usize,
+        peer3: *const u8,
+        peer3_len: usize,
+        peer4: *const u8,
+        peer4_len: usize,
+        answer: *mut [u64; 1],
+    ) -> u32;
+
+    /// Where a table first lists a block: `answer[0]` is 1, `[1]` the record's number and `[2]` the
+    /// block's, from 0; or all are 0.
+    pub fn bep_find(
+        table: *const u8,
+        table_len: usize,
+        length: u32,
+        hash: *const u8,
+        hash_len: usize,
+        answer: *mut [u64; 3],
+    ) -> u32;
+
+    /// Rules on a Request. `answer[0]` is 1 where it is served: `[1]` and `[2]` are start and length
+    /// of the name in the message, `[3]` the offset and `[4]` the length. It is 0 where the reply was
+    /// written, and `[1]` its length. Refused, `[1]` is the place.
+    pub fn bep_serve(
+        out: *mut u8,
+        out_len: usize,
+        table: *const u8,
+        table_len: usize,
+        repository: *const u8,
+        repository_len: usize,
+        message: *const u8,
+        message_len: usize,
+        answer: *mut [u64; 5],
+    ) -> u32;
+
     /// Opens an empty queue of outstanding requests: its words are the window, the next ID, the count,
     /// and the ID and the length of each of 16 entries. Refused (22), the window is 0.
     pub fn bep_queue_open(queue: *mut [u32; 35], window: u32) -> u32;

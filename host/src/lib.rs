@@ -51,8 +51,10 @@ mod message;
 mod queue;
 mod records;
 mod refusal;
+mod serve;
 mod table;
 mod walker;
+mod want;
 mod write;
 
 pub use builders::{FilesBuilder, OptionsBuilder};
@@ -63,8 +65,10 @@ pub use records::{
     KeyValuesIter,
 };
 pub use refusal::Refusal;
+pub use serve::{serve, Serving};
 pub use table::{accept, compare, is_good, merge, Table, MAX_TABLE};
 pub use walker::Walker;
+pub use want::{find_local, request_list, RequestList, RequestListIter, Wanted};
 pub use write::{
     write_index, write_index_update, write_options, write_ping, write_pong, write_request,
     write_response,

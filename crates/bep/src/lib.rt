@@ -5,5 +5,7 @@
 pub mod outline;
 pub mod outstanding;
 pub mod read;
+pub mod requests;
+pub mod ruling;
 pub mod tables;
 pub mod write;

@@ -11,7 +11,7 @@ use table::Filling;
 use table::Order;
 
 // Fills the answer of a call that fills a buffer, and gives its number.
-fn give_filling(f: Filling, answer: &mut [u64; 1]) -> u32
+pub fn give_filling(f: Filling, answer: &mut [u64; 1]) -> u32
     ensures { λ r. ⌜ (r ≡ fillingNumber f) × (now (answer .exit) ≡ fillingWords f) ⌝ }
 {
     match f {

@@ -4,3 +4,5 @@ pub mod Messages
 mod MemoryLaws
 pub mod Merges
 pub mod SampleMerges
+mod ListHistory
+pub mod Requests

@@ -2,3 +2,5 @@ pub mod Fields
 pub mod Vectors
 pub mod Memory
 pub mod Merges
+pub mod History
+pub mod ListCalls

@@ -6,21 +6,23 @@ use mathlib.Core.Bool.{Bool, true, false, cond}
 use mathlib.Core.List.{List}
 use lib.ListN.{take}
 use lib.Dec.{leb, eqb}
-use borrow.Author.Tests.{le-leb, eqb-false}
+use borrow.Author.Tests.{le-leb, leb-true, eqb-false}
 use Rattle.xdr.specs.Reading.{Reading, taken, refused}
 use Rattle.xdr.specs.Format.{read}
 use Rattle.xdr.specs.declared.answer.Refusal.{Refusal}
 use Rattle.message.specs.Message.{Sent, message}
 use Rattle.message.proofs.MessageNumbers.{message-number}
-use Rattle.message_write.specs.Writing.{messageBytes, fitted, writing, writtenAnswer, writtenBuffer}
+use Rattle.message_write.specs.Writing.{messageBytes, requestBytes, fitted, writing, writtenAnswer, writtenBuffer}
 use Rattle.message_write.specs.declared.answer.Written.{Written}
 use Rattle.message_write.specs.declared.answer.Written.the-variants as W
+use Rattle.message_write.proofs.WrittenRequest.{written-size}
+use Rattle.record.specs.Block.{isSize}
 use Rattle.queue.specs.Requests.{total}
 use Rattle.queue.specs.Queue.{allowance, outstanding, isSound, numbered, faultWithin, fieldsFirst, writtenBy, issuing, issuedWith, issueReading, issueOf}
 use Rattle.queue.specs.declared.queue.RequestQueue.{RequestQueue}
 use Rattle.queue.specs.declared.outcome.Issued.{Issued}
 use Rattle.queue.specs.declared.outcome.Issuing.the-variants as I
-use Rattle.queue.proofs.QueueLaws.{Sound, sound-facts}
+use Rattle.queue.proofs.QueueLaws.{Sound, sound-facts, Orderly}
 
 writing-is : (id : ℕ) (b : List ℕ) (room : ℕ) → id ≤ 4095 → writing id 2 b room ≡ fitted room (messageBytes id 2 b) (read message (messageBytes id 2 b))
 unfolding writing
@@ -105,3 +107,18 @@ unfull held limit q size s e =
     let f : Sound q = sound-facts q s in
     let ne : q .count ≡ q .window → ⊥ = eqb-false _ _ (passes (eqb (q .count) (q .window)) (leb (held + size) limit) e .0) in
     (omega arith, f .next-id)
+
+-- what an accepted issue tells
+pub issuing-tells : (held limit : ℕ) (q : RequestQueue) (r n : List ℕ) (o size : ℕ) (h : List ℕ) (room : ℕ) (l : List ℕ) (k : ℕ) → Orderly q
+    → issuing held limit q (requestBytes r n o size h) size room ≡ taken l k → (q .count < q .window) × (isSize size ≡ true) × (held + size ≤ limit)
+issuing-tells held limit q r n o size h room l k s = go (faultWithin held limit q size) refl (read message (messageBytes (q .next) 2 (requestBytes r n o size h)))
+  where
+    go : (f : ℕ) → faultWithin held limit q size ≡ f → (x : Reading Sent) → writtenBy f x (writing (q .next) 2 (requestBytes r n o size h) room) ≡ taken l k
+        → (q .count < q .window) × (isSize size ≡ true) × (held + size ≤ limit)
+    go zero e x w =
+        let p = passes (eqb (q .count) (q .window)) (leb (held + size) limit) (sym e) in
+        let ne : q .count ≡ q .window → ⊥ = eqb-false _ _ (p .0) in
+        let within = s .held in
+        (omega arith, written-size r n o size h (q .next) room l k (s .next-id) w, leb-true _ _ (p .1))
+    go (suc f) e (taken v u) w = let z : _≡_ {A = ℕ} 0 1 = cc in absurd (omega arith)
+    go (suc f) e (refused a b) w = let z : _≡_ {A = ℕ} 0 1 = cc in absurd (omega arith)

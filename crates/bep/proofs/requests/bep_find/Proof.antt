@@ -1,0 +1,47 @@
+-- `bep::requests::bep_find` meets its contract: by the variant that the answer is.
+use mathlib.Core.Path.{sym, ap, _∙_}
+use Rattle.bep.specs.Search.{foundNumber, foundWords}
+use borrow.Author.Needs.{needs}
+use Rattle.bep.proofs.requests.bep_find.Statement.{statement}
+use Rattle.bep.proofs.requests.bep_find.Tie as tie
+
+find-local-requires : tie.Need-find-local-requires
+find-local-requires c κs = search needs
+
+enum-known-record : tie.Need-enum-known-record
+enum-known-record c = search needs
+
+cast-t10 : tie.Need-cast-t10
+cast-t10 c = search needs
+
+cast-t11 : tie.Need-cast-t11
+cast-t11 c = search needs
+
+enum-told : tie.Need-enum-told
+enum-told c = search needs
+
+enum-known-r : tie.Need-enum-known-r
+enum-known-r c = search needs
+
+returns : tie.Need-returns
+returns c = let e = sym (c .before .before .«record» .given .1) ∙ c .before .before .before .before .find-local .ensures in (ap foundNumber e, ap foundWords e)
+
+returns-2 : tie.Need-returns-2
+returns-2 c = let e = sym (c .before .enum-told .given .1) ∙ c .before .before .before .find-local .ensures in (ap foundNumber e, ap foundWords e)
+
+returns-3 : tie.Need-returns-3
+returns-3 c = let e = sym (c .before .before .r .given .1) ∙ c .before .before .before .before .find-local .ensures in (ap foundNumber e, ap foundWords e)
+
+pub bep-find-spec : {M : Type 1} → statement M
+bep-find-spec =
+    tie.close
+    (tie.spec
+    find-local-requires
+    enum-known-record
+    cast-t10
+    cast-t11
+    enum-told
+    enum-known-r
+    returns
+    returns-2
+    returns-3)

@@ -1,0 +1,21 @@
+-- `bep::ruling::bep_serve` meets its contract: the number and the words of the ruling, and the buffer after it.
+use mathlib.Core.Path.{ap, _∙_}
+use Rattle.bep.specs.Serving.{servingNumber, servingWords}
+use borrow.Author.Needs.{needs}
+use Rattle.bep.proofs.ruling.bep_serve.Statement.{statement}
+use Rattle.bep.proofs.ruling.bep_serve.Tie as tie
+
+serve-requires : tie.Need-serve-requires
+serve-requires c κs = search needs
+
+give-serving-requires : tie.Need-give-serving-requires
+give-serving-requires c κs = search needs
+
+same-length : tie.Need-same-length
+same-length c = search needs
+
+returns : tie.Need-returns
+returns c = let e = c .before .before .before .before .serve .ensures in let g = c .give-serving .ensures in (g .0 ∙ ap servingNumber (e .0), g .1 ∙ ap servingWords (e .0), e .1)
+
+pub bep-serve-spec : {M : Type 1} → statement M
+bep-serve-spec = tie.close (tie.spec serve-requires give-serving-requires same-length returns)

@@ -1,0 +1,16 @@
+-- What a search for a block gives: the number that the call returns, and the words of its answer.
+use Prim.Native.Nat.{ℕ}
+use mathlib.Core.List.{List, [], _∷_}
+use Rattle.want.specs.declared.search.Found.{Found}
+use Rattle.want.specs.declared.search.Found.the-variants.{At, Nothing, Refused}
+
+abbrev pub foundNumber : Found → ℕ
+foundNumber (At n j) = 0
+foundNumber Nothing = 0
+foundNumber (Refused r) = r .number
+
+-- 1, the record's number and the block's; or zeros
+abbrev pub foundWords : Found → List ℕ
+foundWords (At n j) = 1 ∷ n ∷ j ∷ []
+foundWords Nothing = 0 ∷ 0 ∷ 0 ∷ []
+foundWords (Refused r) = 0 ∷ 0 ∷ 0 ∷ []

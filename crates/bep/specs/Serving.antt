@@ -1,0 +1,16 @@
+-- What a ruling on a Request gives: the number that the call returns, and the words of its answer.
+use Prim.Native.Nat.{ℕ}
+use mathlib.Core.List.{List, [], _∷_}
+use Rattle.serve.specs.declared.ruling.Serving.{Serving}
+use Rattle.serve.specs.declared.ruling.Serving.the-variants.{Served, Replied, Refused}
+
+abbrev pub servingNumber : Serving → ℕ
+servingNumber (Served name offset size) = 0
+servingNumber (Replied n) = 0
+servingNumber (Refused r) = r .number
+
+-- 1, the start and the length of the name, the offset and the Length; or 0 and how many bytes of a reply were filled in; or 0 and the place
+abbrev pub servingWords : Serving → List ℕ
+servingWords (Served name offset size) = 1 ∷ name .start ∷ name .length ∷ offset ∷ size ∷ []
+servingWords (Replied n) = 0 ∷ n ∷ 0 ∷ 0 ∷ 0 ∷ []
+servingWords (Refused r) = 0 ∷ r .place ∷ 0 ∷ 0 ∷ 0 ∷ []

@@ -1,0 +1,47 @@
+// The ruling on an incoming Request.
+ghost use mathlib.Core.Path.{_≡_};
+ghost use lib.ListN.{length};
+ghost use Rattle.serve.specs.Ruling.{rulingOf, servingAnswer, servingBuffer};
+ghost use Rattle.bep.specs.Serving.{servingNumber, servingWords};
+use serve::Serving;
+
+// Fills the answer of a ruling, and gives its number.
+fn give_serving(s: Serving, answer: &mut [u64; 5]) -> u32
+    ensures { λ r. ⌜ (r ≡ servingNumber s) × (now (answer .exit) ≡ servingWords s) ⌝ }
+{
+    match s {
+        Serving::Served(name, offset, size) => {
+            *answer = [
+                1,
+                name.start as u64,
+                name.length as u64,
+                offset,
+                size as u64,
+            ];
+            0
+        }
+        Serving::Replied(n) => {
+            *answer = [0, n as u64, 0, 0, 0];
+            0
+        }
+        Serving::Refused(r) => {
+            *answer = [0, r.place as u64, 0, 0, 0];
+            r.number
+        }
+    }
+}
+
+// Serves a Request, or replies to it with no data.
+#[no_mangle]
+pub extern "C" fn bep_serve(
+    out: &mut [u8],
+    table: &[u8],
+    repository: &[u8],
+    message: &[u8],
+    answer: &mut [u64; 5],
+) -> u32
+    ensures { λ r. ⌜ (r ≡ servingNumber (servingAnswer (rulingOf (now (table .entry)) (now (repository .entry)) (now (message .entry))) (length (now (out .entry))))) × (now (answer .exit) ≡ servingWords (servingAnswer (rulingOf (now (table .entry)) (now (repository .entry)) (now (message .entry))) (length (now (out .entry))))) × (now (out .exit) ≡ servingBuffer (rulingOf (now (table .entry)) (now (repository .entry)) (now (message .entry))) (now (out .entry))) ⌝ }
+{
+    let s = serve::serve(table, repository, message, out);
+    give_serving(s, answer)
+}

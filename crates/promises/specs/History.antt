@@ -1,0 +1,116 @@
+-- Calls on a queue in a row, each given the queue that the one before handed back; which requests they issued, and which of those were since
+-- then neither answered nor dropped.
+use Prim.Native.Nat.{ℕ, _≤_}
+use mathlib.Core.Bool.{Bool, true, false, cond, _||_}
+use mathlib.Core.List.{List, [], _∷_, _++_}
+use mathlib.Core.Path.{_≡_}
+use lib.ListN.{length}
+use lib.Dec.{eqb}
+use Rattle.xdr.specs.Format.{readAt}
+use Rattle.message.specs.Message.{message}
+use Rattle.message.specs.Answers.{messageAnswer}
+use Rattle.message.specs.declared.answer.Message.{Message}
+use Rattle.message.specs.declared.answer.Message.the-variants as M
+use Rattle.message_write.specs.Writing.{requestBytes}
+use Rattle.queue.specs.Requests.{total}
+use Rattle.queue.specs.Queue.{allowance, outstanding, isSound, opening, issueOf, answerOf, dropOf}
+use Rattle.queue.specs.declared.request.Request.{Request}
+use Rattle.queue.specs.declared.queue.RequestQueue.{RequestQueue}
+use Rattle.queue.specs.declared.outcome.Change.{Change}
+use Rattle.queue.specs.declared.outcome.Change.the-variants as C
+use Rattle.queue.specs.declared.outcome.Issuing.{Issuing}
+use Rattle.queue.specs.declared.outcome.Issuing.the-variants as I
+use Rattle.queue.specs.declared.outcome.Answering.{Answering}
+use Rattle.queue.specs.declared.outcome.Answering.the-variants as A
+
+-- a call, with what it is given besides the queue: of a buffer, its length
+pub data Call : Type 0 where
+  issue : (repository name : List ℕ) (offset size : ℕ) (hash : List ℕ) (room : ℕ) → Call
+  answer : (bytes : List ℕ) → Call
+  drop : Call
+
+-- a call with what came of it: of a message, what it says
+pub data Event : Type 0 where
+  issue-was : (size : ℕ) → Issuing → Event
+  answer-was : Message → Answering → Event
+  drop-was : Change → Event
+
+-- what a message says
+abbrev pub said : List ℕ → Message
+said s = messageAnswer (readAt message s 0)
+
+-- the queue that a call hands back, and the event
+abbrev pub after-call : RequestQueue → Call → RequestQueue
+after-call q (issue r n o size h room) = issueOf q (requestBytes r n o size h) size room .queue
+after-call q (answer s) = answerOf q (said s) .queue
+after-call q drop = dropOf q .queue
+
+abbrev pub event : RequestQueue → Call → Event
+event q (issue r n o size h room) = issue-was size (issueOf q (requestBytes r n o size h) size room .outcome)
+event q (answer s) = answer-was (said s) (answerOf q (said s) .outcome)
+event q drop = drop-was (dropOf q .outcome)
+
+-- the queue after some calls, and their history
+abbrev pub final : RequestQueue → List Call → RequestQueue
+final q [] = q
+final q (c ∷ cs) = final (after-call q c) cs
+
+abbrev pub history : RequestQueue → List Call → List Event
+history q [] = []
+history q (c ∷ cs) = event q c ∷ history (after-call q c) cs
+
+-- the request that an event issued
+abbrev pub issued : Event → List Request
+issued (issue-was size (I.Issued id n)) = record { id = id; length = size } ∷ []
+issued (issue-was size (I.Refused r)) = []
+issued (answer-was m o) = []
+issued (drop-was o) = []
+
+-- an answer that was taken
+abbrev pub isTaken : Answering → Bool
+isTaken (A.Data r d) = true
+isTaken (A.NotAvailable r) = true
+isTaken (A.WrongSize r) = true
+isTaken (A.Refused r) = false
+
+-- a message is the Response with an ID
+abbrev pub responds : (id : ℕ) → Message → Bool
+responds id (M.Response k x) = eqb k id
+responds id (M.Index k x) = false
+responds id (M.Request k x) = false
+responds id (M.Ping k end) = false
+responds id (M.Pong k end) = false
+responds id (M.IndexUpdate k x) = false
+responds id (M.Options k x) = false
+responds id (M.Refused r) = false
+
+-- an event settles the request of an ID: the Response to it was taken, or the link was dropped
+abbrev pub settles : (id : ℕ) → Event → Bool
+settles id (issue-was size o) = false
+settles id (answer-was m o) = cond (isTaken o) (responds id m) false
+settles id (drop-was C.Made) = true
+settles id (drop-was (C.Refused r)) = false
+
+abbrev pub settled : (id : ℕ) → List Event → Bool
+settled id [] = false
+settled id (e ∷ es) = settles id e || settled id es
+
+-- those of some requests that no later event settles
+abbrev pub kept : List Event → List Request → List Request
+kept es [] = []
+kept es (r ∷ rs) = cond (settled (r .id) es) (kept es rs) (r ∷ kept es rs)
+
+-- the requests issued in a history and since then neither answered nor dropped, the oldest first
+abbrev pub standing : List Event → List Request
+standing [] = []
+standing (e ∷ es) = kept es (issued e) ++ standing es
+
+-- what holds after any calls from an accepted opening
+pub record Held (window : ℕ) (calls : List Call) : Type 0 where
+  -- the queue holds exactly those requests
+  pub exact : outstanding (final (opening window .queue) calls) ≡ standing (history (opening window .queue) calls)
+  -- it is sound
+  pub sound : isSound (final (opening window .queue) calls) ≡ true
+  -- both totals are those of the list, and within the window and the allowance
+  pub counted : length (standing (history (opening window .queue) calls)) ≤ window
+  pub summed : total (standing (history (opening window .queue) calls)) ≤ allowance

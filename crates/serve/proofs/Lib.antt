@@ -1,0 +1,3 @@
+-- Laws of the ruling.
+pub mod RulingLaws
+pub mod SpanLaws

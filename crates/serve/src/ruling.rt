@@ -1,0 +1,139 @@
+// The ruling on an incoming Request: it is served, or gets a reply with no data.
+ghost use mathlib.Core.Path.{_≡_};
+ghost use mathlib.Core.Bool.{true};
+ghost use mathlib.Core.List.{[]};
+ghost use lib.ListN.{length};
+ghost use Rattle.message_write.specs.Writing.{writing, responseBytes, writtenAnswer, writtenBuffer};
+ghost use Rattle.table.specs.Table.{isGood, records};
+ghost use Rattle.want.specs.Listing.{listsThere};
+ghost use Rattle.want.specs.Blocks.{blockWith};
+ghost use Rattle.serve.specs.Ruling.{spanBytes, isOurs as isOursOf, refuses, rulingOf, replyAnswer, servingAnswer, servingBuffer, otherOf, askingOf};
+use message::Message;
+use message::RequestSpan;
+use message::Span;
+use message_write::Written;
+use record::Outline;
+use xdr::Refusal;
+
+// To serve: the file's name, the offset and the length. Or how many bytes of a reply were filled in, or a refusal.
+pub enum Serving {
+    Served(Span, u64, u32),
+    Replied(usize),
+    Refused(Refusal),
+}
+
+// A Request with its ID, or a refusal.
+enum Asking {
+    Asked(u32, RequestSpan),
+    Other(Refusal),
+}
+
+fn other(number: u32) -> Asking
+    ensures { λ r. ⌜ r ≡ otherOf number ⌝ }
+{
+    Asking::Other(Refusal { number, place: 0 })
+}
+
+// Whether a good table lists a block there.
+fn lists(table: &[u8], name: &[u8], offset: u64, size: u32, hash: &[u8]) -> bool
+    requires { ⌜ isGood (now table) ≡ true ⌝ }
+    ensures { λ r. ⌜ r ≡ listsThere (records (now (table .entry))) (now (name .entry)) offset (blockWith size (now (hash .entry))) ⌝ }
+{
+    let mut at = 4;
+    loop {
+        let Outline::Whole(f) = record::outline_at(table, at) else {
+            return false;
+        };
+        if table::compare_bytes(table::part(table, f.name, f.stop), name).is_equal() {
+            return want::places::lists_at(table, at, name, offset, size, hash);
+        }
+        at = f.past;
+    }
+}
+
+// The bytes of a span, as far as there are any.
+fn bytes_of(s: &[u8], x: Span) -> &[u8]
+    ensures { λ r. ⌜ now r ≡ spanBytes (now (s .entry)) x ⌝ }
+{
+    let start = x.start;
+    let count = x.length;
+    let len = s.len();
+    if len < start {
+        return &s[len..len];
+    }
+    if len - start < count {
+        return &s[start..len];
+    }
+    &s[start..start + count]
+}
+
+// Whether a Request names our Repository and our table lists that block there.
+fn is_ours(table: &[u8], repository: &[u8], message: &[u8], x: RequestSpan) -> bool
+    requires { ⌜ isGood (now table) ≡ true ⌝ }
+    ensures { λ r. ⌜ r ≡ isOursOf (now (table .entry)) (now (repository .entry)) (now (message .entry)) x ⌝ }
+{
+    let named = x.repository;
+    let name = x.name;
+    let hash = x.hash;
+    if !table::compare_bytes(bytes_of(message, named), repository).is_equal() {
+        return false;
+    }
+    lists(
+        table,
+        bytes_of(message, name),
+        x.offset,
+        x.length,
+        bytes_of(message, hash),
+    )
+}
+
+fn refused(number: u32) -> Serving
+    ensures { λ r. ⌜ r ≡ servingAnswer (refuses number 0) 0 ⌝ }
+{
+    Serving::Refused(Refusal { number, place: 0 })
+}
+
+// A Response with no data.
+fn reply(message: &[u8], id: u32, out: &mut [u8]) -> Serving
+    ensures { λ r. ⌜ (r ≡ replyAnswer (writtenAnswer (writing id 3 (responseBytes []) (length (now (out .entry)))))) × (now (out .exit) ≡ writtenBuffer (now (out .entry)) (writing id 3 (responseBytes []) (length (now (out .entry))))) ⌝ }
+{
+    match message_write::write_response(out, id, &message[0..0]) {
+        Written::Filled(n) => Serving::Replied(n),
+        Written::Refused(r) => Serving::Refused(r),
+    }
+}
+
+// The Request that was read, or the refusal of the reading, or 18.
+fn request_of(m: Message) -> Asking
+    ensures { λ r. ⌜ r ≡ askingOf m ⌝ }
+{
+    match m {
+        Message::Index(_, _) => other(18),
+        Message::Request(id, x) => Asking::Asked(id, x),
+        Message::Response(_, _) => other(18),
+        Message::Ping(_, _) => other(18),
+        Message::Pong(_, _) => other(18),
+        Message::IndexUpdate(_, _) => other(18),
+        Message::Options(_, _) => other(18),
+        Message::Refused(r) => Asking::Other(r),
+    }
+}
+
+// The ruling on a message: whether it is to be served out of our table, or a reply with no data in the first bytes of the buffer.
+pub fn serve(table: &[u8], repository: &[u8], message: &[u8], out: &mut [u8]) -> Serving
+    ensures { λ r. ⌜ (r ≡ servingAnswer (rulingOf (now (table .entry)) (now (repository .entry)) (now (message .entry))) (length (now (out .entry)))) × (now (out .exit) ≡ servingBuffer (rulingOf (now (table .entry)) (now (repository .entry)) (now (message .entry))) (now (out .entry))) ⌝ }
+{
+    if !table::is_good(table) {
+        return refused(15);
+    }
+    match request_of(message::read(message)) {
+        Asking::Other(r) => Serving::Refused(r),
+        Asking::Asked(id, x) => {
+            if is_ours(table, repository, message, x) {
+                let name = x.name;
+                return Serving::Served(name, x.offset, x.length);
+            }
+            reply(message, id, out)
+        }
+    }
+}

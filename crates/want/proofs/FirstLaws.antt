@@ -1,0 +1,103 @@
+-- Which of several tables has the record that comes first, where records of each are left.
+use Prim.Native.Nat.{ℕ, zero, suc, _+_, _<_}
+use mathlib.Core.List.{List, [], _∷_}
+use mathlib.Core.Path.{_≡_, refl, sym, ap, subst, _∙_}
+use mathlib.Core.Logic.{_⊎_, inl, inr}
+use mathlib.Core.Bool.{Bool, true, false, cond}
+use native.Mathlib.Omega.{arith}
+use native.Mathlib.Decide.{decLt}
+use lib.ListN.{getD}
+use Rattle.record.specs.File.{File}
+use Rattle.record.specs.Outline.{fieldsOf}
+use Rattle.table.specs.Order.{compareLists, part}
+use Rattle.table.specs.Newest.{compareFiles}
+use Rattle.table.specs.declared.order.Order.{Order}
+use Rattle.table.specs.declared.order.Order.the-variants.{Less, Equal, Greater}
+use Rattle.table.proofs.OrderLaws.{Below, equal-same, greater-above, below-trans}
+use Rattle.table.proofs.NewestLaws.{at-least-itself, at-least-turned, at-least-trans}
+use Rattle.table.proofs.WalkLaws.{At, at-end, standing, compared-there}
+use Rattle.merge.specs.Highest.{AtLeast}
+use Rattle.merge.specs.Next.{chosen, nextOf}
+use Rattle.merge.specs.declared.next.Next.{Next}
+use Rattle.merge.proofs.NextLaws.{next-by, by-records}
+use Rattle.want.specs.Places.{isFirst, tableAt, placeAt, lowerOf, lowestFrom}
+use Rattle.want.proofs.PlaceLaws.{lower-small}
+use Rattle.want.proofs.HeadLaws.{Leads}
+
+-- the head of the first list leads the second; where there is none, the second is empty too
+abbrev pub First : List File → List File → Type 0
+First [] gs = gs ≡ []
+First (f ∷ fs) gs = Leads f gs
+
+leads-trans : (f g : File) (hs : List File) → Below (f .name) (g .name) ⊎ ((f .name ≡ g .name) × AtLeast f g) → Leads g hs → Leads f hs
+leads-trans f g [] p q = tt
+leads-trans f g (h ∷ hs) (inl p) (inl q) = inl (below-trans (f .name) (g .name) (h .name) p q)
+leads-trans f g (h ∷ hs) (inl p) (inr q) = inl (subst (λ (n : List ℕ). Below (f .name) n) (q .0) p)
+leads-trans f g (h ∷ hs) (inr p) (inl q) = inl (subst (λ (n : List ℕ). Below n (h .name)) (sym (p .0)) q)
+leads-trans f g (h ∷ hs) (inr p) (inr q) = inr (p .0 ∙ q .0, at-least-trans h g f (q .1) (p .1))
+
+first-self : (fs : List File) → First fs fs
+first-self [] = refl
+first-self (f ∷ fs) = inr (refl, at-least-itself f)
+
+first-trans : (fs gs hs : List File) → First fs gs → First gs hs → First fs hs
+first-trans [] gs hs p q = subst (λ (l : List File). First l hs) p q
+first-trans (f ∷ fs) [] hs p q = subst (λ (l : List File). Leads f l) (sym q) tt
+first-trans (f ∷ fs) (g ∷ gs) hs p q = leads-trans f g hs p q
+
+-- what a step of merging tells
+abbrev FirstBy : Bool → List File → List File → Type 0
+FirstBy true fs gs = First fs gs
+FirstBy false fs gs = First gs fs
+
+abbrev Firsts : List File → List File → Next → Type 0
+Firsts fs gs n = FirstBy (isFirst n) fs gs
+
+chosen-first : (f g : File) (fs gs : List File) (i j x y : ℕ) (n o : Order) → compareLists (f .name) (g .name) ≡ n → compareFiles f g ≡ o
+    → Firsts (f ∷ fs) (g ∷ gs) (chosen i j x y n o)
+chosen-first f g fs gs i j x y Less o e h = inl e
+chosen-first f g fs gs i j x y Greater o e h = inl (greater-above (f .name) (g .name) e)
+chosen-first f g fs gs i j x y Equal Less e h = inr (sym (equal-same (f .name) (g .name) e), at-least-turned f g h)
+chosen-first f g fs gs i j x y Equal Equal e h = inr (equal-same (f .name) (g .name) e, λ k. let z : _≡_ {A = ℕ} 0 1 = cc (sym h ∙ k) in omega arith)
+chosen-first f g fs gs i j x y Equal Greater e h = inr (equal-same (f .name) (g .name) e, λ k. let z : _≡_ {A = ℕ} 0 1 = cc (sym h ∙ k) in omega arith)
+
+firsts : (a : List ℕ) (i : ℕ) (b : List ℕ) (j : ℕ) (fs gs : List File) → At a i fs → At b j gs → Firsts fs gs (nextOf a i b j)
+firsts a i b j [] [] u w = subst (Firsts [] []) (next-by a i b j refl (at-end u) refl (at-end w) refl) refl
+firsts a i b j [] (g ∷ gs) u w = subst (Firsts [] (g ∷ gs)) (next-by a i b j refl (at-end u) refl (standing w .outline-is) refl) tt
+firsts a i b j (f ∷ fs) [] u w = subst (Firsts (f ∷ fs) []) (next-by a i b j refl (standing u .outline-is) refl (at-end w) refl) tt
+firsts a i b j (f ∷ fs) (g ∷ gs) u w =
+    let names : compareLists (part a (fieldsOf i f .name) (fieldsOf i f .stop)) (part b (fieldsOf j g .name) (fieldsOf j g .stop)) ≡ compareLists (f .name) (g .name) =
+    ap (λ (l : List ℕ). compareLists l (part b (fieldsOf j g .name) (fieldsOf j g .stop))) (standing u .name-is) ∙ ap (compareLists (f .name)) (standing w .name-is) in
+    subst (Firsts (f ∷ fs) (g ∷ gs))
+    (next-by a i b j refl (standing u .outline-is) refl (standing w .outline-is) (by-records a i (fieldsOf i f) b j (fieldsOf j g) refl names refl (compared-there u w) refl))
+    (chosen-first f g fs gs i j (fieldsOf i f .past) (fieldsOf j g .past) (compareLists (f .name) (g .name)) (compareFiles f g) refl refl)
+
+-- the lowest of all
+module _ (ts : List (List ℕ)) (ps : List ℕ) (ls : List (List File)) (at : (k : ℕ) → k < 5 → At (tableAt ts k) (placeAt ps k) (getD ls k [])) where
+  abbrev Leading : (best k : ℕ) → Type 0
+  Leading best k = (m : ℕ) → m < k → First (getD ls best []) (getD ls m [])
+
+  pub record Lead (best : ℕ) : Type 0 where
+    pub small : best < 5
+    pub leads : (m : ℕ) → m < 5 → First (getD ls best []) (getD ls m [])
+
+  lead-more : (best k : ℕ) → best < 5 → k < 5 → Leading best k → Leading (lowerOf ts ps best k) (k + 1)
+  lead-more best k p q lead = go (isFirst (nextOf (tableAt ts best) (placeAt ps best) (tableAt ts k) (placeAt ps k))) (firsts (tableAt ts best) (placeAt ps best) (tableAt ts k) (placeAt ps k) (getD ls best []) (getD ls k []) (at best p) (at k q))
+    where
+      last : (b m : ℕ) → First (getD ls b []) (getD ls k []) → m < k + 1 → Dec (m < k) → (m < k → First (getD ls b []) (getD ls m [])) → First (getD ls b []) (getD ls m [])
+      last b m f h (yes l) before = before l
+      last b m f h (no l) before = let e : k ≡ m = omega arith in subst (λ (n : ℕ). First (getD ls b []) (getD ls n [])) e f
+
+      go : (t : Bool) → FirstBy t (getD ls best []) (getD ls k []) → Leading (cond t best k) (k + 1)
+      go true f m h = last best m f h (decLt m k) (λ l. lead m l)
+      go false f m h = last k m (first-self (getD ls k [])) h (decLt m k) (λ l. first-trans (getD ls k []) (getD ls best []) (getD ls m []) f (lead m l))
+
+  lead-all : (left best k : ℕ) → k + left ≡ 5 → best < 5 → Leading best k → Lead (lowestFrom ts ps best k left)
+  unfolding lowestFrom
+  lead-all zero best k e p lead = record { small = p; leads = λ m h. lead m (omega arith) }
+  lead-all (suc left) best k e p lead =
+      lead-all left (lowerOf ts ps best k) (k + 1) (omega arith) (lower-small ts ps best k p (omega arith)) (lead-more best k p (omega arith) lead)
+
+  -- the table that is found leads all
+  pub lowest-leads : Lead (lowestFrom ts ps 0 1 4)
+  lowest-leads = lead-all 4 0 1 refl (omega arith) (λ m h. let e : 0 ≡ m = omega arith in subst (λ (n : ℕ). First (getD ls 0 []) (getD ls n [])) e (first-self (getD ls 0 [])))

@@ -1,0 +1,5 @@
+pub mod Listing
+pub mod Found
+pub mod Blocks
+pub mod Wanted
+pub mod Places

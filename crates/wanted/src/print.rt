@@ -1,0 +1,59 @@
+// The lines.
+use libc::STDOUT_FILENO;
+use xdr::Hyper;
+use xdr::Word;
+
+// Bytes of an entry: file, block, offset, length and peer.
+const ENTRY_BYTES: usize = 24;
+
+fn text(s: &[u8]) {
+    io::write_all(STDOUT_FILENO, s);
+}
+
+fn labelled(label: &[u8], n: u64) {
+    text(label);
+    io::print_decimal(STDOUT_FILENO, n);
+}
+
+fn word(label: &[u8], list: &[u8], at: usize) {
+    if let Word::Taken(n, _) = xdr::read_word(list, at) {
+        labelled(label, n as u64);
+    }
+}
+
+fn hyper(label: &[u8], list: &[u8], at: usize) {
+    if let Hyper::Taken(n, _) = xdr::read_hyper(list, at) {
+        labelled(label, n);
+    }
+}
+
+fn entry(list: &[u8], i: usize) {
+    if i < 100000 {
+        let at = i * ENTRY_BYTES;
+        word(b"file ", list, at);
+        word(b" block ", list, at + 4);
+        hyper(b" offset ", list, at + 8);
+        word(b" length ", list, at + 16);
+        word(b" peer ", list, at + 20);
+        text(b"\n");
+    }
+}
+
+// A list of so many bytes.
+pub fn list(list: &[u8], bytes: usize) {
+    let count = bytes / ENTRY_BYTES;
+    entries(list, count);
+    labelled(b"wanted ", count as u64);
+    text(b"\n");
+}
+
+fn entries(list: &[u8], count: usize) {
+    for i in 0..count {
+        entry(list, i);
+    }
+}
+
+pub fn refused(number: u32) {
+    labelled(b"refused ", number as u64);
+    text(b"\n");
+}

@@ -1,0 +1,236 @@
+//! Which blocks to request, and where a table lists a block.
+
+use crate::answer::{size, word, written};
+use crate::{ffi, Refusal};
+use std::fmt;
+use std::iter::FusedIterator;
+
+/// Bytes of one entry of a request list.
+const ENTRY_LEN: usize = 24;
+
+/// A block to request.
+#[derive(Clone, Copy, Debug, PartialEq, Eq, Hash)]
+pub struct Wanted {
+    /// The number of the file among all names of the five tables, from 0.
+    pub file: u32,
+    /// The number of the block in its file, from 0.
+    pub block: u32,
+    /// Where the block begins in its file.
+    pub offset: u64,
+    /// How long it is.
+    pub length: u32,
+    /// The peer to ask, 1 to 4: the lowest-numbered one that has the block there.
+    pub peer: u32,
+}
+
+/// The blocks to request, by name and then by block.
+///
+/// [`request_list`] gives one.
+#[derive(Clone, Copy)]
+pub struct RequestList<'a> {
+    bytes: &'a [u8],
+}
+
+impl<'a> RequestList<'a> {
+    /// The number of blocks.
+    ///
+    /// ```
+    /// # use fordtrumpet::*;
+    /// # let empty = Table::EMPTY;
+    /// let mut out = [0; 24];
+    /// let list = request_list(empty, [empty; 4], &mut out)?;
+    /// assert_eq!(list.len(), 0);
+    /// # Ok::<(), Refusal>(())
+    /// ```
+    pub fn len(&self) -> usize {
+        self.bytes.len() / ENTRY_LEN
+    }
+
+    /// Whether there is no block to request.
+    ///
+    /// ```
+    /// # use fordtrumpet::*;
+    /// # let empty = Table::EMPTY;
+    /// # let mut out = [0; 24];
+    /// assert!(request_list(empty, [empty; 4], &mut out)?.is_empty());
+    /// # Ok::<(), Refusal>(())
+    /// ```
+    pub fn is_empty(&self) -> bool {
+        self.bytes.is_empty()
+    }
+
+    /// The bytes that were filled, 24 a block.
+    ///
+    /// ```
+    /// # use fordtrumpet::*;
+    /// # let empty = Table::EMPTY;
+    /// # let mut out = [0; 24];
+    /// assert!(request_list(empty, [empty; 4], &mut out)?.as_bytes().is_empty());
+    /// # Ok::<(), Refusal>(())
+    /// ```
+    pub fn as_bytes(&self) -> &'a [u8] {
+        self.bytes
+    }
+
+    /// Goes through the blocks in their order.
+    ///
+    /// ```
+    /// # use fordtrumpet::*;
+    /// # let empty = Table::EMPTY;
+    /// # let mut out = [0; 24];
+    /// for wanted in request_list(empty, [empty; 4], &mut out)?.iter() {
+    ///     println!("ask peer {} for {} bytes", wanted.peer, wanted.length);
+    /// }
+    /// # Ok::<(), Refusal>(())
+    /// ```
+    pub fn iter(&self) -> RequestListIter<'a> {
+        RequestListIter {
+            rest: self.bytes.as_chunks().0.iter(),
+        }
+    }
+}
+
+impl fmt::Debug for RequestList<'_> {
+    fn fmt(&self, f: &mut fmt::Formatter<'_>) -> fmt::Result {
+        f.debug_list().entries(self.iter()).finish()
+    }
+}
+
+impl<'a> IntoIterator for RequestList<'a> {
+    type Item = Wanted;
+    type IntoIter = RequestListIter<'a>;
+
+    fn into_iter(self) -> RequestListIter<'a> {
+        self.iter()
+    }
+}
+
+/// Goes through a [`RequestList`].
+#[derive(Clone, Debug)]
+pub struct RequestListIter<'a> {
+    rest: std::slice::Iter<'a, [u8; ENTRY_LEN]>,
+}
+
+impl Iterator for RequestListIter<'_> {
+    type Item = Wanted;
+
+    #[inline]
+    fn next(&mut self) -> Option<Wanted> {
+        let entry = self.rest.next()?;
+        let (words, _) = entry.as_chunks();
+        let [file, block, high, low, length, peer] = [0, 1, 2, 3, 4, 5].map(|at| {
+            let word: [u8; 4] = words[at];
+            u32::from_be_bytes(word)
+        });
+        Some(Wanted {
+            file,
+            block,
+            offset: u64::from(high) << 32 | u64::from(low),
+            length,
+            peer,
+        })
+    }
+
+    fn size_hint(&self) -> (usize, Option<usize>) {
+        self.rest.size_hint()
+    }
+}
+
+impl ExactSizeIterator for RequestListIter<'_> {}
+impl FusedIterator for RequestListIter<'_> {}
+
+/// Fills `out` with the blocks to request, and from whom, and gives them.
+///
+/// Of each name over the five tables the newest record counts. A block of it is wanted where the
+/// record is valid and undeleted and no valid, undeleted record of `local` has its length and hash.
+/// For an absent peer give [`Table::EMPTY`](crate::Table::EMPTY). Only the bytes of the list change
+/// in `out`, 24 a block.
+///
+/// # Errors
+///
+/// 15 if one of the five isn't a good table; 14 if `out` is too short. Nothing is written then.
+///
+/// ```
+/// use fordtrumpet::{request_list, Block, FilesBuilder, Flags, Table, Wanted};
+///
+/// let (first, second) = ([1; 32], [2; 32]);
+/// let (mut local, mut peer) = (FilesBuilder::new(), FilesBuilder::new());
+/// local.push(b"a", Flags(0), 0, 0, [Block { length: 131_072, hash: &first }]);
+/// let blocks = [Block { length: 131_072, hash: &first }, Block { length: 5, hash: &second }];
+/// peer.push(b"b", Flags(0), 0, 0, blocks);
+///
+/// let peers = [Table::EMPTY, peer.as_bytes(), Table::EMPTY, Table::EMPTY];
+/// let mut out = [0; 1000];
+/// let list = request_list(local.as_bytes(), peers, &mut out)?;
+/// let wanted = Wanted { file: 1, block: 1, offset: 131_072, length: 5, peer: 2 };
+/// assert!(list.iter().eq([wanted]));
+/// # Ok::<(), fordtrumpet::Refusal>(())
+/// ```
+pub fn request_list<'a>(
+    local: &[u8],
+    peers: [&[u8]; 4],
+    out: &'a mut [u8],
+) -> Result<RequestList<'a>, Refusal> {
+    let [peer1, peer2, peer3, peer4] = peers;
+    let mut answer = [0];
+    // SAFETY: each pointer and length are those of one slice, `out` is borrowed for this call alone,
+    // and the answer has the size asked for.
+    let number = unsafe {
+        ffi::bep_request_list(
+            out.as_mut_ptr(),
+            out.len(),
+            local.as_ptr(),
+            local.len(),
+            peer1.as_ptr(),
+            peer1.len(),
+            peer2.as_ptr(),
+            peer2.len(),
+            peer3.as_ptr(),
+            peer3.len(),
+            peer4.as_ptr(),
+            peer4.len(),
+            &mut answer,
+        )
+    };
+    let len = written(number, answer)?;
+    Ok(RequestList { bytes: &out[..len] })
+}
+
+/// The first record of a table, and its first block, with this length and hash, both from 0.
+///
+/// Invalid and deleted records don't count.
+///
+/// # Errors
+///
+/// 15 if it isn't a good table.
+///
+/// ```
+/// use fordtrumpet::{find_local, Block, FilesBuilder, Flags};
+///
+/// let hash = [7; 32];
+/// let mut table = FilesBuilder::new();
+/// table.push(b"a", Flags(0), 0, 0, []);
+/// table.push(b"b", Flags(0), 0, 0, [Block { length: 9, hash: &hash }]);
+/// assert_eq!(find_local(table.as_bytes(), 9, &hash)?, Some((1, 0)));
+/// assert_eq!(find_local(table.as_bytes(), 8, &hash)?, None);
+/// # Ok::<(), fordtrumpet::Refusal>(())
+/// ```
+pub fn find_local(table: &[u8], length: u32, hash: &[u8]) -> Result<Option<(u32, u32)>, Refusal> {
+    let mut answer = [0; 3];
+    // SAFETY: each pointer and length are those of one slice, and the answer has the size asked for.
+    let number = unsafe {
+        ffi::bep_find(
+            table.as_ptr(),
+            table.len(),
+            length,
+            hash.as_ptr(),
+            hash.len(),
+            &mut answer,
+        )
+    };
+    match (number, size(answer[0])) {
+        (0, 0) => Ok(None),
+        (0, _) => Ok(Some((word(answer[1]), word(answer[2])))),
+        _ => Err(Refusal { number, place: 0 }),
+    }
+}
