@@ -1,6 +1,6 @@
 // The outstanding requests of a link, lent as 35 words: the window, the next ID, the count, and the ID and the Length of each of 16 entries.
 //
-// A queue that the caller has not opened is all right: one that is not sound is refused with 22 and left as it was.
+// Any words may be given: those of a queue that is not sound are refused with 22 and left as they were.
 ghost use mathlib.Core.Path.{_≡_};
 ghost use lib.Seq.{paste};
 ghost use Rattle.xdr.specs.Format.{readAt};
