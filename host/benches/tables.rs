@@ -6,10 +6,10 @@ mod reference;
 mod support;
 mod timing;
 
-use fordtrumpet::{FileInfo, Table};
+use fordtrumpet::{FileInfo, Table, Walker};
 use std::cmp::Ordering;
 use std::hint::black_box;
-use support::encode::{Block, File};
+use support::encode::{Block, Encoding, File};
 use support::tables::encode;
 use timing::{compare, heading, keep};
 
@@ -54,6 +54,24 @@ fn main() {
         &files(0, 256, 0, 1),
         &files(256, 256, 0, 1),
     );
+    let mut reversed = many.clone();
+    reversed.reverse();
+    compare_accepting("accept an Index of 512 files in order", 1, &[], &many);
+    compare_accepting("accept 512 files in reverse", 1, &[], &reversed);
+    compare_accepting(
+        "accept an IndexUpdate of 256 among 512 files",
+        6,
+        &many,
+        &files(0, 256, 0, 2),
+    );
+    compare_accepting(
+        "accept an IndexUpdate of one file",
+        6,
+        &many,
+        &files(9, 1, 0, 2),
+    );
+    compare_walking("step through 512 files", &encode(&many));
+    compare_walking("step through 64 KB of 4 files", &encode(&full));
 }
 
 fn files(first: usize, count: usize, blocks: usize, version: u32) -> Vec<File> {
@@ -126,5 +144,67 @@ fn compare_merging(what: &str, first: &[File], second: &[File]) {
         &mut out,
         |out| keep(&library(black_box(&a), black_box(&b), out)),
         |out| keep(&reference(black_box(&a), black_box(&b), out)),
+    );
+}
+
+fn compare_accepting(what: &str, kind: u32, old: &[File], sent: &[File]) {
+    let old = encode(old);
+    let mut message = Encoding::new();
+    message.header(kind, 0).string(b"default", 64).files(sent);
+    let message = message.bytes;
+    type Library = fn(&[u8], &[u8], &[u8], &mut [u8]) -> Result<usize, fordtrumpet::Refusal>;
+    type Reference = fn(&[u8], &[u8], &[u8], &mut [u8]) -> Result<usize, reference::Refusal>;
+    let library: Library = black_box(fordtrumpet::accept);
+    let reference: Reference = black_box(reference::accept);
+    let mut out = vec![0; 65_536];
+    assert_eq!(
+        library(&old, &message, b"default", &mut out).unwrap(),
+        reference(&old, &message, b"default", &mut out).unwrap()
+    );
+    compare(
+        what,
+        &mut out,
+        |out| {
+            keep(&library(
+                black_box(&old),
+                black_box(&message),
+                b"default",
+                out,
+            ))
+        },
+        |out| {
+            keep(&reference(
+                black_box(&old),
+                black_box(&message),
+                b"default",
+                out,
+            ))
+        },
+    );
+}
+
+/// A whole walk: each step checks the table, so the time goes with the square of the records.
+fn compare_walking(what: &str, table: &[u8]) {
+    let library: fn(&[u8]) -> usize = black_box(|table| {
+        let mut walker = Walker::open(table);
+        while let Ok(Some(file)) = walker.step() {
+            keep(&file);
+        }
+        walker.place()
+    });
+    let reference: fn(&[u8]) -> usize = black_box(|table| {
+        let mut at = 4;
+        while let Ok(Some(file)) = reference::step(table, at) {
+            keep(&file);
+            at = file.end;
+        }
+        at
+    });
+    assert_eq!(library(table), reference(table));
+    compare(
+        what,
+        &mut [],
+        |_| keep(&library(black_box(table))),
+        |_| keep(&reference(black_box(table))),
     );
 }

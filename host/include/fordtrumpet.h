@@ -1,9 +1,10 @@
 /*
- * Messages and tables of the Block Exchange Protocol v1.0, as exported by libbep.a.
+ * Messages, tables and outstanding requests of the Block Exchange Protocol v1.0, as exported by
+ * libbep.a.
  *
  * Slices. A run of bytes is given as a pointer and a length. The pointer must never be NULL, not
  * even where the length is 0: point at any byte then. A lent buffer (out) must not overlap any
- * input, and an answer neither of them; an answer must have the size it is declared with.
+ * input, and an answer or a queue none of them; both must have the size they are declared with.
  *
  * Answers. Every function returns 0 when it accepts, else the number of the refusal, and fills the
  * whole answer. A refusal comes with a place: the first byte of the field at fault, counted from
@@ -192,6 +193,23 @@ uint32_t bep_merge(uint8_t *out, size_t out_len, const uint8_t *a, size_t a_len,
                    const uint8_t *b, size_t b_len, uint64_t answer[1]);
 
 /*
+ * Fills the buffer with a sender's new table, by its old one and a message of it: the records of an
+ * Index, or those of an IndexUpdate and the old ones that it doesn't mention. The message must be of
+ * the repository given. Refused with 15, what reading the message gives, 18, 21, 13, 19 or 14, in this
+ * order. answer[0] is the number of bytes filled, or the place.
+ */
+uint32_t bep_accept(uint8_t *out, size_t out_len, const uint8_t *old, size_t old_len,
+                    const uint8_t *message, size_t message_len,
+                    const uint8_t *repository, size_t repository_len, uint64_t answer[1]);
+
+/*
+ * A step through a table: the record at a place, with the answer of bep_file. The first record is at
+ * 4, and answer[0] is the place of the next step. At the end it returns 0 and all zeros. Returns 15 and
+ * all zeros where the table isn't good, or where the place starts no record and isn't the end.
+ */
+uint32_t bep_step(const uint8_t *table, size_t table_len, size_t at, uint64_t answer[8]);
+
+/*
  * Fills the buffer with the blocks to request: of each name over the five tables the newest record
  * counts, and its blocks are wanted where it is valid and undeleted and no valid, undeleted record of
  * the local table has their length and hash. An absent peer is the empty table. 24 bytes a block,
@@ -224,6 +242,58 @@ uint32_t bep_find(const uint8_t *table, size_t table_len, uint32_t length,
 uint32_t bep_serve(uint8_t *out, size_t out_len, const uint8_t *table, size_t table_len,
                    const uint8_t *repository, size_t repository_len,
                    const uint8_t *message, size_t message_len, uint64_t answer[5]);
+
+/*
+ * Outstanding requests of one link, within a window of 1 to 16 requests and an allowance of 524,288
+ * bytes. The caller keeps the queue:
+ *
+ *   [0]       the window
+ *   [1]       the next ID
+ *   [2]       how many requests are outstanding
+ *   [3] [4]   ID and Length of the oldest; those of the others follow, 16 in all, the unused ones 0
+ *
+ * Each call but the totals returns 22 first, where the queue isn't one that such calls can have made.
+ * A refused call leaves the queue as it was, but for an opening, which leaves one that no call takes.
+ */
+enum {
+    BEP_QUEUE_WORDS = 35
+};
+
+/* Opens an empty queue with this window, or returns 22. */
+uint32_t bep_queue_open(uint32_t queue[BEP_QUEUE_WORDS], uint32_t window);
+
+/*
+ * Writes a Request with the next ID and appends it to the queue. Refused with what the fields give, 16,
+ * 17 or 14, in this order. answer[0] is the number of bytes written and [1] the ID, or [0] the place
+ * and [1] 0.
+ */
+uint32_t bep_queue_issue(uint8_t *out, size_t out_len, uint32_t queue[BEP_QUEUE_WORDS],
+                         const uint8_t *repository, size_t repository_len,
+                         const uint8_t *name, size_t name_len,
+                         uint64_t offset, uint32_t length,
+                         const uint8_t *hash, size_t hash_len, uint64_t answer[2]);
+
+/*
+ * Releases the oldest request by the Response to it. Refused with what reading the message gives, 18 or
+ * 20, in this order.
+ *
+ *   [0]      0: the data, as long as asked; 1: not available; 2: another length than asked
+ *   [1] [2]  ID and Length of the request
+ *   [3] [4]  start and length of the data in the message; 0 unless [0] is 0
+ *
+ * Refused, [0] is the place and the others are 0.
+ */
+uint32_t bep_queue_answer(uint32_t queue[BEP_QUEUE_WORDS],
+                          const uint8_t *message, size_t message_len, uint64_t answer[5]);
+
+/* Releases all requests: the link is gone. The next ID goes on. */
+uint32_t bep_queue_drop(uint32_t queue[BEP_QUEUE_WORDS]);
+
+/*
+ * answer[0] is how many requests are outstanding, [1] the sum of their Lengths: those of the entries
+ * that count, whether the queue is sound or not. Returns 0.
+ */
+uint32_t bep_queue_totals(const uint32_t queue[BEP_QUEUE_WORDS], uint64_t answer[2]);
 
 #ifdef __cplusplus
 }

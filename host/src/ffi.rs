@@ -131,6 +131,24 @@ unsafe extern "C" {
         answer: *mut [u64; 1],
     ) -> u32;
 
+    /// Fills the buffer with a sender's new table, by its old one and an Index or an IndexUpdate of the
+    /// repository. `answer[0]` is the number of bytes filled, or the place of the refusal.
+    pub fn bep_accept(
+        out: *mut u8,
+        out_len: usize,
+        old: *const u8,
+        old_len: usize,
+        message: *const u8,
+        message_len: usize,
+        repository: *const u8,
+        repository_len: usize,
+        answer: *mut [u64; 1],
+    ) -> u32;
+
+    /// The record at a place of a table, in the words of `bep_file`. Gives 0 and zeros at the table's
+    /// end; 15 and zeros where the table isn't good or no record starts at the place.
+    pub fn bep_step(table: *const u8, table_len: usize, at: usize, answer: *mut [u64; 8]) -> u32;
+
     /// Fills the buffer with the request list of a local table and four peers', 24 bytes a block.
     /// `answer[0]` is the number of bytes filled, or the place of the refusal, which is 0.
     pub fn bep_request_list(
@@ -174,4 +192,43 @@ unsafe extern "C" {
         message_len: usize,
         answer: *mut [u64; 5],
     ) -> u32;
+
+    /// Opens an empty queue of outstanding requests: its words are the window, the next ID, the count,
+    /// and the ID and the length of each of 16 entries. Refused (22), the window is 0.
+    pub fn bep_queue_open(queue: *mut [u32; 35], window: u32) -> u32;
+
+    /// Writes a Request with the next ID and appends it. `answer[0]` is the number of bytes written and
+    /// `[1]` the ID; refused, they are the place and 0.
+    pub fn bep_queue_issue(
+        out: *mut u8,
+        out_len: usize,
+        queue: *mut [u32; 35],
+        repository: *const u8,
+        repository_len: usize,
+        name: *const u8,
+        name_len: usize,
+        offset: u64,
+        length: u32,
+        hash: *const u8,
+        hash_len: usize,
+        answer: *mut [u64; 2],
+    ) -> u32;
+
+    /// Releases the oldest request by the Response to it. `answer[0]` is 0 where it brought the data, 1
+    /// where they aren't available, 2 where their size is wrong; `[1]` and `[2]` the request's ID and
+    /// length; `[3]` and `[4]` start and length of the data in the message, zeros where there are none
+    /// to use. Refused, `[0]` is the place and the rest is 0.
+    pub fn bep_queue_answer(
+        queue: *mut [u32; 35],
+        message: *const u8,
+        message_len: usize,
+        answer: *mut [u64; 5],
+    ) -> u32;
+
+    /// Releases all requests.
+    pub fn bep_queue_drop(queue: *mut [u32; 35]) -> u32;
+
+    /// `answer[0]` is how many requests are outstanding and `[1]` the sum of their lengths, of any
+    /// queue. Gives 0.
+    pub fn bep_queue_totals(queue: *const [u32; 35], answer: *mut [u64; 2]) -> u32;
 }

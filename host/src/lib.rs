@@ -1,4 +1,4 @@
-//! Messages and tables of the Block Exchange Protocol v1.0.
+//! Messages, tables and outstanding requests of the Block Exchange Protocol v1.0.
 //!
 //! The reading and the writing are done by a verified static library, `libbep.a`; this crate gives
 //! them in Rust's own terms. What the library asks of its callers, such as pointers that aren't null
@@ -8,8 +8,11 @@
 //! the start of a lent buffer; they are given arrays encoded, as [`FilesBuilder`] and
 //! [`OptionsBuilder`] make them. What is refused comes back as a [`Refusal`] with a number and a place.
 //!
-//! A [`Table`] is what a device has: its records, one a name. [`merge`] puts the newest records of two
-//! tables together, and whatever order tables are merged in, the result is the same.
+//! A [`Table`] is what a device has: its records, one a name. [`accept`] makes it of what the device
+//! sends. [`merge`] puts the newest records of two tables together, and whatever order tables are
+//! merged in, the result is the same.
+//!
+//! A [`RequestQueue`] keeps the requests of a link that aren't answered yet.
 //!
 //! Names and other strings are bytes: the protocol's text rule lets through some that aren't UTF-8.
 //!
@@ -45,22 +48,26 @@ mod answer;
 mod builders;
 mod ffi;
 mod message;
+mod queue;
 mod records;
 mod refusal;
 mod serve;
 mod table;
+mod walker;
 mod want;
 mod write;
 
 pub use builders::{FilesBuilder, OptionsBuilder};
 pub use message::{read, Index, Message, Options, Ping, Pong, Read, Request, Response};
+pub use queue::{Answered, Issued, Outcome, RequestQueue};
 pub use records::{
     Block, Blocks, BlocksIter, FileInfo, Files, FilesIter, Flags, KeyValue, KeyValues,
     KeyValuesIter,
 };
 pub use refusal::Refusal;
 pub use serve::{serve, Serving};
-pub use table::{compare, is_good, merge, Table, MAX_TABLE};
+pub use table::{accept, compare, is_good, merge, Table, MAX_TABLE};
+pub use walker::Walker;
 pub use want::{find_local, request_list, RequestList, RequestListIter, Wanted};
 pub use write::{
     write_index, write_index_update, write_options, write_ping, write_pong, write_request,

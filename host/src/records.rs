@@ -135,19 +135,9 @@ impl<'a> Iterator for FilesIter<'a> {
         // SAFETY: pointer and length are those of one slice, and the answer has the size asked for.
         let number = unsafe { ffi::bep_file(bytes.as_ptr(), bytes.len(), self.at, &mut answer) };
         assert_eq!(number, 0, "an accepted array holds all its records");
-        let [end, name, name_len, flags, modified, version, _, first_block] = answer;
-        let start = self.at;
-        self.at = size(end);
-        Some(FileInfo {
-            bytes: &bytes[start..self.at],
-            name: span(bytes, name, name_len),
-            flags: Flags(word(flags)),
-            modified: modified.cast_signed(),
-            version: word(version),
-            blocks: Blocks {
-                bytes: &bytes[size(first_block)..self.at],
-            },
-        })
+        let file = FileInfo::new(bytes, self.at, answer);
+        self.at += file.bytes.len();
+        Some(file)
     }
 
     fn size_hint(&self) -> (usize, Option<usize>) {
@@ -176,6 +166,22 @@ pub struct FileInfo<'a> {
 }
 
 impl<'a> FileInfo<'a> {
+    /// The record at a place of an array, by the words of an answer.
+    #[inline]
+    pub(crate) fn new(bytes: &'a [u8], at: usize, answer: [u64; 8]) -> Self {
+        let [end, name, name_len, flags, modified, version, _, first_block] = answer;
+        FileInfo {
+            bytes: &bytes[at..size(end)],
+            name: span(bytes, name, name_len),
+            flags: Flags(word(flags)),
+            modified: modified.cast_signed(),
+            version: word(version),
+            blocks: Blocks {
+                bytes: &bytes[size(first_block)..size(end)],
+            },
+        }
+    }
+
     /// The encoded record.
     ///
     /// ```

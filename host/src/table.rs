@@ -1,4 +1,4 @@
-//! Tables: good ones, which of two records is newer, and merging.
+//! Tables: good ones, which of two records is newer, merging, and accepting a sender's records.
 
 use crate::answer::written;
 use crate::{ffi, FileInfo, Files, Refusal};
@@ -157,6 +157,56 @@ pub fn merge(a: &[u8], b: &[u8], out: &mut [u8]) -> Result<usize, Refusal> {
             a.len(),
             b.as_ptr(),
             b.len(),
+            &mut answer,
+        )
+    };
+    written(number, answer)
+}
+
+/// Fills `out` with a sender's new table and gives its length.
+///
+/// `old` is the sender's table so far. After an Index the new one has the message's records, after an
+/// IndexUpdate those and the old ones that the message doesn't mention; its records are taken even
+/// where they are older. Only the bytes of the table change in `out`.
+///
+/// # Errors
+///
+/// 15 if `old` isn't a good table; what reading the message gives; 18 if it is neither an Index nor an
+/// IndexUpdate; 21 if it is of another repository; 13 if a name stands twice in it; 19 if the new table
+/// is above 512 records or 65,536 bytes; 14 if `out` is too short. Nothing is written then.
+///
+/// ```
+/// use fordtrumpet::{accept, write_index_update, FilesBuilder, Flags, Table};
+///
+/// let (mut old, mut sent) = (FilesBuilder::new(), FilesBuilder::new());
+/// old.push(b"a", Flags(0o644), 1_700_000_000, 0, []);
+/// sent.push(b"b", Flags(0o644), 1_700_000_000, 0, []);
+/// let (mut message, mut out) = ([0; 100], [0; 100]);
+/// let length = write_index_update(&mut message, 0, b"default", sent.as_bytes())?;
+/// let length = accept(old.as_bytes(), &message[..length], b"default", &mut out)?;
+/// let table = Table::new(&out[..length])?;
+/// assert!(table.files().iter().map(|file| file.name).eq([b"a", b"b"]));
+/// # Ok::<(), fordtrumpet::Refusal>(())
+/// ```
+pub fn accept(
+    old: &[u8],
+    message: &[u8],
+    repository: &[u8],
+    out: &mut [u8],
+) -> Result<usize, Refusal> {
+    let mut answer = [0];
+    // SAFETY: each pointer and length are those of one slice, `out` is borrowed for this call alone,
+    // and the answer has the size asked for.
+    let number = unsafe {
+        ffi::bep_accept(
+            out.as_mut_ptr(),
+            out.len(),
+            old.as_ptr(),
+            old.len(),
+            message.as_ptr(),
+            message.len(),
+            repository.as_ptr(),
+            repository.len(),
             &mut answer,
         )
     };

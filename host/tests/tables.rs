@@ -11,7 +11,9 @@ use std::env;
 use std::io::Write;
 use std::ops::Range;
 use support::compare::{same, same_bytes, Compared};
-use support::encode::File;
+use support::encode::{Encoding, File};
+use support::generate::text;
+use support::library::ffi;
 use support::random::Random;
 use support::table_calls::{TableCalls, TableComparison, TABLE_CALLS};
 use support::tables::{encode, full, Pool};
@@ -48,7 +50,15 @@ fn compare_input(comparison: &mut TableComparison, number: u64) -> Compared {
     let (i, j) = (random.below(a.len() + 9), random.below(b.len() + 9));
     comparison.compare(&a, i, &b, j)?;
     comparison.merge(&a, &b, &mut random)?;
-    comparison.merge(&a, &a, &mut random)
+    comparison.merge(&a, &a, &mut random)?;
+    comparison.walk(&a, &mut random)?;
+    let repository = random.pick(&[&b""[..], b"x", b"default"]);
+    let expected = match random.once_in(8) {
+        true => text(&mut random, 70),
+        false => repository.to_vec(),
+    };
+    let message = pool.message(repository, &mut random);
+    comparison.accept(&a, &message, &expected, &mut random)
 }
 
 #[test]
@@ -70,6 +80,8 @@ fn generated_tables_get_the_same_answers() {
             ("is_good", &[0, 1][..]),
             ("compare", &[0, 1]),
             ("merge", &[0, 14, 15]),
+            ("step", &[0, 15]),
+            ("accept", &[0, 1, 6, 7, 13, 14, 15, 18, 21]),
         ] {
             for &number in numbers {
                 let times = comparison.seen.get(&(call, number)).copied();
@@ -105,8 +117,26 @@ fn tables_at_the_limits_get_the_same_answers() {
             comparison.merge(a, b, &mut random).unwrap();
         }
     }
-    for number in [0, 14, 15, 19] {
-        assert!(comparison.seen.contains_key(&("merge", number)), "{number}");
+    for old in &tables {
+        comparison.step(old, 4).unwrap();
+        comparison.step(old, old.len()).unwrap();
+        for sent in &tables {
+            for kind in [1, 6] {
+                let mut message = Encoding::new();
+                message.header(kind, 0).string(b"", 64);
+                message.bytes.extend_from_slice(sent);
+                let message = &message.bytes;
+                comparison.accept(old, message, b"", &mut random).unwrap();
+            }
+        }
+    }
+    for call in ["merge", "accept"] {
+        for number in [0, 14, 15, 19] {
+            assert!(
+                comparison.seen.contains_key(&(call, number)),
+                "{call} {number}"
+            );
+        }
     }
 }
 
@@ -297,6 +327,64 @@ fn a_difference_is_found() {
                 *byte ^= 1;
             }
             answer
+        },
+        ..TABLE_CALLS
+    }));
+    assert!(is_found(TableCalls {
+        // An IndexUpdate merged by newest.
+        accept: |old, message, repository, out| {
+            let mut index = message.to_vec();
+            match index.get_mut(2) {
+                Some(kind) if *kind == 6 => *kind = 1,
+                _ => return (TABLE_CALLS.accept)(old, message, repository, out),
+            }
+            let mut sent = vec![0; 65_536];
+            match (TABLE_CALLS.accept)(old, &index, repository, &mut sent) {
+                (0, [len]) => (TABLE_CALLS.merge)(old, &sent[..len as usize], out),
+                refused => refused,
+            }
+        },
+        ..TABLE_CALLS
+    }));
+    assert!(is_found(TableCalls {
+        // An Index keeps old records.
+        accept: |old, message, repository, out| {
+            let mut update = message.to_vec();
+            if let Some(kind @ 1) = update.get_mut(2) {
+                *kind = 6;
+            }
+            (TABLE_CALLS.accept)(old, &update, repository, out)
+        },
+        ..TABLE_CALLS
+    }));
+    assert!(is_found(TableCalls {
+        // The place of a repeated name counted from the array.
+        accept: |old, message, repository, out| {
+            match (TABLE_CALLS.accept)(old, message, repository, out) {
+                (13, [place]) => (13, [place - 4 - 4]),
+                answer => answer,
+            }
+        },
+        ..TABLE_CALLS
+    }));
+    assert!(is_found(TableCalls {
+        // Bytes inside a record that read as one.
+        step: |table, at| match reference::file_at(table, at) {
+            Some(_) if reference::is_good(table) && at > 4 => {
+                let mut answer = [0; 8];
+                // SAFETY: pointer and length are those of one slice.
+                let number = unsafe { ffi::bep_file(table.as_ptr(), table.len(), at, &mut answer) };
+                (number, answer)
+            }
+            _ => (TABLE_CALLS.step)(table, at),
+        },
+        ..TABLE_CALLS
+    }));
+    assert!(is_found(TableCalls {
+        // The end of a table that isn't good.
+        step: |table, at| match at == table.len() {
+            true => (0, [0; 8]),
+            false => (TABLE_CALLS.step)(table, at),
         },
         ..TABLE_CALLS
     }));

@@ -1,3 +1,7 @@
 -- Laws of the answers as words.
 mod WriteLaws
 mod TableLaws
+mod StepLaws
+mod PackLaws
+mod RequestLaws
+pub mod Unchanged

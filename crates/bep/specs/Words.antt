@@ -16,6 +16,8 @@ use Rattle.record.specs.declared.outline.Outline.the-variants as O
 use Rattle.record.specs.declared.option_outline.OptionFields.{OptionFields}
 use Rattle.record.specs.declared.option_outline.OptionOutline.{OptionOutline}
 use Rattle.record.specs.declared.option_outline.OptionOutline.the-variants as K
+use Rattle.walker.specs.declared.Step.{Step}
+use Rattle.walker.specs.declared.Step.the-variants as S
 
 -- Index and IndexUpdate: words 3 and 4 are the Repository, 5 and 6 the array of files, 7 their number
 abbrev pub indexWords : (type id : ℕ) → IndexSpan → List ℕ
@@ -85,3 +87,14 @@ optionWords K.Short = replicate 5 0
 abbrev pub optionNumber : OptionOutline → ℕ
 optionNumber (K.Whole f) = 0
 optionNumber K.Short = 1
+
+-- a step over a table: the words of the record there, or zeros at the end and where it is refused
+abbrev pub stepNumber : Step → ℕ
+stepNumber (S.Record f) = 0
+stepNumber S.End = 0
+stepNumber (S.Refused r) = r .number
+
+abbrev pub stepWords : Step → List ℕ
+stepWords (S.Record f) = fieldWords f
+stepWords S.End = replicate 8 0
+stepWords (S.Refused r) = replicate 8 0

@@ -1,14 +1,16 @@
 // The records of an array that was read, one by one: by bounds checks alone. Where a record is not wholly there, the number is 1 and the
-// answer zeros.
+// answer zeros. A step over a table checks the table whole.
 ghost use Prim.Native.Nat.{_≤_};
 ghost use mathlib.Core.Path.{_≡_};
 ghost use Rattle.record.specs.Outline.{outlineOf};
 ghost use Rattle.record.specs.OptionOutline.{optionOf};
-ghost use Rattle.bep.specs.Words.{fieldWords, fileWords, fileNumber, keyWords, optionWords, optionNumber};
+ghost use Rattle.walker.specs.Walk.{stepAt};
+ghost use Rattle.bep.specs.Words.{fieldWords, fileWords, fileNumber, keyWords, optionWords, optionNumber, stepNumber, stepWords};
 use record::Fields;
 use record::OptionFields;
 use record::OptionOutline;
 use record::Outline;
+use walker::Step;
 
 // The name's length is the way from its start to its end.
 fn field_words(f: Fields) -> [u64; 8]
@@ -65,4 +67,26 @@ pub extern "C" fn bep_option(options: &[u8], at: usize, answer: &mut [u64; 5]) -
     };
     *answer = key_words(f);
     0
+}
+
+// A walk's step: the record at a place of a table, in the words of `bep_file`; or the end, with zeros.
+#[no_mangle]
+pub extern "C" fn bep_step(table: &[u8], at: usize, answer: &mut [u64; 8]) -> u32
+    ensures { λ r. ⌜ (r ≡ stepNumber (stepAt (now (table .entry)) at)) × (now (answer .exit) ≡ stepWords (stepAt (now (table .entry)) at)) ⌝ }
+{
+    let step = walker::step_at(table, at);
+    match step {
+        Step::Record(f) => {
+            *answer = field_words(f);
+            0
+        }
+        Step::End => {
+            *answer = [0; 8];
+            0
+        }
+        Step::Refused(r) => {
+            *answer = [0; 8];
+            r.number
+        }
+    }
 }

@@ -4,6 +4,7 @@ ghost use lib.ListN.{length};
 ghost use Rattle.record.specs.Outline.{outlineOf};
 ghost use Rattle.table.specs.Table.{isGood};
 ghost use Rattle.merge.specs.Answer.{mergeOutcome};
+ghost use Rattle.accept.specs.Accepting.{acceptOutcome};
 ghost use Rattle.bep.specs.Tables.{goodNumber, fillingNumber, fillingWords, Gave, orderWord, comparedNumber, comparedWords};
 use record::Outline;
 use table::Filling;
@@ -71,5 +72,20 @@ pub extern "C" fn bep_merge(out: &mut [u8], a: &[u8], b: &[u8], answer: &mut [u6
     ensures { λ r. ⌜ Gave (mergeOutcome (now (a .entry)) (now (b .entry)) (length (now (out .entry)))) (now (out .entry)) r (now (answer .exit)) (now (out .exit)) ⌝ }
 {
     let f = merge::merge(a, b, out);
+    give_filling(f, answer)
+}
+
+// The sender's new table, by an Index or an IndexUpdate.
+#[no_mangle]
+pub extern "C" fn bep_accept(
+    out: &mut [u8],
+    old: &[u8],
+    message: &[u8],
+    repository: &[u8],
+    answer: &mut [u64; 1],
+) -> u32
+    ensures { λ r. ⌜ Gave (acceptOutcome (now (old .entry)) (now (message .entry)) (now (repository .entry)) (length (now (out .entry)))) (now (out .entry)) r (now (answer .exit)) (now (out .exit)) ⌝ }
+{
+    let f = accept::accept(old, message, repository, out);
     give_filling(f, answer)
 }

@@ -5,4 +5,4 @@ pub mod IssueLaws
 pub mod AnswerLaws
 pub mod Moves
 mod ShiftLaws
-mod OwnedArray
+pub mod OwnedArray

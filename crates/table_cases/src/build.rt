@@ -75,3 +75,12 @@ fn put_block(out: &mut [u8], first: usize, i: u32) {
         xdr::put_word(out, at + 4, 32);
     }
 }
+
+// The start of an Index (1) or an IndexUpdate (6) of the repository "r": its array begins at 12.
+pub fn head(out: &mut [u8], kind: u32) {
+    if kind < 256 {
+        xdr::put_word(out, 0, kind * 256);
+        xdr::put_word(out, 4, 1);
+        xdr::put_word(out, 8, 0x72000000);
+    }
+}

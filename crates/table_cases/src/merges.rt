@@ -1,24 +1,6 @@
 // Merges.
 use crate::build;
-use table::Filling;
-
-// What a merge answered: the table of a small result, the length of a large one, or the refusal and whether the buffer is as it was.
-fn answer(label: &[u8], f: Filling, out: &[u8]) {
-    lines::text(b"merge, ");
-    lines::text(label);
-    match f {
-        Filling::Filled(n) => {
-            lines::text(b": filled ");
-            lines::number(n as u64);
-            if n < 100 && n <= out.len() {
-                lines::text(b" ");
-                lines::bytes(&out[0..n]);
-            }
-            lines::text(b"\n");
-        }
-        Filling::Refused(r) => lines::refused(out, r),
-    }
-}
+use crate::filling;
 
 // Two tables into a buffer of so many bytes.
 fn merge(label: &[u8], a: &[u8], b: &[u8], room: usize) {
@@ -29,7 +11,7 @@ fn merge(label: &[u8], a: &[u8], b: &[u8], room: usize) {
 fn merge_into(out: &mut [u8], label: &[u8], a: &[u8], b: &[u8], room: usize) {
     if room <= out.len() {
         let f = merge::merge(a, b, &mut out[0..room]);
-        answer(label, f, out);
+        filling::show(b"merge, ", label, f, out);
     }
 }
 
@@ -75,10 +57,10 @@ pub fn records() {
     build::many(&mut c, 256, 513);
     let mut out = [0xeeu8; 14400];
     let f = merge::merge(&a, &b, &mut out);
-    answer(b"512 records", f, &out);
+    filling::show(b"merge, ", b"512 records", f, &out);
     let mut other = [0xeeu8; 14400];
     let g = merge::merge(&a, &c, &mut other);
-    answer(b"513 records", g, &other);
+    filling::show(b"merge, ", b"513 records", g, &other);
 }
 
 // 818 blocks and 818 others, by names of lengths that differ.
@@ -91,7 +73,7 @@ pub fn bytes() {
     build::one(&mut c, 98, 41, 818);
     let mut out = [0xeeu8; 65536];
     let f = merge::merge(&a, &c, &mut out);
-    answer(b"65,540 bytes", f, &out);
+    filling::show(b"merge, ", b"65,540 bytes", f, &out);
     let g = merge::merge(&a, &b, &mut out);
-    answer(b"65,536 bytes", g, &out);
+    filling::show(b"merge, ", b"65,536 bytes", g, &out);
 }

@@ -24,6 +24,72 @@ static const uint8_t options[20] = {
     0, 0, 0, 1, 0, 0, 0, 1, 'k', 0, 0, 0, 0, 0, 0, 2, 'v', 'w', 0, 0
 };
 
+/* The empty table, and tables from messages. */
+static int tables(void)
+{
+    const uint8_t empty[4] = {0};
+    const uint8_t repository[2] = {'r', 's'};
+    uint8_t message[100];
+    uint8_t out[100];
+    uint64_t length[1];
+    uint64_t file[8];
+
+    CHECK(bep_check_table(files, 72) == 0 && bep_check_table(files, 71) == 15);
+    CHECK(bep_compare(files, 72, 4, files, 72, 4, length) == 0 && length[0] == 1);
+    CHECK(bep_compare(files, 72, 4, files, 72, 72, length) == 1 && length[0] == 0);
+    CHECK(bep_merge(out, 100, files, 72, empty, 4, length) == 0);
+    CHECK(length[0] == 72 && memcmp(out, files, 72) == 0);
+    CHECK(bep_merge(out, 71, files, 72, empty, 4, length) == 14 && length[0] == 0);
+
+    CHECK(bep_write_index(message, 100, 0, repository, 2, files, 72, length) == 0);
+    memset(out, 0, 100);
+    CHECK(bep_accept(out, 100, empty, 4, message, 84, repository, 2, length) == 0);
+    CHECK(length[0] == 72 && memcmp(out, files, 72) == 0);
+    CHECK(bep_accept(out, 100, empty, 4, message, 84, repository, 1, length) == 21);
+    CHECK(bep_accept(out, 100, empty, 4, message, 83, repository, 2, length) == 1);
+    CHECK(length[0] == 12 + 36);
+
+    CHECK(bep_step(files, 72, 4, file) == 0 && file[0] == 72 && file[7] == 32);
+    CHECK(bep_step(files, 72, 72, file) == 0 && file[0] == 0 && file[7] == 0);
+    CHECK(bep_step(files, 72, 5, file) == 15 && file[0] == 0);
+    return 0;
+}
+
+/* Requests of a link, by its window of two. */
+static int queues(void)
+{
+    const uint8_t hash[32] = {9};
+    const uint8_t data[5] = {1, 2, 3, 4, 5};
+    uint32_t queue[BEP_QUEUE_WORDS];
+    uint8_t out[100];
+    uint64_t length[1];
+    uint64_t issued[2];
+    uint64_t answered[5];
+
+    CHECK(bep_queue_open(queue, 17) == 22 && queue[0] == 0);
+    CHECK(bep_queue_drop(queue) == 22);
+    CHECK(bep_queue_open(queue, 2) == 0 && queue[0] == 2);
+    CHECK(bep_queue_issue(out, 67, queue, data, 1, data, 1, 0, 5, hash, 32, issued) == 14);
+    CHECK(bep_queue_issue(out, 68, queue, data, 1, data, 1, 0, 5, hash, 32, issued) == 0);
+    CHECK(issued[0] == 68 && issued[1] == 0);
+    CHECK(bep_queue_issue(out, 68, queue, data, 1, data, 1, 5, 7, hash, 32, issued) == 0);
+    CHECK(issued[0] == 68 && issued[1] == 1);
+    CHECK(queue[1] == 2 && queue[2] == 2 && queue[3] == 0 && queue[4] == 5);
+    CHECK(queue[5] == 1 && queue[6] == 7 && queue[7] == 0);
+    CHECK(bep_queue_issue(out, 68, queue, data, 1, data, 1, 0, 5, hash, 32, issued) == 16);
+    CHECK(issued[0] == 0 && issued[1] == 0);
+
+    CHECK(bep_write_response(out, 100, 0, data, 5, length) == 0 && length[0] == 16);
+    CHECK(bep_queue_answer(queue, out, 15, answered) == 1 && answered[0] == 4);
+    CHECK(bep_queue_answer(queue, out, 16, answered) == 0);
+    CHECK(answered[0] == 0 && answered[1] == 0 && answered[2] == 5);
+    CHECK(answered[3] == 8 && answered[4] == 5);
+    CHECK(bep_queue_answer(queue, out, 16, answered) == 20 && answered[0] == 0);
+    CHECK(bep_queue_totals(queue, issued) == 0 && issued[0] == 1 && issued[1] == 7);
+    CHECK(bep_queue_drop(queue) == 0 && queue[1] == 2 && queue[2] == 0);
+    return 0;
+}
+
 int main(void)
 {
     const uint8_t repository[2] = {'r', 's'};
@@ -84,5 +150,5 @@ int main(void)
     CHECK(option[0] == 20 && option[1] == 8 && option[2] == 1);
     CHECK(option[3] == 16 && option[4] == 2);
     CHECK(bep_option(options, 20, 20, option) == 1);
-    return 0;
+    return tables() || queues();
 }

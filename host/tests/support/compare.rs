@@ -320,7 +320,7 @@ pub fn read_words(read: &Result<reference::Message, reference::Refusal>) -> Answ
     (0, answer)
 }
 
-fn file_words(file: Option<reference::File>) -> Answer<8> {
+pub fn file_words(file: Option<reference::File>) -> Answer<8> {
     let Some(file) = file else {
         return (1, [0; 8]);
     };

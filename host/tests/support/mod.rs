@@ -9,6 +9,7 @@ pub mod draft;
 pub mod encode;
 pub mod generate;
 pub mod library;
+pub mod queue_calls;
 pub mod random;
 pub mod table_calls;
 pub mod tables;

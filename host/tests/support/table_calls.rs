@@ -1,11 +1,14 @@
 //! Compares the calls on tables with the reference.
 
-use super::compare::{same, same_bytes, Compared};
+use super::compare::{file_words, same, same_bytes, Compared};
 use super::library::{ffi, Answer, UNSET};
 use super::random::Random;
 use crate::reference;
 use std::cmp::Ordering;
 use std::collections::BTreeMap;
+
+/// Old table, message, repository, buffer.
+pub type Accept = fn(&[u8], &[u8], &[u8], &mut [u8]) -> Answer<1>;
 
 /// The calls under test. Faults are planted by exchanging one of them.
 #[derive(Clone, Copy)]
@@ -13,6 +16,8 @@ pub struct TableCalls {
     pub is_good: fn(&[u8]) -> bool,
     pub compare: fn(&[u8], usize, &[u8], usize) -> Answer<1>,
     pub merge: fn(&[u8], &[u8], &mut [u8]) -> Answer<1>,
+    pub accept: Accept,
+    pub step: fn(&[u8], usize) -> Answer<8>,
 }
 
 /// The library as it is.
@@ -20,6 +25,8 @@ pub const TABLE_CALLS: TableCalls = TableCalls {
     is_good: fordtrumpet::is_good,
     compare,
     merge,
+    accept,
+    step,
 };
 
 fn compare(a: &[u8], i: usize, b: &[u8], j: usize) -> Answer<1> {
@@ -32,6 +39,17 @@ fn compare(a: &[u8], i: usize, b: &[u8], j: usize) -> Answer<1> {
 
 fn merge(a: &[u8], b: &[u8], out: &mut [u8]) -> Answer<1> {
     filled(fordtrumpet::merge(a, b, out))
+}
+
+fn accept(old: &[u8], message: &[u8], repository: &[u8], out: &mut [u8]) -> Answer<1> {
+    filled(fordtrumpet::accept(old, message, repository, out))
+}
+
+fn step(table: &[u8], at: usize) -> Answer<8> {
+    let mut answer = [UNSET; 8];
+    // SAFETY: pointer and length are those of one slice.
+    let number = unsafe { ffi::bep_step(table.as_ptr(), table.len(), at, &mut answer) };
+    (number, answer)
 }
 
 /// An answer of the safe side, which gives all there is in it.
@@ -114,6 +132,55 @@ impl TableComparison {
         let call = |out: &mut [u8]| (calls.merge)(a, b, out);
         let reference = |out: &mut [u8]| expected(reference::merge(a, b, out));
         self.fill_all("merge", room, random, call, reference)
+    }
+
+    /// Accepts into buffers that fit, are too short and are longer.
+    pub fn accept(
+        &mut self,
+        old: &[u8],
+        message: &[u8],
+        repository: &[u8],
+        random: &mut Random,
+    ) -> Compared {
+        let room = old.len() + message.len() + random.below(9);
+        let calls = self.calls;
+        let call = |out: &mut [u8]| (calls.accept)(old, message, repository, out);
+        let reference = |out: &mut [u8]| expected(reference::accept(old, message, repository, out));
+        self.fill_all("accept", room, random, call, reference)
+    }
+
+    /// What stands at a place of a table.
+    pub fn step(&mut self, table: &[u8], at: usize) -> Compared {
+        let expected = match reference::step(table, at) {
+            Ok(Some(file)) => file_words(Some(file)),
+            Ok(None) => (0, [0; 8]),
+            Err(refusal) => (refusal.number, [0; 8]),
+        };
+        self.met("step", expected.0);
+        same("bep_step", &(self.calls.step)(table, at), &expected)
+    }
+
+    /// Steps through a table, safely too, and looks at a place beside each record.
+    pub fn walk(&mut self, table: &[u8], random: &mut Random) -> Compared {
+        let mut walker = fordtrumpet::Walker::open(table);
+        let mut at = 4;
+        loop {
+            self.step(table, at)?;
+            self.step(table, at + 1 + random.below(60))?;
+            same("the walker's place", &walker.place(), &at)?;
+            let safe = walker.step();
+            let file = match reference::step(table, at) {
+                Ok(Some(file)) => file,
+                Ok(None) => return same("the walker's end", &safe.map(|f| f.is_none()), &Ok(true)),
+                Err(refusal) => {
+                    let number = safe.map(|_| ()).map_err(|refusal| refusal.number);
+                    return same("the walker's refusal", &number, &Err(refusal.number));
+                }
+            };
+            let bytes = safe.ok().flatten().map(|file| file.as_bytes());
+            same("the walker's record", &bytes, &Some(&table[at..file.end]))?;
+            at = file.end;
+        }
     }
 
     /// A call that fills a buffer, with one that is large enough, one that just fits and some that don't.

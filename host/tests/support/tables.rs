@@ -2,7 +2,7 @@
 
 use super::damage;
 use super::encode::{Block, Encoding, File};
-use super::generate::{block, small_file, text};
+use super::generate::{block, draft, small_file, text};
 use super::random::Random;
 use std::collections::BTreeMap;
 
@@ -79,6 +79,50 @@ impl Pool {
             _ => {}
         }
         table.bytes
+    }
+}
+
+impl Pool {
+    /// The records of a message: in any order, and a name may stand twice.
+    fn sent(&self, random: &mut Random) -> Vec<File> {
+        let mut files = self.files(random);
+        match random.below(6) {
+            0 => files.reverse(),
+            1 => {
+                let twice = self.file(random);
+                let at = random.below(files.len() + 1);
+                files.insert(at, twice.clone());
+                let at = random.below(files.len() + 1);
+                files.insert(at, twice);
+            }
+            2 => files = (0..random.below(5)).map(|_| self.file(random)).collect(),
+            3 if files.len() > 1 => {
+                let (i, j) = (random.below(files.len()), random.below(files.len()));
+                files.swap(i, j);
+            }
+            _ => {}
+        }
+        files
+    }
+
+    /// An Index or an IndexUpdate of a repository, now and then damaged or of another type.
+    pub fn message(&self, repository: &[u8], random: &mut Random) -> Vec<u8> {
+        let mut message = Encoding::new();
+        match random.below(12) {
+            0 => message = draft(random).encode(),
+            _ => {
+                let (kind, id) = (random.pick(&[1, 6]), random.word() % 4096);
+                let files = self.sent(random);
+                message
+                    .header(kind, id)
+                    .string(repository, 64)
+                    .files(&files);
+            }
+        }
+        if random.once_in(8) {
+            damage::encoding(&mut message, random);
+        }
+        message.bytes
     }
 }
 

@@ -1,0 +1,119 @@
+-- Laying a queue out in words, and taking it up.
+use Prim.Native.Nat.{ℕ, zero, suc, _+_, _*_, _-_, _<_, _≤_}
+use native.Mathlib.Numerals.{add-one}
+use native.Mathlib.Omega.{arith}
+use mathlib.Core.Path.{_≡_, refl, sym, ap, _∙_}
+use mathlib.Core.List.{List, [], _∷_, _++_, append-nil, append-assoc}
+use lib.ListN.{length, length-append, length-set, take, drop, getD, set, replicate, drop-of-length-le, length-drop}
+use lib.Seq.{paste, paste-suc, set-at, append-snoc, take-all, take-suc, getD-drop}
+use Rattle.queue.specs.Requests.{blank}
+use Rattle.queue.specs.declared.request.Request.{Request}
+use Rattle.queue.specs.declared.queue.RequestQueue.{RequestQueue}
+use Rattle.bep.specs.Queues.{upTo, entryAt, queueOf, pairs, wordsOf}
+
+-- twice a number, one further
+twice : (n : ℕ) → 2 * suc n ≡ suc (suc (2 * n))
+twice n = omega arith
+
+length-pairs : (es : List Request) → length (pairs es) ≡ 2 * length es
+length-pairs [] = refl
+length-pairs (e ∷ es) = ap (λ (k : ℕ). suc (suc k)) (length-pairs es) ∙ sym (twice (length es))
+
+pair-id : (es : List Request) (i : ℕ) → getD (pairs es) (2 * i) 0 ≡ getD es i blank .id
+pair-id [] i = refl
+pair-id (e ∷ es) zero = refl
+pair-id (e ∷ es) (suc i) = ap (λ (k : ℕ). getD (pairs (e ∷ es)) k 0) (twice i) ∙ pair-id es i
+
+pair-length : (es : List Request) (i : ℕ) → getD (pairs es) (suc (2 * i)) 0 ≡ getD es i blank .length
+pair-length [] i = refl
+pair-length (e ∷ es) zero = refl
+pair-length (e ∷ es) (suc i) = ap (λ (k : ℕ). getD (pairs (e ∷ es)) (suc k) 0) (twice i) ∙ pair-length es i
+
+-- a turn that stores one entry
+pub put-more : (d : List ℕ) (i : ℕ) (es : List Request) → 4 + 2 * i < length d → i < length es
+    → set (set (paste d 3 (pairs es) (2 * i)) (3 + 2 * i) (getD es i blank .id)) (4 + 2 * i) (getD es i blank .length)
+    ≡ paste d 3 (pairs es) (2 * (i + 1))
+put-more d i es hd he =
+    let p : List ℕ = pairs es in
+    let x : ℕ = getD es i blank .length in
+    let lp : length p ≡ 2 * length es = length-pairs es in
+    let k : 4 + 2 * i ≡ 3 + suc (2 * i) = omega arith in
+    let n : suc (suc (2 * i)) ≡ 2 * (i + 1) = omega arith in
+    ap (λ (v : ℕ). set (set (paste d 3 p (2 * i)) (3 + 2 * i) v) (4 + 2 * i) x) (sym (pair-id es i))
+    ∙ ap (λ (l : List ℕ). set l (4 + 2 * i) x) (paste-suc d 3 p (2 * i) 0 (omega arith) (omega arith))
+    ∙ ap (λ (v : ℕ). set (paste d 3 p (suc (2 * i))) (4 + 2 * i) v) (sym (pair-length es i))
+    ∙ ap (λ (j : ℕ). set (paste d 3 p (suc (2 * i))) j (getD p (suc (2 * i)) 0)) k
+    ∙ paste-suc d 3 p (suc (2 * i)) 0 (omega arith) (omega arith)
+    ∙ ap (paste d 3 p) n
+
+-- a turn that takes up one entry
+length-upTo : {X : Type 0} (f : ℕ → X) (n : ℕ) → length (upTo f n) ≡ n
+length-upTo f zero = refl
+length-upTo f (suc n) = length-append (upTo f n) (f n ∷ []) ∙ rw (length-upTo f n) (add-one n)
+
+pub upTo-more : {X : Type 0} (f : ℕ → X) (b : X) (n i : ℕ) → i < n
+    → set (upTo f i ++ replicate (n - i) b) i (f i) ≡ upTo f (i + 1) ++ replicate (n - (i + 1)) b
+upTo-more {X} f b n i h =
+    let e : n - i ≡ suc (n - (i + 1)) = omega arith in
+    ap (λ (k : ℕ). set (upTo f i ++ replicate k b) i (f i)) e
+    ∙ set-at (upTo f i) b (replicate (n - (i + 1)) b) (f i) i (length-upTo f i)
+    ∙ sym (append-snoc (upTo f i) (f i) (replicate (n - (i + 1)) b))
+    ∙ ap (λ (k : ℕ). upTo f k ++ replicate (n - (i + 1)) b) (sym (add-one i))
+
+heads : (ws : List ℕ) (a b c : ℕ) → 3 ≤ length ws → take 3 (set (set (set ws 0 a) 1 b) 2 c) ≡ a ∷ b ∷ c ∷ []
+heads [] a b c h = absurd (omega arith)
+heads (x ∷ []) a b c h = absurd (omega arith)
+heads (x ∷ y ∷ []) a b c h = absurd (omega arith)
+heads (x ∷ y ∷ z ∷ ws) a b c h = refl
+
+-- the whole
+pub packed : (ws : List ℕ) (q : RequestQueue) → length ws ≡ 35 → length (q .entries) ≡ 16
+    → paste (set (set (set ws 0 (q .window)) 1 (q .next)) 2 (q .count)) 3 (pairs (q .entries)) 32 ≡ wordsOf q
+packed ws q l e =
+    let d : List ℕ = set (set (set ws 0 (q .window)) 1 (q .next)) 2 (q .count) in
+    let h : List ℕ = q .window ∷ q .next ∷ q .count ∷ [] in
+    let p : List ℕ = pairs (q .entries) in
+    let ld : length d ≡ 35 = simp length-set l in
+    let lp : length p ≡ 32 = length-pairs (q .entries) ∙ ap (λ (k : ℕ). 2 * k) e in
+    let none : drop 35 d ≡ [] = drop-of-length-le d {i = 35} (omega arith) in
+    ap (λ (x : List ℕ). x ++ take 32 p ++ drop 35 d) (heads ws (q .window) (q .next) (q .count) (omega arith))
+    ∙ ap (λ (x : List ℕ). h ++ x ++ drop 35 d) (take-all 32 p (omega arith))
+    ∙ ap (λ (x : List ℕ). h ++ p ++ x) none
+    ∙ append-nil _
+
+pairs-append : (a b : List Request) → pairs (a ++ b) ≡ pairs a ++ pairs b
+pairs-append [] b = refl
+pairs-append (e ∷ a) b = ap (λ (l : List ℕ). e .id ∷ e .length ∷ l) (pairs-append a b)
+
+-- the words of the entries that were taken up
+pairs-up-to : (ws : List ℕ) (n : ℕ) → 3 + 2 * n ≤ length ws → pairs (upTo (entryAt ws) n) ≡ take (2 * n) (drop 3 ws)
+pairs-up-to ws zero h = refl
+pairs-up-to ws (suc n) h =
+    let r : List ℕ = drop 3 ws in
+    let lr : length r ≡ length ws - 3 = length-drop 3 ws in
+    let one : take (suc (2 * n)) r ≡ take (2 * n) r ++ (getD r (2 * n) 0 ∷ []) = take-suc r (2 * n) 0 (omega arith) in
+    let two : take (suc (suc (2 * n))) r ≡ take (suc (2 * n)) r ++ (getD r (suc (2 * n)) 0 ∷ []) = take-suc r (suc (2 * n)) 0 (omega arith) in
+    let k : 3 + suc (2 * n) ≡ 4 + 2 * n = omega arith in
+    let id-is : getD ws (3 + 2 * n) 0 ≡ getD r (2 * n) 0 = sym (getD-drop 3 ws (2 * n) 0) in
+    let length-is : getD ws (4 + 2 * n) 0 ≡ getD r (suc (2 * n)) 0 = ap (λ (j : ℕ). getD ws j 0) (sym k) ∙ sym (getD-drop 3 ws (suc (2 * n)) 0) in
+    pairs-append (upTo (entryAt ws) n) (entryAt ws n ∷ [])
+    ∙ ap (λ (l : List ℕ). l ++ (getD ws (3 + 2 * n) 0 ∷ getD ws (4 + 2 * n) 0 ∷ [])) (pairs-up-to ws n (omega arith))
+    ∙ ap (λ (x : ℕ). take (2 * n) r ++ (x ∷ getD ws (4 + 2 * n) 0 ∷ [])) id-is
+    ∙ ap (λ (x : ℕ). take (2 * n) r ++ (getD r (2 * n) 0 ∷ x ∷ [])) length-is
+    ∙ sym (append-assoc (take (2 * n) r) (getD r (2 * n) 0 ∷ []) (getD r (suc (2 * n)) 0 ∷ []))
+    ∙ ap (λ (l : List ℕ). l ++ (getD r (suc (2 * n)) 0 ∷ [])) (sym one)
+    ∙ sym two
+    ∙ ap (λ (j : ℕ). take j r) (sym (twice n))
+
+heads-back : (ws : List ℕ) → 3 ≤ length ws → getD ws 0 0 ∷ getD ws 1 0 ∷ getD ws 2 0 ∷ drop 3 ws ≡ ws
+heads-back [] h = absurd (omega arith)
+heads-back (x ∷ []) h = absurd (omega arith)
+heads-back (x ∷ y ∷ []) h = absurd (omega arith)
+heads-back (x ∷ y ∷ z ∷ ws) h = refl
+
+-- words taken up and laid out again are the same: a refused call, which hands its queue back, leaves the words as they were
+pub words-back : (ws : List ℕ) → length ws ≡ 35 → wordsOf (queueOf ws) ≡ ws
+words-back ws l =
+    let short : length (drop 3 ws) ≤ 32 = rw (length-drop 3 ws) (omega arith) in
+    ap (λ (r : List ℕ). getD ws 0 0 ∷ getD ws 1 0 ∷ getD ws 2 0 ∷ r) (pairs-up-to ws 16 (omega arith) ∙ take-all 32 (drop 3 ws) short)
+    ∙ heads-back ws (omega arith)

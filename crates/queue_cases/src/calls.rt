@@ -1,0 +1,158 @@
+// The calls, each with its line.
+use message_write::Written;
+use queue::Answering;
+use queue::Change;
+use queue::Issuing;
+use queue::Request;
+use queue::RequestQueue;
+
+// What is outstanding, and the end of the line.
+fn outstanding(q: RequestQueue) {
+    lines::text(b"; outstanding ");
+    lines::number(q.outstanding() as u64);
+    lines::text(b" of ");
+    lines::number(q.outstanding_bytes());
+    lines::text(b" bytes\n");
+}
+
+fn change(o: Change) {
+    match o {
+        Change::Made => lines::text(b"made"),
+        Change::Refused(r) => refused(r.number, r.place),
+    }
+}
+
+fn refused(number: u32, place: usize) {
+    lines::text(b"refused ");
+    lines::number(number as u64);
+    lines::text(b" at ");
+    lines::number(place as u64);
+}
+
+pub fn open_with(window: u32) -> RequestQueue {
+    lines::text(b"open with window ");
+    lines::number(window as u64);
+    lines::text(b": ");
+    let d = RequestQueue::open_with(window);
+    let o = d.outcome;
+    change(o);
+    let q = d.queue;
+    outstanding(q);
+    q
+}
+
+pub fn drop_link(q: RequestQueue) -> RequestQueue {
+    lines::text(b"drop: ");
+    let d = q.drop_link();
+    let o = d.outcome;
+    change(o);
+    let q = d.queue;
+    outstanding(q);
+    q
+}
+
+fn issuing(o: Issuing) {
+    match o {
+        Issuing::Issued(id, n) => {
+            lines::text(b"ID ");
+            lines::number(id as u64);
+            lines::text(b" in ");
+            lines::number(n as u64);
+            lines::text(b" bytes");
+        }
+        Issuing::Refused(r) => refused(r.number, r.place),
+    }
+}
+
+// Asks for the first bytes of the file "a" in the repository "r".
+pub fn issue(q: RequestQueue, size: u32, room: usize) -> RequestQueue {
+    lines::text(b"issue ");
+    lines::number(size as u64);
+    lines::text(b" bytes: ");
+    let mut out = [0u8; 68];
+    if 68 < room {
+        return q;
+    }
+    let d = q.issue(b"r", b"a", 0, size, &[0xa7u8; 32], &mut out[0..room]);
+    let o = d.outcome;
+    issuing(o);
+    let q = d.queue;
+    outstanding(q);
+    q
+}
+
+fn answering(o: Answering) {
+    match o {
+        Answering::Data(e, d) => {
+            request(b"data", e);
+            lines::text(b" at ");
+            lines::number(d.start as u64);
+        }
+        Answering::NotAvailable(e) => request(b"not available", e),
+        Answering::WrongSize(e) => request(b"wrong size", e),
+        Answering::Refused(r) => refused(r.number, r.place),
+    }
+}
+
+fn request(outcome: &[u8], e: Request) {
+    lines::text(outcome);
+    lines::text(b" for ID ");
+    lines::number(e.id as u64);
+    lines::text(b" of ");
+    lines::number(e.length as u64);
+    lines::text(b" bytes");
+}
+
+pub fn message(q: RequestQueue, s: &[u8]) -> RequestQueue {
+    lines::text(b"answer ");
+    lines::bytes(s);
+    lines::text(b": ");
+    let d = q.answer(s);
+    let o = d.outcome;
+    answering(o);
+    let q = d.queue;
+    outstanding(q);
+    q
+}
+
+// A Response with so many bytes of data, up to 16.
+pub fn answer(q: RequestQueue, id: u32, n: usize) -> RequestQueue {
+    if 16 < n {
+        return q;
+    }
+    let mut out = [0u8; 24];
+    let data = [0xd7u8; 16];
+    let Written::Filled(m) = message_write::write_response(&mut out, id, &data[0..n]) else {
+        return q;
+    };
+    if 24 < m {
+        return q;
+    }
+    message(q, &out[0..m])
+}
+
+// Issues and answers, without lines.
+pub fn pairs(q: RequestQueue, times: u32) -> RequestQueue {
+    let mut queue = q;
+    for _ in 0..times {
+        queue = pair(queue);
+    }
+    queue
+}
+
+fn pair(q: RequestQueue) -> RequestQueue {
+    let mut out = [0u8; 68];
+    let d = q.issue(b"r", b"a", 0, 5, &[0xa7u8; 32], &mut out);
+    let o = d.outcome;
+    let Issuing::Issued(id, _) = o else {
+        return d.queue;
+    };
+    answered(d.queue, id)
+}
+
+fn answered(q: RequestQueue, id: u32) -> RequestQueue {
+    let mut out = [0u8; 8];
+    message_write::write_response(&mut out, id, b"");
+    let d = q.answer(&out);
+    d.queue
+}

@@ -1,0 +1,251 @@
+//! The outstanding requests of a link.
+
+use crate::answer::{size, span, word};
+use crate::{ffi, Refusal};
+
+/// The requests of one link that were issued and not answered yet, oldest first.
+///
+/// There is a window of at most 16 requests and an allowance of 524,288 bytes. Requests are answered
+/// in the order of their issue.
+///
+/// ```
+/// use fordtrumpet::{write_response, Outcome, RequestQueue};
+///
+/// let mut queue = RequestQueue::open();
+/// let mut out = [0; 100];
+/// let issued = queue.issue(&mut out, b"default", b"notes.txt", 0, 3, &[0xA7; 32])?;
+/// // Send `out[..issued.written]`, and there comes the answer:
+/// let length = write_response(&mut out, issued.id, b"abc")?;
+/// let answered = queue.answer(&out[..length])?;
+/// assert_eq!(answered.outcome, Outcome::Data(b"abc"));
+/// assert_eq!(queue.outstanding(), 0);
+/// # Ok::<(), fordtrumpet::Refusal>(())
+/// ```
+#[derive(Clone, Debug, PartialEq, Eq)]
+pub struct RequestQueue {
+    words: [u32; 35],
+}
+
+/// A request that was issued.
+#[derive(Clone, Copy, Debug, PartialEq, Eq)]
+pub struct Issued {
+    /// The ID of the Request.
+    pub id: u32,
+    /// How many bytes were written.
+    pub written: usize,
+}
+
+/// A request that was answered, and how.
+#[derive(Clone, Copy, Debug, PartialEq, Eq)]
+pub struct Answered<'a> {
+    /// The ID of the Request and of its Response.
+    pub id: u32,
+    /// The length that was asked for.
+    pub length: u32,
+    /// What came.
+    pub outcome: Outcome<'a>,
+}
+
+/// What an answer brought.
+#[derive(Clone, Copy, Debug, PartialEq, Eq)]
+pub enum Outcome<'a> {
+    /// Data, as long as asked for.
+    Data(&'a [u8]),
+    /// None: the block isn't available.
+    NotAvailable,
+    /// Data of another length than asked for.
+    WrongSize,
+}
+
+impl RequestQueue {
+    /// The largest window, which is the default too.
+    pub const WINDOW: u32 = 16;
+
+    /// An empty queue with the default window.
+    ///
+    /// ```
+    /// use fordtrumpet::RequestQueue;
+    ///
+    /// assert_eq!(RequestQueue::open().outstanding(), 0);
+    /// ```
+    pub fn open() -> Self {
+        Self::open_with(Self::WINDOW).expect("the default window is one of those there are")
+    }
+
+    /// An empty queue with this window.
+    ///
+    /// # Errors
+    ///
+    /// 22 if the window isn't 1 to 16.
+    ///
+    /// ```
+    /// use fordtrumpet::RequestQueue;
+    ///
+    /// assert!(RequestQueue::open_with(4).is_ok());
+    /// assert_eq!(RequestQueue::open_with(17).unwrap_err().number, 22);
+    /// ```
+    pub fn open_with(window: u32) -> Result<Self, Refusal> {
+        let mut words = [0; 35];
+        // SAFETY: the queue has the size asked for.
+        let number = unsafe { ffi::bep_queue_open(&mut words, window) };
+        accepted(number, 0).map(|()| RequestQueue { words })
+    }
+
+    /// Writes a Request with the next ID into `out` and appends it to the queue.
+    ///
+    /// IDs start at 0 and rise by one; 0 follows 4095.
+    ///
+    /// # Errors
+    ///
+    /// What reading such a Request would give; 16 if the window is full; 17 if the bytes outstanding
+    /// and `length` exceed the allowance; 14 if `out` is too short. The ID isn't used then, and
+    /// nothing is written.
+    ///
+    /// ```
+    /// use fordtrumpet::RequestQueue;
+    ///
+    /// let mut queue = RequestQueue::open_with(1)?;
+    /// let mut out = [0; 100];
+    /// queue.issue(&mut out, b"default", b"a", 0, 131_072, &[0xA7; 32])?;
+    /// let again = queue.issue(&mut out, b"default", b"a", 131_072, 5, &[0xA8; 32]);
+    /// assert_eq!(again.unwrap_err().number, 16);
+    /// # Ok::<(), fordtrumpet::Refusal>(())
+    /// ```
+    pub fn issue(
+        &mut self,
+        out: &mut [u8],
+        repository: &[u8],
+        name: &[u8],
+        offset: u64,
+        length: u32,
+        hash: &[u8],
+    ) -> Result<Issued, Refusal> {
+        let mut answer = [0; 2];
+        // SAFETY: each pointer and length are those of one slice, `out` and the queue are borrowed for
+        // this call alone, and queue and answer have the sizes asked for.
+        let number = unsafe {
+            ffi::bep_queue_issue(
+                out.as_mut_ptr(),
+                out.len(),
+                &mut self.words,
+                repository.as_ptr(),
+                repository.len(),
+                name.as_ptr(),
+                name.len(),
+                offset,
+                length,
+                hash.as_ptr(),
+                hash.len(),
+                &mut answer,
+            )
+        };
+        accepted(number, answer[0])?;
+        Ok(Issued {
+            id: word(answer[1]),
+            written: size(answer[0]),
+        })
+    }
+
+    /// Releases the oldest request by the Response to it, whatever that brought.
+    ///
+    /// # Errors
+    ///
+    /// What reading the message gives; 18 if it isn't a Response; 20 if its ID isn't that of the oldest
+    /// request, or none is outstanding.
+    ///
+    /// ```
+    /// use fordtrumpet::{write_response, Outcome, RequestQueue};
+    ///
+    /// let mut queue = RequestQueue::open();
+    /// let mut out = [0; 100];
+    /// let id = queue.issue(&mut out, b"default", b"a", 0, 5, &[0xA7; 32])?.id;
+    /// let length = write_response(&mut out, id, b"")?;
+    /// assert_eq!(queue.answer(&out[..length])?.outcome, Outcome::NotAvailable);
+    /// assert_eq!(queue.answer(&out[..length]).unwrap_err().number, 20);
+    /// # Ok::<(), fordtrumpet::Refusal>(())
+    /// ```
+    pub fn answer<'a>(&mut self, message: &'a [u8]) -> Result<Answered<'a>, Refusal> {
+        let mut answer = [0; 5];
+        // SAFETY: pointer and length are those of one slice, and queue and answer have the sizes asked
+        // for.
+        let number = unsafe {
+            ffi::bep_queue_answer(
+                &mut self.words,
+                message.as_ptr(),
+                message.len(),
+                &mut answer,
+            )
+        };
+        accepted(number, answer[0])?;
+        let [kind, id, length, start, len] = answer;
+        Ok(Answered {
+            id: word(id),
+            length: word(length),
+            outcome: match kind {
+                0 => Outcome::Data(span(message, start, len)),
+                1 => Outcome::NotAvailable,
+                _ => Outcome::WrongSize,
+            },
+        })
+    }
+
+    /// Releases all requests: the link is gone. The next ID goes on.
+    ///
+    /// ```
+    /// # use fordtrumpet::RequestQueue;
+    /// # let mut queue = RequestQueue::open();
+    /// # let mut out = [0; 100];
+    /// queue.issue(&mut out, b"default", b"a", 0, 5, &[0xA7; 32])?;
+    /// queue.drop_link();
+    /// assert_eq!(queue.outstanding_bytes(), 0);
+    /// assert_eq!(queue.issue(&mut out, b"default", b"a", 0, 5, &[0xA7; 32])?.id, 1);
+    /// # Ok::<(), fordtrumpet::Refusal>(())
+    /// ```
+    pub fn drop_link(&mut self) {
+        // SAFETY: the queue has the size asked for.
+        let number = unsafe { ffi::bep_queue_drop(&mut self.words) };
+        assert_eq!(number, 0, "a queue that was opened is sound");
+    }
+
+    /// How many requests are outstanding.
+    ///
+    /// ```
+    /// # use fordtrumpet::RequestQueue;
+    /// # let mut queue = RequestQueue::open();
+    /// # let mut out = [0; 100];
+    /// queue.issue(&mut out, b"default", b"a", 0, 5, &[0xA7; 32])?;
+    /// assert_eq!((queue.outstanding(), queue.outstanding_bytes()), (1, 5));
+    /// # Ok::<(), fordtrumpet::Refusal>(())
+    /// ```
+    pub fn outstanding(&self) -> usize {
+        size(self.totals()[0])
+    }
+
+    /// The sum of their lengths.
+    ///
+    /// ```
+    /// # use fordtrumpet::RequestQueue;
+    /// assert_eq!(RequestQueue::open().outstanding_bytes(), 0);
+    /// ```
+    pub fn outstanding_bytes(&self) -> u64 {
+        self.totals()[1]
+    }
+
+    fn totals(&self) -> [u64; 2] {
+        let mut answer = [0; 2];
+        // SAFETY: queue and answer have the sizes asked for.
+        let number = unsafe { ffi::bep_queue_totals(&self.words, &mut answer) };
+        assert_eq!(number, 0, "any queue has totals");
+        answer
+    }
+}
+
+fn accepted(number: u32, place: u64) -> Result<(), Refusal> {
+    match number {
+        0 => Ok(()),
+        _ => Err(Refusal {
+            number,
+            place: size(place),
+        }),
+    }
+}

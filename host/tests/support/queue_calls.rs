@@ -1,0 +1,229 @@
+//! Compares the calls on queues with the reference.
+
+use super::compare::{same, same_bytes, Compared};
+use super::library::{ffi, Answer, UNSET};
+use super::random::Random;
+use crate::reference::{self, Outcome, Outstanding, Queue};
+use std::collections::BTreeMap;
+
+/// A queue as it is lent.
+pub type Words = [u32; 35];
+
+/// The fields of a Request to be issued.
+#[derive(Clone, Debug)]
+pub struct Wanted {
+    pub repository: Vec<u8>,
+    pub name: Vec<u8>,
+    pub offset: u64,
+    pub length: u32,
+    pub hash: Vec<u8>,
+}
+
+/// The calls under test. Faults are planted by exchanging one of them.
+#[derive(Clone, Copy)]
+pub struct QueueCalls {
+    pub open: fn(&mut Words, u32) -> u32,
+    pub issue: fn(&mut Words, &Wanted, &mut [u8]) -> Answer<2>,
+    pub answer: fn(&mut Words, &[u8]) -> Answer<5>,
+    pub drop_link: fn(&mut Words) -> u32,
+    pub totals: fn(&Words) -> Answer<2>,
+}
+
+/// The library as it is.
+pub const QUEUE_CALLS: QueueCalls = QueueCalls {
+    open,
+    issue,
+    answer,
+    drop_link,
+    totals,
+};
+
+fn open(queue: &mut Words, window: u32) -> u32 {
+    // SAFETY: the queue has the size asked for. In all calls so has the answer, and each pointer and
+    // length are those of one slice.
+    unsafe { ffi::bep_queue_open(queue, window) }
+}
+
+fn issue(queue: &mut Words, wanted: &Wanted, out: &mut [u8]) -> Answer<2> {
+    let mut answer = [UNSET; 2];
+    // SAFETY: as in `open`.
+    let number = unsafe {
+        ffi::bep_queue_issue(
+            out.as_mut_ptr(),
+            out.len(),
+            queue,
+            wanted.repository.as_ptr(),
+            wanted.repository.len(),
+            wanted.name.as_ptr(),
+            wanted.name.len(),
+            wanted.offset,
+            wanted.length,
+            wanted.hash.as_ptr(),
+            wanted.hash.len(),
+            &mut answer,
+        )
+    };
+    (number, answer)
+}
+
+fn answer(queue: &mut Words, message: &[u8]) -> Answer<5> {
+    let mut answer = [UNSET; 5];
+    // SAFETY: as in `open`.
+    let number =
+        unsafe { ffi::bep_queue_answer(queue, message.as_ptr(), message.len(), &mut answer) };
+    (number, answer)
+}
+
+fn drop_link(queue: &mut Words) -> u32 {
+    // SAFETY: as in `open`.
+    unsafe { ffi::bep_queue_drop(queue) }
+}
+
+fn totals(queue: &Words) -> Answer<2> {
+    let mut answer = [UNSET; 2];
+    // SAFETY: as in `open`.
+    let number = unsafe { ffi::bep_queue_totals(queue, &mut answer) };
+    (number, answer)
+}
+
+/// The words of the reference's queue.
+pub fn words_of(queue: &Queue) -> Words {
+    let mut words = [0; 35];
+    words[..3].copy_from_slice(&[queue.window, queue.next, queue.count]);
+    for (pair, request) in words[3..].chunks_mut(2).zip(&queue.requests) {
+        pair.copy_from_slice(&[request.id, request.length]);
+    }
+    words
+}
+
+/// The reference's queue with these words.
+pub fn queue_of(words: &Words) -> Queue {
+    let mut requests = [Outstanding::default(); 16];
+    for (request, pair) in requests.iter_mut().zip(words[3..].chunks(2)) {
+        (request.id, request.length) = (pair[0], pair[1]);
+    }
+    Queue {
+        window: words[0],
+        next: words[1],
+        count: words[2],
+        requests,
+    }
+}
+
+fn number<T>(answer: &Result<T, reference::Refusal>) -> u32 {
+    answer.as_ref().map_or_else(|refusal| refusal.number, |_| 0)
+}
+
+/// One queue of each side, compared after every call.
+pub struct QueueComparison<'a> {
+    calls: QueueCalls,
+    words: Words,
+    pub queue: Queue,
+    /// The number of calls compared.
+    pub compared: u64,
+    /// How often a call answered with a number. An answer that brought no data counts as 100, one of
+    /// the wrong size as 200.
+    pub seen: &'a mut BTreeMap<(&'static str, u32), u64>,
+}
+
+impl<'a> QueueComparison<'a> {
+    pub fn new(
+        calls: QueueCalls,
+        queue: Queue,
+        seen: &'a mut BTreeMap<(&'static str, u32), u64>,
+    ) -> Self {
+        QueueComparison {
+            calls,
+            words: words_of(&queue),
+            queue,
+            compared: 0,
+            seen,
+        }
+    }
+
+    /// Notes a call, and compares the queues and their totals.
+    fn met(&mut self, call: &'static str, number: u32) -> Compared {
+        self.compared += 1;
+        *self.seen.entry((call, number)).or_default() += 1;
+        same("the queue", &self.words, &words_of(&self.queue))?;
+        let totals = [
+            u64::from(self.queue.count.min(16)),
+            self.queue.outstanding_bytes(),
+        ];
+        same(
+            "the totals",
+            &(self.calls.totals)(&self.words),
+            &(0, totals),
+        )
+    }
+
+    pub fn open(&mut self, window: u32) -> Compared {
+        let (queue, answer) = Queue::open(window);
+        self.queue = queue;
+        let given = (self.calls.open)(&mut self.words, window);
+        same("open", &given, &number(&answer))?;
+        self.met("open", given)
+    }
+
+    /// Issues into a buffer of `room` bytes, which lies between bytes that must stay as they are.
+    pub fn issue(&mut self, wanted: &Wanted, room: usize, random: &mut Random) -> Compared {
+        let start = random.below(8);
+        let lent = start..start + room;
+        let before = random.bytes(start + room + 8);
+        let mut memory = before.clone();
+        let given = (self.calls.issue)(&mut self.words, wanted, &mut memory[lent.clone()]);
+        let mut expected_memory = before;
+        let id = self.queue.next;
+        let answer = self.queue.issue(
+            &wanted.repository,
+            &wanted.name,
+            wanted.offset,
+            wanted.length,
+            &wanted.hash,
+            &mut expected_memory[lent],
+        );
+        let expected = match answer {
+            Ok(len) => (0, [len as u64, u64::from(id)]),
+            Err(refusal) => (refusal.number, [refusal.place as u64, 0]),
+        };
+        same("issue", &given, &expected)?;
+        same_bytes("memory", &memory, &expected_memory)?;
+        self.met("issue", expected.0)
+    }
+
+    pub fn answer(&mut self, message: &[u8]) -> Compared {
+        let given = (self.calls.answer)(&mut self.words, message);
+        let answer = self.queue.answer(message);
+        let (kind, expected) = match answer {
+            Ok(answered) => {
+                let (kind, start, len) = match answered.outcome {
+                    Outcome::Data(data) => (0, data.start as u64, data.len as u64),
+                    Outcome::NotAvailable => (1, 0, 0),
+                    Outcome::WrongSize => (2, 0, 0),
+                };
+                let request = answered.request;
+                let (id, length) = (u64::from(request.id), u64::from(request.length));
+                (100 * kind, (0, [u64::from(kind), id, length, start, len]))
+            }
+            Err(refusal) => (
+                refusal.number,
+                (refusal.number, [refusal.place as u64, 0, 0, 0, 0]),
+            ),
+        };
+        same("answer", &given, &expected)?;
+        self.met("answer", kind)
+    }
+
+    pub fn drop_link(&mut self) -> Compared {
+        let given = (self.calls.drop_link)(&mut self.words);
+        let answer = self.queue.drop_link();
+        same("drop", &given, &number(&answer))?;
+        self.met("drop", given)
+    }
+
+    /// Somebody writes into the queue.
+    pub fn write(&mut self, at: usize, word: u32) {
+        self.words[at] = word;
+        self.queue = queue_of(&self.words);
+    }
+}
