@@ -33,7 +33,7 @@ bench: $(LIB)
 
 N ?= 1000000
 soak: $(LIB)
-	@cd host && SOAK=$(N) cargo test --quiet --release --offline generated lists -- --nocapture
+	@cd host && SOAK=$(N) cargo test --quiet --release --offline -- generated lists --nocapture
 
 $(LIB): $(wildcard crates/*/src/*.rt)
 	@rt staticlib bep >/dev/null

@@ -90,6 +90,42 @@ static int queues(void)
     return 0;
 }
 
+static int requests(void)
+{
+    const uint8_t empty[4] = {0};
+    const uint8_t repository[1] = {'r'};
+    uint8_t list[24];
+    uint8_t request[100];
+    uint8_t out[8];
+    uint64_t length[1];
+    uint64_t found[3];
+    uint64_t served[5];
+
+    /* A peer has a file of one block that we don't have. */
+    CHECK(bep_request_list(list, 23, empty, 4, empty, 4, files, 72, empty, 4, empty, 4, length) == 14);
+    CHECK(bep_request_list(list, 24, empty, 4, empty, 4, files, 72, empty, 4, empty, 4, length) == 0);
+    CHECK(length[0] == 24 && list[7] == 0 && memcmp(list + 16, files + 32, 4) == 0 && list[23] == 2);
+    CHECK(bep_request_list(list, 24, empty, 3, empty, 4, files, 72, empty, 4, empty, 4, length) == 15);
+    CHECK(bep_request_list(list, 24, files, 72, empty, 4, files, 72, empty, 4, empty, 4, length) == 0);
+    CHECK(length[0] == 0);
+
+    uint32_t size = (uint32_t)files[32] << 24 | (uint32_t)files[33] << 16 | files[34] << 8 | files[35];
+    CHECK(bep_find(files, 72, size, files + 40, 32, found) == 0);
+    CHECK(found[0] == 1 && found[1] == 0 && found[2] == 0);
+    CHECK(bep_find(files, 72, size + 1, files + 40, 32, found) == 0 && found[0] == 0);
+    CHECK(bep_find(files, 71, size, files + 40, 32, found) == 15 && found[0] == 0);
+
+    CHECK(bep_write_request(request, 100, 6, repository, 1, files + 8, 1, 0, size, files + 40, 32,
+                            length) == 0);
+    CHECK(bep_serve(out, 0, files, 72, repository, 1, request, length[0], served) == 0);
+    CHECK(served[0] == 1 && request[served[1]] == files[8] && served[2] == 1);
+    CHECK(served[3] == 0 && served[4] == size);
+    CHECK(bep_serve(out, 7, empty, 4, repository, 1, request, length[0], served) == 14);
+    CHECK(bep_serve(out, 8, empty, 4, repository, 1, request, length[0], served) == 0);
+    CHECK(served[0] == 0 && served[1] == 8 && memcmp(out, "\0\6\3\0\0\0\0\0", 8) == 0);
+    return 0;
+}
+
 int main(void)
 {
     const uint8_t repository[2] = {'r', 's'};
@@ -150,5 +186,5 @@ int main(void)
     CHECK(option[0] == 20 && option[1] == 8 && option[2] == 1);
     CHECK(option[3] == 16 && option[4] == 2);
     CHECK(bep_option(options, 20, 20, option) == 1);
-    return tables() || queues();
+    return tables() || queues() || requests();
 }
