@@ -6,3 +6,4 @@ pub mod Merges
 pub mod SampleMerges
 mod ListHistory
 pub mod Requests
+pub mod RequestList
