@@ -6,4 +6,5 @@ pub mod Merges
 pub mod SampleMerges
 mod ListHistory
 pub mod Requests
+mod HeldLaws
 pub mod RequestList

@@ -1,5 +1,5 @@
 -- The request list is exact, each block with its lowest peer.
-use Prim.Native.Nat.{ℕ, zero, suc, _≤_, _<_}
+use Prim.Native.Nat.{ℕ, zero, suc, _+_, _≤_, _<_}
 use mathlib.Core.List.{List, [], _∷_, _++_, map, List·Memᴰ}
 use mathlib.Core.Path.{_≡_, refl, sym, ap, subst, _∙_}
 use mathlib.Core.Bool.{Bool, true, false, _&&_}
@@ -16,6 +16,7 @@ use Rattle.want.specs.Listing.{listsThere}
 use Rattle.want.specs.Wanted.{peerFrom, requestList, allGood, listBytes, listInto, requestOutcome}
 use Rattle.want.specs.declared.list.Wanted.{Wanted}
 use Rattle.want.proofs.RequestLaws.{Asked, Lowest, request-of, request-in, request-order, request-peer}
+use Rattle.promises.proofs.HeldLaws.{unheld-words, words-unheld}
 use Rattle.promises.specs.RequestList.{Missing, isListedBy, Asks, Exact, Requested}
 
 module _ (local : List File) (peers : List (List File)) (rises : (k : ℕ) → k < length peers → Rising (getD peers k [])) where
@@ -31,7 +32,7 @@ module _ (local : List File) (peers : List (List File)) (rises : (k : ℕ) → k
         block = a .entry .block;
         rest = a .entry .rest;
         within = a .entry .split;
-        unheld = a .entry .free;
+        unheld = unheld-words local (a .entry .block) (a .entry .free);
       }
 
   -- the peer among all tables, of which the local one is the first
@@ -44,15 +45,16 @@ module _ (local : List File) (peers : List (List File)) (rises : (k : ℕ) → k
   none-lower l zero h i = absurd (omega arith)
   none-lower l (suc j) h i = l .lowest j (omega (arith, l .is))
 
-  asks : (w : Wanted) (a : Asked local peers 0 (mergedOf (local ∷ peers)) w) → Asks (missing w a) w
-  asks w a =
-      let e : w .offset ≡ totalSize (a .entry .front) = omega (arith, a .entry .offset-is) in
-      let l = subst (λ (o : ℕ). Lowest 1 peers (a .highest .name) o (a .entry .block) (w .peer)) e (request-peer local peers rises w a) in
+  asks : (m : Missing local peers) (w : Wanted) → w .file ≡ 0 + length (m .before) → w .block ≡ 0 + length (m .front) → w .offset ≡ 0 + totalSize (m .front) → w .size ≡ m .block .size
+      → Lowest 1 peers (m .highest .name) (w .offset) (m .block) (w .peer) → Asks m w
+  asks m w f n o s p =
+      let e : w .offset ≡ totalSize (m .front) = omega (arith, o) in
+      let l = subst (λ (k : ℕ). Lowest 1 peers (m .highest .name) k (m .block) (w .peer)) e p in
       record {
-        file = omega (arith, a .entry .file-is);
-        number = omega (arith, a .entry .block-is);
+        file = omega (arith, f);
+        number = omega (arith, n);
         offset = e;
-        size = a .entry .size-is;
+        size = s;
         from-one = omega (arith, l .is);
         to-last = omega (arith, l .is, l .small);
         lists = lists-from l;
@@ -81,7 +83,7 @@ module _ (local : List File) (peers : List (List File)) (rises : (k : ℕ) → k
           block = m .block;
           rest = m .rest;
           split = m .within;
-          free = m .unheld;
+          free = words-unheld local (m .block) (m .unheld);
           file-is = omega arith;
           block-is = omega arith;
           offset-is = omega arith;
@@ -94,8 +96,14 @@ module _ (local : List File) (peers : List (List File)) (rises : (k : ℕ) → k
   unfolding asked
   exact-list =
       record {
-        only = λ w i. let a = request-of local peers w i in (missing w a, asks w a);
-        all = λ m. (entry m, request-in local peers (entry m) (asked m), asks (entry m) (asked m));
+        only = λ w i.
+            let a = request-of local peers w i in
+            let e = a .entry in
+            (missing w a, asks (missing w a) w (e .file-is) (e .block-is) (e .offset-is) (e .size-is) (request-peer local peers rises w a));
+        all = λ m.
+            let w = entry m in
+            let e = asked m .entry in
+            (w, request-in local peers w (asked m), asks m w (e .file-is) (e .block-is) (e .offset-is) (e .size-is) (request-peer local peers rises w (asked m)));
         ordered = request-order local peers;
       }
 

@@ -8,7 +8,7 @@ use Rattle.record.specs.Block.{Block, totalSize}
 use Rattle.record.specs.File.{File}
 use Rattle.table.specs.Table.{records}
 use Rattle.merge.specs.Merged.{mergedOf}
-use Rattle.want.specs.Listing.{listed, isHeld, listsThere}
+use Rattle.want.specs.Listing.{listed, listsThere}
 use Rattle.want.specs.Wanted.{InOrder, listBytes, listInto, requestOutcome}
 use Rattle.want.specs.declared.list.Wanted.{Wanted}
 
@@ -25,7 +25,7 @@ pub record Missing (local : List File) (peers : List (List File)) : Type 0 where
   pub rest : List Block
   pub within : listed highest ≡ front ++ (block ∷ rest)
   -- and of whose Length and hash no valid, undeleted local record lists a block
-  pub unheld : isHeld local block ≡ false
+  pub unheld : (f : File) → List·Memᴰ f local → (b : Block) → List·Memᴰ b (listed f) → b .size ≡ block .size → b .hash ≡ block .hash → ⊥
 
 -- peer k lists it there
 abbrev pub isListedBy : {local : List File} {peers : List (List File)} → Missing local peers → ℕ → Bool

@@ -2,19 +2,19 @@
 use crate::build;
 use table::Filling;
 
+fn field(s: &[u8]) {
+    lines::text(b" ");
+    lines::bytes(s);
+}
+
 // An entry: file number, block number, offset, Length and peer.
 fn entry(s: &[u8]) {
     if s.len() == 24 {
-        lines::text(b"  ");
-        lines::bytes(&s[0..4]);
-        lines::text(b" ");
-        lines::bytes(&s[4..8]);
-        lines::text(b" ");
-        lines::bytes(&s[8..16]);
-        lines::text(b" ");
-        lines::bytes(&s[16..20]);
-        lines::text(b" ");
-        lines::bytes(&s[20..24]);
+        field(&s[0..4]);
+        field(&s[4..8]);
+        field(&s[8..16]);
+        field(&s[16..20]);
+        field(&s[20..24]);
         lines::text(b"\n");
     }
 }
@@ -31,23 +31,26 @@ fn entries(s: &[u8]) {
     }
 }
 
-// The entries of a small list, the last entry of a large one, or the refusal and whether the buffer is as it was.
+// How many bytes it has, and its entries: of a large one the last.
+fn filled(n: usize, out: &[u8]) {
+    lines::text(b": filled ");
+    lines::number(n as u64);
+    lines::text(b"\n");
+    if n <= out.len() {
+        if n < 100 {
+            entries(&out[0..n]);
+        } else {
+            entry(&out[n - 24..n]);
+        }
+    }
+}
+
+// The list, or the refusal and whether the buffer is as it was.
 fn answer(label: &[u8], f: Filling, out: &[u8]) {
     lines::text(b"request list, ");
     lines::text(label);
     match f {
-        Filling::Filled(n) => {
-            lines::text(b": filled ");
-            lines::number(n as u64);
-            lines::text(b"\n");
-            if n <= out.len() {
-                if n < 100 {
-                    entries(&out[0..n]);
-                } else {
-                    entry(&out[n - 24..n]);
-                }
-            }
-        }
+        Filling::Filled(n) => filled(n, out),
         Filling::Refused(r) => lines::refused(out, r),
     }
 }
@@ -92,48 +95,41 @@ fn listed_twice(t: &[u8]) {
 
 // The highest record, of peer 2, has blocks of 5 and 7 bytes; in peer 1's older one the block of 7 is the third.
 pub fn cut_differently() {
-    let none: &[u8] = b"\x00\x00\x00\x00";
     let mut a = [0u8; 152];
     let mut b = [0u8; 112];
     build::three(&mut a);
     build::two(&mut b, b"a", 5, 1, 7, 2);
+    listed_there(&a, &b);
+}
+
+fn listed_there<'a>(a: &'a [u8], b: &'a [u8]) {
+    let none: &[u8] = b"\x00\x00\x00\x00";
     list(
         b"under another block number at peer 1",
         none,
-        &a,
-        &b,
+        a,
+        b,
         none,
         96,
     );
-    list(b"without peer 1", none, none, &b, none, 96);
-    list(b"peers 2 and 3 alike", none, none, &b, &b, 96);
+    list(b"without peer 1", none, none, b, none, 96);
+    list(b"peers 2 and 3 alike", none, none, b, b, 96);
 }
 
 // The local "a" has the first block of peer 2's "b".
 pub fn held() {
+    let mut a = [0u8; 72];
+    build::one(&mut a, b"a", 0, 131072, 1);
+    missing(b"a block held under another name", &a);
+    build::one(&mut a, b"a", 8192, 131072, 1);
+    missing(b"the same block in an invalid record", &a);
+}
+
+fn missing(label: &[u8], local: &[u8]) {
     let none: &[u8] = b"\x00\x00\x00\x00";
-    let mut valid = [0u8; 72];
-    let mut invalid = [0u8; 72];
     let mut b = [0u8; 112];
-    build::one(&mut valid, b"a", 0, 131072, 1);
-    build::one(&mut invalid, b"a", 8192, 131072, 1);
     build::two(&mut b, b"b", 131072, 1, 5, 2);
-    list(
-        b"a block held under another name",
-        &valid,
-        none,
-        &b,
-        none,
-        96,
-    );
-    list(
-        b"the same block in an invalid record",
-        &invalid,
-        none,
-        &b,
-        none,
-        96,
-    );
+    list(label, local, none, &b, none, 96);
 }
 
 pub fn bad() {
@@ -144,23 +140,22 @@ pub fn bad() {
 
 // 910 blocks each of three peers, and one more.
 pub fn full() {
-    let none: &[u8] = b"\x00\x00\x00\x00";
     let mut a = [0u8; 36432];
     let mut b = [0u8; 36432];
-    let mut c = [0u8; 36472];
     build::many(&mut a, b"a", 910);
     build::many(&mut b, b"b", 910);
+    with_third(&a, &b);
+}
+
+fn with_third<'a>(a: &'a [u8], b: &'a [u8]) {
+    let mut c = [0u8; 36472];
     build::many(&mut c, b"c", 911);
-    let mut out = [0xeeu8; 65536];
-    list_into(&mut out, b"2,731 entries", none, &a, &b, &c, 65536);
+    whole(b"2,731 entries", a, b, &c);
     build::many(&mut c, b"c", 910);
-    list_into(
-        &mut out,
-        b"2,730 entries",
-        none,
-        &a,
-        &b,
-        &c[0..36432],
-        65536,
-    );
+    whole(b"2,730 entries", a, b, &c[0..36432]);
+}
+
+fn whole<'a>(label: &[u8], a: &'a [u8], b: &'a [u8], c: &'a [u8]) {
+    let mut out = [0xeeu8; 65536];
+    list_into(&mut out, label, b"\x00\x00\x00\x00", a, b, c, 65536);
 }

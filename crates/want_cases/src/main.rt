@@ -13,5 +13,6 @@ fn main() {
     finds::run();
     serving::ours();
     serving::others();
+    serving::replies();
     serving::refusals();
 }

@@ -1,29 +1,36 @@
 // The ruling on messages. Ours are the Repository "r" and "b" with blocks of 5 and 7 bytes.
 use crate::build;
+use message::Span;
 use serve::Serving;
 
-// What is served and the whole buffer, or the refusal and whether the buffer is as it was.
+fn number(label: &[u8], n: u64) {
+    lines::text(label);
+    lines::number(n);
+}
+
+fn served(name: Span, offset: u64, size: u32) {
+    number(b": served, name ", name.start as u64);
+    number(b"+", name.length as u64);
+    number(b", offset ", offset);
+    number(b", length ", size as u64);
+}
+
+fn buffer(out: &[u8]) {
+    lines::text(b", buffer ");
+    lines::bytes(out);
+    lines::text(b"\n");
+}
+
+// What is served or replied and the whole buffer, or the refusal and whether the buffer is as it was.
 fn answer(s: Serving, out: &[u8]) {
     match s {
         Serving::Served(name, offset, size) => {
-            lines::text(b": served, name ");
-            lines::number(name.start as u64);
-            lines::text(b"+");
-            lines::number(name.length as u64);
-            lines::text(b", offset ");
-            lines::number(offset);
-            lines::text(b", length ");
-            lines::number(size as u64);
-            lines::text(b", buffer ");
-            lines::bytes(out);
-            lines::text(b"\n");
+            served(name, offset, size);
+            buffer(out);
         }
         Serving::Replied(n) => {
-            lines::text(b": replied ");
-            lines::number(n as u64);
-            lines::text(b", buffer ");
-            lines::bytes(out);
-            lines::text(b"\n");
+            number(b": replied ", n as u64);
+            buffer(out);
         }
         Serving::Refused(r) => lines::refused(out, r),
     }
@@ -61,30 +68,44 @@ fn ask(
     rule(label, &t, &m, room);
 }
 
+// One to our Repository and file.
+fn near(label: &[u8], offset: u64, size: u32, hash: u32, room: usize) {
+    ask(label, b"r", b"b", offset, size, hash, room);
+}
+
 pub fn ours() {
-    ask(b"the first block", b"r", b"b", 0, 5, 1, 12);
-    ask(b"the second block", b"r", b"b", 5, 7, 2, 12);
-    ask(b"with no buffer", b"r", b"b", 5, 7, 2, 0);
+    near(b"the first block", 0, 5, 1, 12);
+    near(b"the second block", 5, 7, 2, 12);
+    near(b"with no buffer", 5, 7, 2, 0);
 }
 
 pub fn others() {
     ask(b"another Repository", b"s", b"b", 5, 7, 2, 12);
     ask(b"another Name", b"r", b"c", 5, 7, 2, 12);
-    ask(b"an Offset above", b"r", b"b", 6, 7, 2, 12);
-    ask(b"an Offset below", b"r", b"b", 4, 7, 2, 12);
-    ask(b"a Length above", b"r", b"b", 5, 8, 2, 12);
-    ask(b"a Length below", b"r", b"b", 5, 6, 2, 12);
-    ask(b"another hash", b"r", b"b", 5, 7, 3, 12);
-    ask(b"a buffer that just fits", b"r", b"b", 5, 7, 3, 8);
-    ask(b"a buffer one byte short", b"r", b"b", 5, 7, 3, 7);
+    near(b"an Offset above", 6, 7, 2, 12);
+    near(b"an Offset below", 4, 7, 2, 12);
+    near(b"a Length above", 5, 8, 2, 12);
+    near(b"a Length below", 5, 6, 2, 12);
+}
+
+pub fn replies() {
+    near(b"another hash", 5, 7, 3, 12);
+    near(b"a buffer that just fits", 5, 7, 3, 8);
+    near(b"a buffer one byte short", 5, 7, 3, 7);
 }
 
 pub fn refusals() {
-    let none: &[u8] = b"\x00\x00\x00\x00";
     let mut m = [0u8; 68];
     build::request(&mut m, b"r", b"b", 5, 7, 2);
     rule(b"no table", b"", &m, 12);
+    to_empty(&m);
+}
+
+fn to_empty(m: &[u8]) {
+    let none: &[u8] = b"\x00\x00\x00\x00";
     rule(b"a Ping", none, b"\x00\x00\x04\x00", 12);
-    rule(b"a Request cut short", none, &m[0..67], 12);
-    rule(b"the empty table", none, &m, 12);
+    rule(b"the empty table", none, m, 12);
+    if m.len() == 68 {
+        rule(b"a Request cut short", none, &m[0..67], 12);
+    }
 }
