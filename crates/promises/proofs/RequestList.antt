@@ -1,23 +1,23 @@
 -- The request list is exact, each block with its lowest peer.
 use Prim.Native.Nat.{ℕ, zero, suc, _+_, _≤_, _<_}
-use mathlib.Core.List.{List, [], _∷_, _++_, map, List·Memᴰ}
-use mathlib.Core.Path.{_≡_, refl, sym, ap, subst, _∙_}
-use mathlib.Core.Bool.{Bool, true, false, _&&_}
+use mathlib.Core.List.{List, [], _∷_, map}
+use mathlib.Core.Path.{_≡_, refl, subst}
+use mathlib.Core.Bool.{true, false}
 use native.Mathlib.Omega.{arith}
 use lib.ListN.{length, getD}
 use Rattle.xdr.specs.Number.{IsBytes}
 use Rattle.record.specs.Block.{Block, totalSize}
 use Rattle.record.specs.File.{File}
 use Rattle.table.specs.Table.{isGood, records}
-use Rattle.table.proofs.RisingLaws.{Rising, rising-is, both-true}
+use Rattle.table.proofs.RisingLaws.{Rising, both-true}
 use Rattle.table.proofs.TableLaws.{good-table}
 use Rattle.merge.specs.Merged.{mergedOf}
 use Rattle.want.specs.Listing.{listsThere}
-use Rattle.want.specs.Wanted.{peerFrom, requestList, allGood, listBytes, listInto, requestOutcome}
+use Rattle.want.specs.Wanted.{peerFrom, requestList, allGood, requestOutcome}
 use Rattle.want.specs.declared.list.Wanted.{Wanted}
 use Rattle.want.proofs.RequestLaws.{Asked, Lowest, request-of, request-in, request-order, request-peer}
 use Rattle.promises.proofs.HeldLaws.{unheld-words, words-unheld}
-use Rattle.promises.specs.RequestList.{Missing, isListedBy, Asks, Exact, Requested}
+use Rattle.promises.specs.RequestList.{Missing, Asks, Exact, Requested}
 
 module _ (local : List File) (peers : List (List File)) (rises : (k : ℕ) → k < length peers → Rising (getD peers k [])) where
   -- the block of an entry, and an entry of a block
