@@ -7,3 +7,5 @@ pub mod Merges
 pub mod SampleMerges
 mod ListHistory
 pub mod Requests
+mod HeldLaws
+pub mod RequestList

@@ -4,3 +4,4 @@ pub mod Memory
 pub mod Merges
 pub mod History
 pub mod ListCalls
+pub mod RequestList

@@ -16,7 +16,7 @@ use Rattle.table.proofs.RisingLaws.{Rising}
 use Rattle.merge.specs.Merged.{mergedOf}
 use Rattle.merge.proofs.HighestLaws.{_∈_, above-all, merged-highest}
 use Rattle.want.specs.Listing.{isSame, listed, hasBlock, isHeld, hasThere, listsThere}
-use Rattle.want.specs.Wanted.{peerFrom, wantedBlock, wantedBlocks, wantedFiles, requestList}
+use Rattle.want.specs.Wanted.{peerFrom, wantedBlock, wantedBlocks, wantedFiles, requestList, Earlier, InOrder}
 use Rattle.want.specs.declared.list.Wanted.{Wanted}
 use Rattle.want.proofs.HeadLaws.{Within, in-joined}
 
@@ -155,13 +155,6 @@ module _ (local : List File) (peers : List (List File)) where
   request-in w a = asked-in (mergedOf (local ∷ peers)) 0 w a
 
 -- the order: by name, which the file numbers count, then by block
-
-abbrev pub Earlier : Wanted → Wanted → Type 0
-Earlier v w = (v .file < w .file) ⊎ ((v .file ≡ w .file) × (v .block < w .block))
-
-abbrev pub InOrder : List Wanted → Type 0
-InOrder [] = Unit {0}
-InOrder (w ∷ ws) = ((v : Wanted) → List·Memᴰ v ws → Earlier w v) × InOrder ws
 
 order-append : (a b : List Wanted) → InOrder a → InOrder b → ((v w : Wanted) → List·Memᴰ v a → List·Memᴰ w b → Earlier v w) → InOrder (a ++ b)
 order-append [] b p q h = q

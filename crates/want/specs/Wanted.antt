@@ -1,6 +1,8 @@
 -- The request list: the blocks to ask for, and whom.
-use Prim.Native.Nat.{ℕ, _+_}
-use mathlib.Core.List.{List, [], _∷_, _++_, map}
+use Prim.Native.Nat.{ℕ, _+_, _<_}
+use mathlib.Core.List.{List, [], _∷_, _++_, map, List·Memᴰ}
+use mathlib.Core.Path.{_≡_}
+use mathlib.Core.Logic.{_⊎_}
 use mathlib.Core.Bool.{Bool, true, cond, _&&_}
 use lib.ListN.{length}
 use lib.Dec.{leb}
@@ -37,6 +39,14 @@ wantedFiles local peers file (f ∷ fs) = wantedBlocks local (peerFrom 1 peers (
 -- of the highest records over all tables
 unfoldable pub requestList : (local : List File) → (peers : List (List File)) → List Wanted
 requestList local peers = wantedFiles local peers 0 (mergedOf (local ∷ peers))
+
+-- the order: by name, which the file numbers count, then by block number
+abbrev pub Earlier : Wanted → Wanted → Type 0
+Earlier v w = (v .file < w .file) ⊎ ((v .file ≡ w .file) × (v .block < w .block))
+
+abbrev pub InOrder : List Wanted → Type 0
+InOrder [] = Unit {0}
+InOrder (w ∷ ws) = ((v : Wanted) → List·Memᴰ v ws → Earlier w v) × InOrder ws
 
 -- 24 bytes a block
 abbrev pub wantedBytes : Wanted → List ℕ

@@ -1,0 +1,18 @@
+// Runs tables and Requests through the proved functions and prints one case after another: what was given, and what came out.
+mod build;
+mod finds;
+mod lists;
+mod serving;
+
+fn main() {
+    lists::twice();
+    lists::cut_differently();
+    lists::held();
+    lists::bad();
+    lists::full();
+    finds::run();
+    serving::ours();
+    serving::others();
+    serving::replies();
+    serving::refusals();
+}
