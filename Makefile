@@ -1,4 +1,4 @@
-# run: the request list of the tables in DIR (an example's by default)      list: the records of the table in DIR
+# run: the request list of the tables in DIR      list: the records of the table in DIR      (an example's, where DIR isn't given)
 # show: what a sample message holds      cases: the worked cases, a line each      test: the whole gate
 # bench: library and reference side by side      soak N=..: that many generated inputs compared
 .PHONY: run list show cases test bench soak
@@ -13,6 +13,7 @@ target/bin/%: $(wildcard crates/*/src/*.rt)
 run: target/bin/wanted
 	@cd $(DIR) && $(CURDIR)/target/bin/wanted
 
+list: DIR = crates/listing/data
 list: target/bin/listing
 	@cd $(DIR) && $(CURDIR)/target/bin/listing
 
