@@ -1,5 +1,6 @@
-//
+// XDR: words, hypers, opaques and strings, read at a place of a slice or put into a lent buffer; the text rule.
 pub mod answer;
+mod number;
 pub mod pad;
 pub mod put;
 pub mod read;

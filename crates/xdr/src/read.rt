@@ -1,40 +1,17 @@
 // Reading at a place of a slice.
 ghost use mathlib.Core.Path.{_≡_};
-ghost use Prim.Native.Nat.{_+_, _*_, _≤_};
-ghost use lib.ListN.{length, drop};
 ghost use Rattle.xdr.specs.Answers.{wordAnswer, hyperAnswer, bytesAnswer};
 ghost use Rattle.xdr.specs.Fields.{word, hyper, opaque, text};
 ghost use Rattle.xdr.specs.Format.{readAt};
-ghost use Rattle.xdr.specs.Number.{bigEndian};
 use crate::answer::Bytes;
 use crate::answer::Hyper;
 use crate::answer::Refusal;
 use crate::answer::Word;
+use crate::number::hyper_at;
+use crate::number::word_at;
 use crate::pad::pad_after;
 use crate::pad::zeros_up_to;
 use crate::text::sound_up_to;
-
-// The number that four bytes are, the highest first.
-fn joined(a: u8, b: u8, c: u8, d: u8) -> u32
-    ensures { λ r. ⌜ r ≡ a * 16777216 + b * 65536 + c * 256 + d ⌝ }
-{
-    (a as u32) * 16777216 + (b as u32) * 65536 + (c as u32) * 256 + (d as u32)
-}
-
-// The word at a place that has one.
-fn word_at(s: &[u8], at: usize) -> u32
-    requires { ⌜ at + 4 ≤ length (now s) ⌝ }
-    ensures { λ r. ⌜ r ≡ bigEndian 4 (drop at (now (s .entry))) ⌝ }
-{
-    joined(s[at], s[at + 1], s[at + 2], s[at + 3])
-}
-
-// The number that two words are, the higher first.
-fn paired(high: u32, low: u32) -> u64
-    ensures { λ r. ⌜ r ≡ high * 4294967296 + low ⌝ }
-{
-    (high as u64) * 4294967296 + (low as u64)
-}
 
 // The word at a place.
 pub fn read_word(s: &[u8], at: usize) -> Word
@@ -71,9 +48,7 @@ pub fn read_hyper(s: &[u8], at: usize) -> Hyper
             place: at,
         });
     }
-    let high = word_at(s, at);
-    let low = word_at(s, at + 4);
-    Hyper::Taken(paired(high, low), at + 8)
+    Hyper::Taken(hyper_at(s, at), at + 8)
 }
 
 // The opaque at a place: its contents may be as long as the limit.

@@ -1,9 +1,10 @@
 // The text rule: a run of sequences, each a lead byte and its followers.
 ghost use mathlib.Core.Path.{_≡_};
 ghost use mathlib.Core.Bool.{true};
-ghost use Prim.Native.Nat.{_≤_};
+ghost use Prim.Native.Nat.{_+_, _≤_};
 ghost use lib.ListN.{length, drop};
-ghost use Rattle.xdr.specs.Text.{followers as followersOf, follows as isFollower, soundFrom, soundUpTo};
+ghost use Rattle.xdr.specs.Text.{followers as followersOf, follows as isFollower, followedBy, Plain, soundFrom, soundUpTo};
+use crate::number::low_first_at;
 
 // How many followers a lead byte has: 4 for a byte that can't lead.
 fn followers(b: u8) -> u8
@@ -28,20 +29,21 @@ fn follows(b: u8) -> bool
     }
 }
 
-// Whether four bytes are sequences of their own: none has its top bit set.
-fn ascii_four(a: u8, b: u8, c: u8, d: u8) -> bool
-    ensures { λ r. ⌜ (r ≡ true → (a ≤ 127) × (b ≤ 127) × (c ≤ 127) × (d ≤ 127)) ⌝ }
+// Whether the four bytes at a place are sequences of their own: none has its top bit set.
+fn plain_at(s: &[u8], at: usize) -> bool
+    requires { ⌜ at + 4 ≤ length (now s) ⌝ }
+    ensures { λ r. ⌜ (r ≡ true → Plain (drop at (now (s .entry)))) ⌝ }
 {
-    ((a as u32) * 16777216 + (b as u32) * 65536 + (c as u32) * 256 + (d as u32)) & 2155905152 == 0
+    low_first_at(s, at) & 2155905152 == 0
 }
 
-// A position up to which every byte is a sequence of its own, in steps of four.
+// A position up to which every byte is a sequence of its own, in steps of four: most names are ASCII throughout.
 fn past_fours(s: &[u8]) -> usize
     ensures { λ r. ⌜ (r ≤ length (now (s .entry))) × (soundUpTo (now (s .entry)) ≡ soundFrom (drop r (now (s .entry))) 0 r r) ⌝ }
 {
     let mut i = 0;
     while 4 <= s.len() - i {
-        if !ascii_four(s[i], s[i + 1], s[i + 2], s[i + 3]) {
+        if !plain_at(s, i) {
             return i;
         }
         i += 4;
@@ -49,43 +51,53 @@ fn past_fours(s: &[u8]) -> usize
     i
 }
 
-// The same, byte by byte from there. Most names are nothing else, and loops of their own are fast.
-fn past_ascii(s: &[u8]) -> usize
-    ensures { λ r. ⌜ (r ≤ length (now (s .entry))) × (soundUpTo (now (s .entry)) ≡ soundFrom (drop r (now (s .entry))) 0 r r) ⌝ }
+// Whether a follower is at a place.
+fn follows_at(s: &[u8], at: usize) -> bool
+    ensures { λ r. ⌜ r ≡ followedBy 1 (drop at (now (s .entry))) ⌝ }
 {
-    let mut i = past_fours(s);
-    while i < s.len() {
-        if 127 < s[i] {
-            return i;
-        }
-        i += 1;
+    if s.len() <= at {
+        return false;
     }
-    i
+    follows(s[at])
+}
+
+// Whether so many followers, three at most, are at a place.
+fn followed(s: &[u8], at: usize, n: u8) -> bool
+    requires { ⌜ (at ≤ length (now s)) × (n ≤ 3) ⌝ }
+    ensures { λ r. ⌜ r ≡ followedBy n (drop at (now (s .entry))) ⌝ }
+{
+    if n == 0 {
+        return true;
+    }
+    if !follows_at(s, at) {
+        return false;
+    }
+    if n == 1 {
+        return true;
+    }
+    if !follows_at(s, at + 1) {
+        return false;
+    }
+    if n == 2 {
+        return true;
+    }
+    follows_at(s, at + 2)
 }
 
 // The position of the first sequence that breaks the text rule, or the number of bytes where none does.
 pub fn sound_up_to(s: &[u8]) -> usize
     ensures { λ r. ⌜ r ≡ soundUpTo (now (s .entry)) ⌝ }
 {
-    let mut i = past_ascii(s);
-    let mut start = i;
-    let mut left: u8 = 0;
+    let mut i = past_fours(s);
     while i < s.len() {
-        let b = s[i];
-        if left == 0 {
-            let n = followers(b);
-            if 3 < n {
-                return i;
-            }
-            start = i;
-            left = n;
-        } else {
-            if !follows(b) {
-                return start;
-            }
-            left -= 1;
+        let n = followers(s[i]);
+        if 3 < n {
+            return i;
         }
-        i += 1;
+        if !followed(s, i + 1, n) {
+            return i;
+        }
+        i += 1 + (n as usize);
     }
-    if left == 0 { i } else { start }
+    i
 }

@@ -23,32 +23,11 @@ loop-holds c = (search needs, refl)
 sub-loop : tie.Need-sub-loop Inv-loop μ-loop
 sub-loop c = search needs
 
-shared-slice-read-ascii-four : tie.Need-shared-slice-read-ascii-four Inv-loop μ-loop
-shared-slice-read-ascii-four c = search needs
-
-add-ascii-four : tie.Need-add-ascii-four Inv-loop μ-loop
-add-ascii-four c = search needs
-
-shared-slice-read-ascii-four-2 : tie.Need-shared-slice-read-ascii-four-2 Inv-loop μ-loop
-shared-slice-read-ascii-four-2 c = search needs
-
-add-ascii-four-2 : tie.Need-add-ascii-four-2 Inv-loop μ-loop
-add-ascii-four-2 c = search needs
-
-shared-slice-read-ascii-four-3 : tie.Need-shared-slice-read-ascii-four-3 Inv-loop μ-loop
-shared-slice-read-ascii-four-3 c = search needs
-
-add-ascii-four-3 : tie.Need-add-ascii-four-3 Inv-loop μ-loop
-add-ascii-four-3 c = search needs
-
-shared-slice-read-ascii-four-4 : tie.Need-shared-slice-read-ascii-four-4 Inv-loop μ-loop
-shared-slice-read-ascii-four-4 c = search needs
-
-ascii-four-requires : tie.Need-ascii-four-requires Inv-loop μ-loop
-ascii-four-requires c κs = search needs
+plain-at-requires : tie.Need-plain-at-requires Inv-loop μ-loop
+plain-at-requires c κs = search needs
 
 returns : tie.Need-returns Inv-loop μ-loop
-returns c = c .before .before .before .before .before .before .before .loop .inv
+returns c = c .before .before .before .loop .inv
 
 add-i : tie.Need-add-i Inv-loop μ-loop
 add-i c = search needs
@@ -58,9 +37,8 @@ loop-less c = search needs
 
 loop-again : tie.Need-loop-again Inv-loop μ-loop
 loop-again c =
-    let h = c .before .before .before .before .before .before .before .loop in
-    let small = c .before .ascii-four .ensures (not-false _ (c .if1 .left)) in
-    (search needs, h .inv .1 ∙ ascii-next-four (now (c .before .before .before .before .before .before .before .before .before .args .s)) (h .i) (search needs) (small .0) (small .1) (small .2) (small .3))
+    let h = c .before .before .before in
+    (search needs, h .loop .inv .1 ∙ ascii-next-four (now (h .before .before .args .s)) (h .loop .i) (search needs) (c .before .plain-at .ensures (not-false _ (c .if1 .left))))
 
 returns-2 : tie.Need-returns-2 Inv-loop μ-loop
 returns-2 c = c .before .loop .inv
@@ -73,14 +51,7 @@ past-fours-spec =
     μ-loop
     loop-holds
     sub-loop
-    shared-slice-read-ascii-four
-    add-ascii-four
-    shared-slice-read-ascii-four-2
-    add-ascii-four-2
-    shared-slice-read-ascii-four-3
-    add-ascii-four-3
-    shared-slice-read-ascii-four-4
-    ascii-four-requires
+    plain-at-requires
     returns
     add-i
     loop-less

@@ -1,77 +1,93 @@
--- `xdr::sound_up_to` meets its contract. The loop's invariant: what is asked of the whole is what is asked of the rest.
-use Prim.Native.Nat.{_-_}
-use mathlib.Core.Path.{_≡_, sym, _∙_}
-use mathlib.Core.Logic.{⊎-elim}
+-- `xdr::text::sound_up_to` meets its contract. The loop's invariant: what is asked of the whole is what is asked of the rest.
+use Prim.Native.Nat.{ℕ, _+_, _-_, _≤_}
+use mathlib.Core.List.{List}
+use mathlib.Core.Path.{_≡_, refl, sym, _∙_}
+use mathlib.Core.Bool.{true}
+use native.Mathlib.Omega.{arith}
 use borrow.Author.Needs.{needs}
 use borrow.Author.Tests.{not-true, not-false}
-use lib.ListN.{length, drop}
+use lib.ListN.{length, drop, length-drop}
 use denote.Ref.{now}
-use Rattle.xdr.specs.Text.{followers, soundFrom, soundUpTo}
-use Rattle.xdr.proofs.TextRule.{lead-next, lead-broken, follow-next, follow-broken, end-whole, end-cut}
+use Rattle.xdr.specs.Text.{followedBy, soundFrom, soundUpTo}
+use Rattle.xdr.proofs.TextRule.{lead-broken, sequence-whole, sequence-cut, followed-within, end-whole}
 use Rattle.xdr.proofs.text.sound_up_to.Statement.{statement}
 use Rattle.xdr.proofs.text.sound_up_to.Tie as tie
 
 abbrev Inv-loop : tie.InvT-loop
-Inv-loop s i₀ start₀ left₀ i start left = soundUpTo s ≡ soundFrom (drop i s) left start i
+Inv-loop s i₀ i = (i ≤ length s) × (soundUpTo s ≡ soundFrom (drop i s) 0 i i)
 
 abbrev μ-loop : tie.MeasureT-loop
-μ-loop s i₀ start₀ left₀ i start left = length s - i
+μ-loop s i₀ i = length s - i
 
-past-ascii-requires : tie.Need-past-ascii-requires Inv-loop μ-loop
-past-ascii-requires c κs = search needs
+abbrev s : tie.At-loop Inv-loop μ-loop → List ℕ
+s l = now (l .before .before .before .args .s)
+
+abbrev at-loop : tie.Else2 Inv-loop μ-loop → tie.At-loop Inv-loop μ-loop
+at-loop c = c .before .before .before .before .before .before
+
+-- the followers that are there, and so the end of the sequence within the bytes
+whole : (c : tie.Else2 Inv-loop μ-loop) → followedBy (c .before .before .before .followers .result) (drop (at-loop c .loop .i + 1) (s (at-loop c))) ≡ true
+whole c = sym (c .before .followed .ensures) ∙ not-false _ (c .if2 .left)
+
+ended : (c : tie.Else2 Inv-loop μ-loop) → at-loop c .loop .i + (1 + c .before .before .before .followers .result) ≤ length (s (at-loop c))
+ended c =
+    let l = at-loop c in
+    let n = followed-within (c .before .before .before .followers .result) (drop (l .loop .i + 1) (s l)) (whole c) in
+    let long = length-drop (l .loop .i + 1) (s l) in
+    omega (arith, n, long, c .before .before .before .before .before .loop-test .taken)
+
+past-fours-requires : tie.Need-past-fours-requires Inv-loop μ-loop
+past-fours-requires c κs = search needs
 
 loop-holds : tie.Need-loop-holds Inv-loop μ-loop
-loop-holds c = c .past-ascii .ensures .1
+loop-holds c = c .past-fours .ensures
 
-shared-slice-read-b : tie.Need-shared-slice-read-b Inv-loop μ-loop
-shared-slice-read-b c = search needs
+shared-slice-read-followers : tie.Need-shared-slice-read-followers Inv-loop μ-loop
+shared-slice-read-followers c = search needs
 
 followers-requires : tie.Need-followers-requires Inv-loop μ-loop
 followers-requires c κs = search needs
 
 returns : tie.Need-returns Inv-loop μ-loop
 returns c =
-    let k = c .before .before .before in
-    let l = k .before .before .loop in
-    sym (l .inv ∙ lead-broken (now (k .before .before .before .before .before .args .s)) (l .start) (l .i) (l .left) (c .before .followers .result) (search needs) (c .before .before .if1 .taken) (c .before .followers .ensures) (c .if2 .taken))
+    let l = c .before .before .before .before in
+    sym (l .loop .inv .1 ∙ lead-broken (s l) (l .loop .i) (l .loop .i) 0 (c .before .followers .result) (search needs) refl (c .before .followers .ensures) (c .if1 .taken))
 
-follows-requires : tie.Need-follows-requires Inv-loop μ-loop
-follows-requires c κs = search needs
+add-followed : tie.Need-add-followed Inv-loop μ-loop
+add-followed c = search needs
+
+followed-requires : tie.Need-followed-requires Inv-loop μ-loop
+followed-requires c κs = search needs
 
 returns-2 : tie.Need-returns-2 Inv-loop μ-loop
 returns-2 c =
-    let k = c .before .before .before in
-    let l = k .before .before .loop in
-    sym (l .inv ∙ follow-broken (now (k .before .before .before .before .before .args .s)) (l .start) (l .i) (l .left) (search needs) (c .before .before .if1 .left) (sym (c .before .follows .ensures) ∙ not-true _ (c .if3 .taken)))
+    let l = c .before .before .before .before .before .before in
+    sym (l .loop .inv .1
+    ∙ sequence-cut (s l) (l .loop .i) (c .before .before .before .followers .result) (search needs) (c .before .before .before .followers .ensures) (search needs)
+    (sym (c .before .followed .ensures) ∙ not-true _ (c .if2 .taken)))
 
-sub-left : tie.Need-sub-left Inv-loop μ-loop
-sub-left c = search needs
+cast-i : tie.Need-cast-i Inv-loop μ-loop
+cast-i c = search needs
 
 add-i : tie.Need-add-i Inv-loop μ-loop
 add-i c = search needs
 
+add-i-2 : tie.Need-add-i-2 Inv-loop μ-loop
+add-i-2 c = omega (arith, ended c)
+
 loop-less : tie.Need-loop-less Inv-loop μ-loop
-loop-less c = search needs
+loop-less c = omega (arith, ended c)
 
 loop-again : tie.Need-loop-again Inv-loop μ-loop
 loop-again c =
-    let k = c .before in
-    let l = k .before .before .loop in
-    let s = now (k .before .before .before .before .before .args .s) in
-    ⊎-elim
-    (λ w. rw (w .3, w .4) (l .inv ∙ lead-next s (l .start) (l .i) (l .left) (w .1 .result) (search needs) (w .0 .taken) (w .1 .ensures) (w .2 .left)))
-    (λ w. rw (w .3, w .4) (l .inv ∙ follow-next s (l .start) (l .i) (l .left) (search needs) (w .0 .left) (sym (w .1 .ensures) ∙ not-false _ (w .2 .left))))
-    (c .if1 .came)
+    let l = at-loop c in (
+      ended c,
+      l .loop .inv .1
+          ∙ sequence-whole (s l) (l .loop .i) (c .before .before .before .followers .result) (search needs) (c .before .before .before .followers .ensures) (search needs) (whole c),
+    )
 
 returns-3 : tie.Need-returns-3 Inv-loop μ-loop
-returns-3 c =
-    let l = c .before .before .loop in
-    sym (l .inv ∙ end-whole (now (c .before .before .before .before .before .args .s)) (l .start) (l .i) (l .left) (search needs) (c .if4 .taken))
-
-returns-4 : tie.Need-returns-4 Inv-loop μ-loop
-returns-4 c =
-    let l = c .before .before .loop in
-    sym (l .inv ∙ end-cut (now (c .before .before .before .before .before .args .s)) (l .start) (l .i) (l .left) (search needs) (c .if4 .left))
+returns-3 c = let l = c .before in sym (l .loop .inv .1 ∙ end-whole (s l) (l .loop .i) (l .loop .i) 0 (search needs) refl)
 
 pub sound-up-to-spec : {M : Type 1} → statement M
 sound-up-to-spec =
@@ -79,16 +95,17 @@ sound-up-to-spec =
     (tie.spec
     Inv-loop
     μ-loop
-    past-ascii-requires
+    past-fours-requires
     loop-holds
-    shared-slice-read-b
+    shared-slice-read-followers
     followers-requires
     returns
-    follows-requires
+    add-followed
+    followed-requires
     returns-2
-    sub-left
+    cast-i
     add-i
+    add-i-2
     loop-less
     loop-again
-    returns-3
-    returns-4)
+    returns-3)
