@@ -7,11 +7,11 @@ use native.Mathlib.Omega.{arith}
 use lib.ListN.{length, length-append}
 use Rattle.xdr.specs.Format.{encode}
 use Rattle.record.specs.File.{File, file}
-use Rattle.table.specs.Order.{isEqual, compareLists}
-use Rattle.table.specs.declared.order.Order.{Order}
-use Rattle.table.specs.declared.order.Order.the-variants.{Less, Equal, Greater}
-use Rattle.table.proofs.OrderLaws.{Below, below-trans, greater-above, equal-same}
-use Rattle.table.proofs.RisingLaws.{Above, Rising}
+use Rattle.order.specs.Order.{isEqual, compareLists}
+use Rattle.order.specs.declared.compare.Order.{Order}
+use Rattle.order.specs.declared.compare.Order.the-variants.{Less, Equal, Greater}
+use Rattle.order.proofs.OrderLaws.{Below, below-trans, greater-above, equal-same}
+use Rattle.record.proofs.RisingLaws.{Above, Rising}
 use Rattle.table.proofs.TableLaws.{bytesOf}
 use Rattle.accept.specs.Resulting.{isNamed, placed, insert, byName}
 

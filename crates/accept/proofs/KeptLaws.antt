@@ -4,11 +4,11 @@ use mathlib.Core.Path.{_≡_, refl, sym, ap, subst, _∙_}
 use mathlib.Core.Bool.{Bool, true, false, cond}
 use Prim.Native.Nat.{ℕ}
 use Rattle.record.specs.File.{File}
-use Rattle.table.specs.Order.{isEqual, compareLists}
-use Rattle.table.specs.declared.order.Order.{Order}
-use Rattle.table.specs.declared.order.Order.the-variants.{Less, Equal, Greater}
-use Rattle.table.proofs.OrderLaws.{Below, turned, compare-turned, equal-same}
-use Rattle.table.proofs.RisingLaws.{Above, Rising}
+use Rattle.order.specs.Order.{isEqual, compareLists}
+use Rattle.order.specs.declared.compare.Order.{Order}
+use Rattle.order.specs.declared.compare.Order.the-variants.{Less, Equal, Greater}
+use Rattle.order.proofs.OrderLaws.{Below, turned, compare-turned, equal-same}
+use Rattle.record.proofs.RisingLaws.{Above, Rising}
 use Rattle.accept.specs.Resulting.{isNamed, unmentioned, insert, byName, resulting}
 use Rattle.accept.specs.Sorted.{Distinct}
 use Rattle.accept.proofs.InsertLaws.{insert-less, insert-equal, insert-greater, insert-first, insert-rising, above-below, by-name-more}

@@ -21,7 +21,7 @@ use Rattle.message.specs.Message.{Kind, isIndex, isRequest, isResponse, isPing,
 use Rattle.message.specs.Answers.{past, indexSpan, bodyAnswer, messageAnswer}
 use Rattle.message.specs.declared.answer.IndexSpan.{IndexSpan}
 use Rattle.table.specs.Limits.{recordsLimit}
-use Rattle.table.specs.Order.{isEqual, compareLists, part}
+use Rattle.order.specs.Order.{isEqual, compareLists, part}
 use Rattle.table.specs.Table.{table, isGood, records, tableOf}
 use Rattle.table.specs.Filling.{refused, tableInto}
 use Rattle.table.proofs.TableLaws.{AllValid, valid-parts, array-records}

@@ -8,8 +8,8 @@ use Rattle.record.specs.Outline.{outlineOf}
 use Rattle.record.specs.declared.outline.Fields.{Fields}
 use Rattle.record.specs.declared.outline.Outline.{Outline}
 use Rattle.record.specs.declared.outline.Outline.the-variants as O
-use Rattle.table.specs.Order.{compareLists, part}
-use Rattle.table.specs.declared.order.Order.{Order}
+use Rattle.order.specs.Order.{compareLists, part}
+use Rattle.order.specs.declared.compare.Order.{Order}
 use Rattle.merge.specs.declared.next.Next.{Next}
 use Rattle.accept.specs.Next.{fromOld, chosen, nextBy, nextOf}
 

@@ -3,11 +3,11 @@ use mathlib.Core.List.{List, [], _∷_}
 use mathlib.Core.Path.{_≡_, refl, sym, ap, subst, _∙_}
 use Prim.Native.Nat.{ℕ}
 use Rattle.record.specs.File.{File}
-use Rattle.table.specs.Order.{compareLists}
-use Rattle.table.specs.declared.order.Order.{Order}
-use Rattle.table.specs.declared.order.Order.the-variants.{Less, Equal, Greater}
-use Rattle.table.proofs.OrderLaws.{Below, equal-same, greater-above, above-greater, below-trans}
-use Rattle.table.proofs.RisingLaws.{Above}
+use Rattle.order.specs.Order.{compareLists}
+use Rattle.order.specs.declared.compare.Order.{Order}
+use Rattle.order.specs.declared.compare.Order.the-variants.{Less, Equal, Greater}
+use Rattle.order.proofs.OrderLaws.{Below, equal-same, greater-above, above-greater, below-trans}
+use Rattle.record.proofs.RisingLaws.{Above}
 use Rattle.accept.specs.Resulting.{insert, byName}
 use Rattle.accept.proofs.InsertLaws.{insert-less, insert-equal, insert-greater, insert-first, by-name-more, by-name-none}
 

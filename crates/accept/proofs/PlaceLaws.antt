@@ -13,11 +13,11 @@ use Rattle.record.specs.Outline.{wordAt, fieldsFrom, outlineFrom, outlineOf, fi
 use Rattle.record.specs.declared.outline.Fields.{Fields}
 use Rattle.record.specs.declared.outline.Outline.{Outline}
 use Rattle.record.specs.declared.outline.Outline.the-variants as O
-use Rattle.table.specs.Order.{isEqual, compareLists, part}
-use Rattle.table.specs.declared.order.Order.{Order}
-use Rattle.table.specs.declared.order.Order.the-variants.{Less, Equal, Greater}
-use Rattle.table.proofs.OrderLaws.{Below, equal-same, same-equal, greater-above, above-greater, below-trans}
-use Rattle.table.proofs.RisingLaws.{Above, Rising}
+use Rattle.order.specs.Order.{isEqual, compareLists, part}
+use Rattle.order.specs.declared.compare.Order.{Order}
+use Rattle.order.specs.declared.compare.Order.the-variants.{Less, Equal, Greater}
+use Rattle.order.proofs.OrderLaws.{Below, equal-same, same-equal, greater-above, above-greater, below-trans}
+use Rattle.record.proofs.RisingLaws.{Above, Rising}
 use Rattle.table.proofs.WalkLaws.{At, standing}
 use Rattle.accept.specs.Resulting.{isNamed, insert}
 use Rattle.accept.specs.Slots.{nameOf, slotBy, slotOf}

@@ -16,12 +16,12 @@ use Rattle.record.specs.File.{File, file}
 use Rattle.message.specs.Header.{typeOf}
 use Rattle.message.specs.Message.{Kind, isIndex, isRequest, isResponse, isPing, isPong, isIndexUpdate, isOptions, kindOf, Body, body, Sent, message}
 use Rattle.table.specs.Limits.{recordsLimit, bytesLimit}
-use Rattle.table.specs.Order.{isEqual, compareLists}
+use Rattle.order.specs.Order.{isEqual, compareLists}
 use Rattle.table.specs.Table.{isGood, isWithin, records, tableOf}
 use Rattle.table.specs.Filling.{Outcome, accepted, refused, tableInto}
-use Rattle.table.specs.declared.order.Order.{Order}
-use Rattle.table.specs.declared.order.Order.the-variants.{Less, Equal, Greater}
-use Rattle.table.proofs.RisingLaws.{Rising, both-true}
+use Rattle.order.specs.declared.compare.Order.{Order}
+use Rattle.order.specs.declared.compare.Order.the-variants.{Less, Equal, Greater}
+use Rattle.record.proofs.RisingLaws.{Rising, both-true}
 use Rattle.table.proofs.TableLaws.{AllValid, GoodTable, good-table, table-good}
 use Rattle.accept.specs.Resulting.{isNamed, unmentioned, placed, insert, byName, resulting}
 use Rattle.accept.specs.Accepting.{unrepeated, firstRecord, listed, ofKind, ofReading, acceptOutcome}

@@ -7,11 +7,11 @@ use native.Mathlib.Omega.{arith}
 use lib.ListN.{length, getD}
 use Rattle.record.specs.Outline.{wordAt}
 use Rattle.record.proofs.OutlineLaws.{There}
-use Rattle.table.specs.Order.{isLess, isEqual, compareLists, part}
-use Rattle.table.specs.declared.order.Order.{Order}
-use Rattle.table.specs.declared.order.Order.the-variants.{Less, Equal, Greater}
-use Rattle.table.proofs.PartLaws.{part-beyond}
-use Rattle.table.proofs.RisingLaws.{is-less}
+use Rattle.order.specs.Order.{isLess, isEqual, compareLists, part}
+use Rattle.order.specs.declared.compare.Order.{Order}
+use Rattle.order.specs.declared.compare.Order.the-variants.{Less, Equal, Greater}
+use Rattle.order.proofs.PartLaws.{part-beyond}
+use Rattle.record.proofs.RisingLaws.{is-less}
 use Rattle.accept.specs.Slots.{nameOf, slotBy, slotOf}
 use Rattle.accept.specs.declared.slot.Slot.the-variants.{Free, Repeated}
 

@@ -14,13 +14,13 @@ use Rattle.record.specs.declared.outline.Fields.{Fields}
 use Rattle.record.specs.declared.outline.Outline.{Outline}
 use Rattle.record.specs.declared.outline.Outline.the-variants as O
 use Rattle.table.specs.Limits.{recordsLimit}
-use Rattle.table.specs.Order.{isEqual, compareLists}
+use Rattle.order.specs.Order.{isEqual, compareLists}
 use Rattle.table.specs.Table.{records}
 use Rattle.table.specs.Filling.{Outcome, refused}
-use Rattle.table.specs.declared.order.Order.{Order}
-use Rattle.table.specs.declared.order.Order.the-variants.{Less, Equal, Greater}
-use Rattle.table.proofs.OrderLaws.{turned, compare-turned}
-use Rattle.table.proofs.RisingLaws.{Rising}
+use Rattle.order.specs.declared.compare.Order.{Order}
+use Rattle.order.specs.declared.compare.Order.the-variants.{Less, Equal, Greater}
+use Rattle.order.proofs.OrderLaws.{turned, compare-turned}
+use Rattle.record.proofs.RisingLaws.{Rising}
 use Rattle.table.proofs.WalkLaws.{At, array-start, standing, Headed, at-whole, at-short}
 use Rattle.accept.specs.Resulting.{isNamed, insert, byName}
 use Rattle.accept.specs.Accepting.{unrepeated}

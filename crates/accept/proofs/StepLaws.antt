@@ -10,9 +10,9 @@ use lib.Seq.{drop-cons}
 use Rattle.xdr.specs.Format.{encode}
 use Rattle.record.specs.File.{File, file}
 use Rattle.record.specs.Outline.{fieldsOf}
-use Rattle.table.specs.Order.{compareLists, part}
-use Rattle.table.specs.declared.order.Order.{Order}
-use Rattle.table.specs.declared.order.Order.the-variants.{Less, Equal, Greater}
+use Rattle.order.specs.Order.{compareLists, part}
+use Rattle.order.specs.declared.compare.Order.{Order}
+use Rattle.order.specs.declared.compare.Order.the-variants.{Less, Equal, Greater}
 use Rattle.table.proofs.WalkLaws.{At, at-end, standing}
 use Rattle.merge.specs.Next.{fromRight, stepBytes}
 use Rattle.merge.specs.declared.next.Step.{Step}

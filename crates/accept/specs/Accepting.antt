@@ -9,7 +9,7 @@ use Rattle.record.specs.File.{File, file}
 use Rattle.message.specs.Header.{typeOf}
 use Rattle.message.specs.Message.{Kind, isIndex, isRequest, isResponse, isPing, isPong, isIndexUpdate, isOptions, kindOf, Body, Sent, message}
 use Rattle.message.specs.Answers.{past}
-use Rattle.table.specs.Order.{isEqual, compareLists}
+use Rattle.order.specs.Order.{isEqual, compareLists}
 use Rattle.table.specs.Table.{isGood, records}
 use Rattle.table.specs.Filling.{Outcome, refused, tableInto}
 use Rattle.accept.specs.Resulting.{isNamed, resulting}

@@ -3,9 +3,9 @@ use Prim.Native.Nat.{ℕ}
 use mathlib.Core.List.{List, [], _∷_}
 use mathlib.Core.Bool.{Bool, true, false, cond}
 use Rattle.record.specs.File.{File}
-use Rattle.table.specs.Order.{isEqual, compareLists}
-use Rattle.table.specs.declared.order.Order.{Order}
-use Rattle.table.specs.declared.order.Order.the-variants.{Less, Equal, Greater}
+use Rattle.order.specs.Order.{isEqual, compareLists}
+use Rattle.order.specs.declared.compare.Order.{Order}
+use Rattle.order.specs.declared.compare.Order.the-variants.{Less, Equal, Greater}
 
 -- a name is that of one of the records
 abbrev pub isNamed : List ℕ → List File → Bool

@@ -162,10 +162,10 @@ pub fn accept(old: &[u8], message: &[u8], repository: &[u8], out: &mut [u8]) -> 
         return Filling::Refused(found.refusal());
     };
     let stop = x.repository.start + x.repository.length;
-    let order = table::compare_bytes(table::part(message, x.repository.start, stop), repository);
+    let order = order::compare_bytes(order::part(message, x.repository.start, stop), repository);
     if !order.is_equal() {
         return table::refused(21);
     }
     let start = x.files.start;
-    accept_list(table::part(message, start, x.end), start, old, update, out)
+    accept_list(order::part(message, start, x.end), start, old, update, out)
 }

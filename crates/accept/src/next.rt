@@ -6,7 +6,7 @@ use merge::next::Next;
 use merge::next::Step;
 use merge::next::from_right;
 use record::Outline;
-use table::Order;
+use order::Order;
 
 fn from_sent(at: usize, x: usize, i: usize, j: usize) -> Next
     ensures { λ r. ⌜ r ≡ fromSent at x i j ⌝ }
@@ -44,7 +44,7 @@ pub fn next_at(s: &[u8], places: &[usize], i: usize, old: &[u8], j: usize) -> Ne
     let Outline::Whole(g) = record::outline_at(old, j) else {
         return from_sent(at, f.past, i + 1, j);
     };
-    match table::compare_parts(s, f.name, f.stop, old, g.name, g.stop) {
+    match order::compare_parts(s, f.name, f.stop, old, g.name, g.stop) {
         Order::Less => from_sent(at, f.past, i + 1, j),
         Order::Equal => from_sent(at, f.past, i + 1, g.past),
         Order::Greater => from_right(j, g.past, i),

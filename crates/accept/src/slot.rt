@@ -18,7 +18,7 @@ pub fn name_at(s: &[u8], at: usize) -> &[u8]
     let Word::Taken(n, name) = xdr::read_word(s, at) else {
         return &s[len..len];
     };
-    table::part(s, name, name + (n as usize))
+    order::part(s, name, name + (n as usize))
 }
 
 // The slot of the record at a place among those at other places: from the back, so that one comparison is enough for a record that is last.
@@ -28,7 +28,7 @@ pub fn slot_of(s: &[u8], places: &[usize], at: usize) -> Slot
     let name = name_at(s, at);
     let mut j = places.len();
     while 0 < j {
-        let order = table::compare_bytes(name_at(s, places[j - 1]), name);
+        let order = order::compare_bytes(name_at(s, places[j - 1]), name);
         if order.is_less() {
             return Slot::Free(j);
         }

@@ -9,8 +9,8 @@ use Rattle.table.specs.Newest.{compareAt}
 use Rattle.table.specs.Filling.{Outcome, fillingAnswer, bufferAfter}
 use Rattle.table.specs.declared.filling.Filling.{Filling}
 use Rattle.table.specs.declared.filling.Filling.the-variants as F
-use Rattle.table.specs.declared.order.Order.{Order}
-use Rattle.table.specs.declared.order.Order.the-variants.{Less, Equal, Greater}
+use Rattle.order.specs.declared.compare.Order.{Order}
+use Rattle.order.specs.declared.compare.Order.the-variants.{Less, Equal, Greater}
 
 -- a good table, or 15
 abbrev pub goodNumber : Bool → ℕ

@@ -59,7 +59,7 @@ fn contents(table: &[u8], f: Fields) {
 fn line(table: &[u8], number: u32, f: Fields) {
     labelled(b"", number as u64);
     text(b" ");
-    name(table::part(table, f.name, f.stop));
+    name(order::part(table, f.name, f.stop));
     contents(table, f);
     modified(f.modified);
     labelled(b" version ", f.version as u64);

@@ -6,13 +6,13 @@ use mathlib.Core.Logic.{_⊎_, inl, inr, ⊎-elim}
 use native.Mathlib.Omega.{arith}
 use Rattle.xdr.specs.Format.{Valid}
 use Rattle.record.specs.File.{File, file}
-use Rattle.table.specs.Order.{compareLists}
+use Rattle.order.specs.Order.{compareLists}
 use Rattle.table.specs.Newest.{compareFiles}
-use Rattle.table.specs.declared.order.Order.{Order}
-use Rattle.table.specs.declared.order.Order.the-variants.{Less, Equal, Greater}
-use Rattle.table.proofs.OrderLaws.{Below, equal-same, greater-above, below-trans, below-irrefl, below-asym}
+use Rattle.order.specs.declared.compare.Order.{Order}
+use Rattle.order.specs.declared.compare.Order.the-variants.{Less, Equal, Greater}
+use Rattle.order.proofs.OrderLaws.{Below, equal-same, greater-above, below-trans, below-irrefl, below-asym}
 use Rattle.table.proofs.NewestLaws.{at-least-itself, at-least-turned, at-least-trans, at-least-same}
-use Rattle.table.proofs.RisingLaws.{Above, Rising, rising-is, rising-test}
+use Rattle.record.proofs.RisingLaws.{Above, Rising, rising-is, rising-test}
 use Rattle.merge.specs.Merged.{higherBy, placed, insert, insertAll, mergedOf}
 use Rattle.merge.specs.Highest.{joined, AtLeast, Topped, Highest}
 

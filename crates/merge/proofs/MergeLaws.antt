@@ -15,7 +15,7 @@ use Rattle.record.specs.File.{File, file}
 use Rattle.table.specs.Limits.{recordsLimit, bytesLimit}
 use Rattle.table.specs.Table.{isGood, isWithin, records, tableOf}
 use Rattle.table.specs.Filling.{accepted, refused, tableInto}
-use Rattle.table.proofs.RisingLaws.{Rising, rising-is, both-true}
+use Rattle.record.proofs.RisingLaws.{Rising, rising-is, both-true}
 use Rattle.table.proofs.TableLaws.{AllValid, GoodTable, good-table}
 use Rattle.merge.specs.Merged.{mergedOf}
 use Rattle.merge.specs.Highest.{joined, Topped, Highest}

@@ -7,9 +7,9 @@ use Rattle.xdr.specs.Buffer.{put, putCount}
 use Rattle.record.specs.Outline.{outlineOf}
 use Rattle.record.specs.declared.outline.Fields.{Fields}
 use Rattle.record.specs.declared.outline.Outline.{Outline}
-use Rattle.table.specs.Order.{compareLists, part}
+use Rattle.order.specs.Order.{compareLists, part}
 use Rattle.table.specs.Newest.{compareAt}
-use Rattle.table.specs.declared.order.Order.{Order}
+use Rattle.order.specs.declared.compare.Order.{Order}
 use Rattle.merge.specs.Next.{chosen, chosenOf, nextBy, nextOf, stepBytes}
 use Rattle.merge.specs.declared.next.Step.{Step}
 use Rattle.merge.specs.declared.next.Next.{Next}

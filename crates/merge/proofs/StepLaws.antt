@@ -7,10 +7,10 @@ use lib.ListN.{length}
 use Rattle.xdr.specs.Format.{encode}
 use Rattle.record.specs.File.{File, file}
 use Rattle.record.specs.Outline.{fieldsOf}
-use Rattle.table.specs.Order.{compareLists, part}
+use Rattle.order.specs.Order.{compareLists, part}
 use Rattle.table.specs.Newest.{compareFiles}
-use Rattle.table.specs.declared.order.Order.{Order}
-use Rattle.table.specs.declared.order.Order.the-variants.{Less, Equal, Greater}
+use Rattle.order.specs.declared.compare.Order.{Order}
+use Rattle.order.specs.declared.compare.Order.the-variants.{Less, Equal, Greater}
 use Rattle.table.proofs.WalkLaws.{At, at-end, Standing, standing, compared-there}
 use Rattle.merge.specs.Merged.{higherBy}
 use Rattle.merge.specs.Next.{fromLeft, fromRight, chosen, nextOf, stepBytes}

@@ -3,12 +3,12 @@ use Prim.Native.Nat.{ℕ}
 use mathlib.Core.List.{List, [], _∷_}
 use mathlib.Core.Path.{_≡_, refl, sym, ap, _∙_}
 use Rattle.record.specs.File.{File}
-use Rattle.table.specs.Order.{compareLists}
+use Rattle.order.specs.Order.{compareLists}
 use Rattle.table.specs.Newest.{compareFiles}
-use Rattle.table.specs.declared.order.Order.{Order}
-use Rattle.table.specs.declared.order.Order.the-variants.{Less, Equal, Greater}
-use Rattle.table.proofs.OrderLaws.{Below, turned, compare-turned, equal-same, greater-above, below-trans}
-use Rattle.table.proofs.RisingLaws.{Above, Rising}
+use Rattle.order.specs.declared.compare.Order.{Order}
+use Rattle.order.specs.declared.compare.Order.the-variants.{Less, Equal, Greater}
+use Rattle.order.proofs.OrderLaws.{Below, turned, compare-turned, equal-same, greater-above, below-trans}
+use Rattle.record.proofs.RisingLaws.{Above, Rising}
 use Rattle.merge.specs.Merged.{higherBy, higher, placed, insert, insertAll, mergedOf}
 
 -- the heads f and g of two lists, by their names: `both`, `left` and `right` are what is merged without both, without f and without g

@@ -4,8 +4,8 @@ use mathlib.Core.Path.{_≡_}
 use mathlib.Core.Bool.{true}
 use Rattle.record.specs.File.{File}
 use Rattle.table.specs.Newest.{compareFiles}
-use Rattle.table.specs.Table.{isRising}
-use Rattle.table.specs.declared.order.Order.the-variants.{Less}
+use Rattle.record.specs.Rising.{isRising}
+use Rattle.order.specs.declared.compare.Order.the-variants.{Less}
 
 -- the records of some tables
 abbrev pub joined : List (List File) → List File

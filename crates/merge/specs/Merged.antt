@@ -1,10 +1,10 @@
 -- The merged table of one or more tables: the highest record of each name in any of them, names rising.
 use mathlib.Core.List.{List, [], _∷_}
 use Rattle.record.specs.File.{File}
-use Rattle.table.specs.Order.{compareLists}
+use Rattle.order.specs.Order.{compareLists}
 use Rattle.table.specs.Newest.{compareFiles}
-use Rattle.table.specs.declared.order.Order.{Order}
-use Rattle.table.specs.declared.order.Order.the-variants.{Less, Equal, Greater}
+use Rattle.order.specs.declared.compare.Order.{Order}
+use Rattle.order.specs.declared.compare.Order.the-variants.{Less, Equal, Greater}
 
 abbrev pub higherBy : Order → File → File → File
 higherBy Less f g = g

@@ -4,7 +4,7 @@ ghost use Rattle.xdr.specs.Buffer.{put, putCount};
 ghost use Rattle.merge.specs.Next.{fromLeft, fromRight, chosenOf, nextOf, stepBytes};
 use record::Fields;
 use record::Outline;
-use table::Order;
+use order::Order;
 
 // A record that is taken: of the first table or of the second, at start..end; the merge goes on at i of the first and j of the second.
 pub struct Step {
@@ -49,7 +49,7 @@ pub fn from_right(j: usize, y: usize, i: usize) -> Next
 fn choose(a: &[u8], i: usize, f: Fields, b: &[u8], j: usize, g: Fields) -> Next
     ensures { λ r. ⌜ r ≡ chosenOf (now (a .entry)) i f (now (b .entry)) j g ⌝ }
 {
-    match table::compare_parts(a, f.name, f.stop, b, g.name, g.stop) {
+    match order::compare_parts(a, f.name, f.stop, b, g.name, g.stop) {
         Order::Less => from_left(i, f.past, j),
         Order::Greater => from_right(j, g.past, i),
         Order::Equal => match table::compare_records(a, f, b, g) {
@@ -81,7 +81,7 @@ pub fn put_step(a: &[u8], b: &[u8], step: Step, out: &mut [u8], at: usize) -> us
     ensures { λ r. ⌜ (r ≡ putCount (now (out .entry)) at (stepBytes (now (a .entry)) (now (b .entry)) step)) × (now (out .exit) ≡ put (now (out .entry)) at (stepBytes (now (a .entry)) (now (b .entry)) step)) ⌝ }
 {
     if step.left {
-        return xdr::put_raw(out, at, table::part(a, step.start, step.end));
+        return xdr::put_raw(out, at, order::part(a, step.start, step.end));
     }
-    xdr::put_raw(out, at, table::part(b, step.start, step.end))
+    xdr::put_raw(out, at, order::part(b, step.start, step.end))
 }

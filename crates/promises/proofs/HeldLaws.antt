@@ -9,11 +9,11 @@ use borrow.Author.Tests.{eq-eqb, eqb-true}
 use lib.Dec.{eqb}
 use Rattle.record.specs.Block.{Block}
 use Rattle.record.specs.File.{File}
-use Rattle.table.specs.Order.{isEqual, compareLists}
-use Rattle.table.specs.declared.order.Order.{Order}
-use Rattle.table.specs.declared.order.Order.the-variants.{Less, Equal, Greater}
-use Rattle.table.proofs.OrderLaws.{same-equal, equal-same}
-use Rattle.table.proofs.RisingLaws.{both-true}
+use Rattle.order.specs.Order.{isEqual, compareLists}
+use Rattle.order.specs.declared.compare.Order.{Order}
+use Rattle.order.specs.declared.compare.Order.the-variants.{Less, Equal, Greater}
+use Rattle.order.proofs.OrderLaws.{same-equal, equal-same}
+use Rattle.record.proofs.RisingLaws.{both-true}
 use Rattle.want.specs.Listing.{isSame, listed, hasBlock, isHeld}
 
 differ : true ≡ false → ⊥

@@ -9,7 +9,7 @@ use lib.ListN.{length}
 use lib.Dec.{leb, ltb, eqb}
 use Rattle.xdr.specs.Number.{IsBytes}
 use Rattle.xdr.specs.Buffer.{filled}
-use Rattle.table.proofs.RisingLaws.{both-true}
+use Rattle.record.proofs.RisingLaws.{both-true}
 use Rattle.promises.specs.Memory.{Memory, Region, bytesFrom, bytesIn, stored, written, isApart}
 use Rattle.promises.specs.Merges.{HoldsBytes}
 

@@ -9,7 +9,7 @@ use lib.ListN.{length}
 use Rattle.record.specs.File.{File}
 use Rattle.table.specs.Table.{isGood, isWithin, records, tableOf}
 use Rattle.table.specs.Filling.{Outcome, accepted, refused, bufferAfter, tableInto}
-use Rattle.table.proofs.RisingLaws.{both-true}
+use Rattle.record.proofs.RisingLaws.{both-true}
 use Rattle.table.proofs.TableLaws.{GoodTable, good-table, table-good, records-of}
 use Rattle.merge.specs.Merged.{mergedOf}
 use Rattle.merge.specs.Highest.{joined}

@@ -9,7 +9,7 @@ use Rattle.xdr.specs.Number.{IsBytes}
 use Rattle.record.specs.Block.{Block, totalSize}
 use Rattle.record.specs.File.{File}
 use Rattle.table.specs.Table.{isGood, records}
-use Rattle.table.proofs.RisingLaws.{Rising, both-true}
+use Rattle.record.proofs.RisingLaws.{Rising, both-true}
 use Rattle.table.proofs.TableLaws.{good-table}
 use Rattle.merge.specs.Merged.{mergedOf}
 use Rattle.want.specs.Listing.{listsThere}

@@ -8,7 +8,7 @@ use lib.ListN.{take}
 use Rattle.xdr.specs.Format.{read, encode}
 use Rattle.xdr.specs.Text.{soundUpTo}
 use Rattle.xdr.specs.Pad.{allZero}
-use Rattle.table.specs.Order.{compareNumbers, compareLists}
+use Rattle.order.specs.Order.{compareNumbers, compareLists}
 use Rattle.table.specs.Newest.{compareFiles}
 use Rattle.table.specs.Table.{isGood, records, tableOf}
 use Rattle.table.specs.Filling.{accepted, refused}

@@ -5,8 +5,8 @@ use Rattle.xdr.specs.Text.{soundUpTo}
 use Rattle.xdr.specs.Pad.{allZero}
 use Rattle.record.specs.File.{File}
 use Rattle.table.specs.Newest.{compareFiles}
-use Rattle.table.specs.Order.{compareNumbers, compareLists}
-use Rattle.table.specs.declared.order.Order.the-variants.{Greater}
+use Rattle.order.specs.Order.{compareNumbers, compareLists}
+use Rattle.order.specs.declared.compare.Order.the-variants.{Greater}
 use Rattle.promises.specs.Vectors.{Holds, vectors}
 
 zero-newer : (f g : File) → f .modified ≡ 0 → g .modified ≡ 0xFFFFFFFFFFFFFFFF → compareFiles f g ≡ Greater

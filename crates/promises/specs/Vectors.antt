@@ -8,7 +8,7 @@ use Rattle.record.specs.File.{File}
 use Rattle.message.specs.Header.{headerOf}
 use Rattle.message.specs.Message.{Sent, message}
 use Rattle.table.specs.Newest.{compareFiles}
-use Rattle.table.specs.declared.order.Order.the-variants.{Greater}
+use Rattle.order.specs.declared.compare.Order.the-variants.{Greater}
 
 -- bytes with what reading them gives; or Modified of two records, the first of which is the newer one whatever else they say
 pub data Vector : Type 0 where

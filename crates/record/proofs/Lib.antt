@@ -1,6 +1,7 @@
 -- Laws of records: what answers tell of a reading, and what holds of what was read.
 pub mod SizeRule
 pub mod FlagBits
+pub mod HeadLaws
 pub mod Answered
 pub mod Arrays
 pub mod OutlineLaws
@@ -9,3 +10,5 @@ pub mod BlockLaws
 pub mod FileLaws
 pub mod Sizes
 pub mod SignedOrder
+pub mod RisingLaws
+pub mod CheckLaws

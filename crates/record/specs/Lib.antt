@@ -6,3 +6,4 @@ pub mod KeyValue
 pub mod Outline
 pub mod OptionOutline
 pub mod Answers
+pub mod Rising

@@ -1,14 +1,17 @@
 // BlockInfo: a Length and a Hash.
 ghost use mathlib.Core.Path.{_≡_};
 ghost use mathlib.Core.Bool.{true, cond};
+ghost use Prim.Native.Nat.{_≤_};
 ghost use lib.Dec.{eqb};
+ghost use lib.ListN.{length};
 ghost use Rattle.xdr.specs.Answers.{wordAnswer, bytesAnswer};
 ghost use Rattle.xdr.specs.Format.{readAt};
 ghost use Rattle.record.specs.Answers.{blockAnswer, arrayAnswer};
-ghost use Rattle.record.specs.Block.{size, hash, block, blockCount, blocks};
+ghost use Rattle.record.specs.Block.{size, hash, block, blockCount, blocks, IsHead, SoundBlocks};
 use crate::array::Array;
 use crate::array::read_count;
 use xdr::Bytes;
+use xdr::Hyper;
 use xdr::Refusal;
 use xdr::Word;
 
@@ -104,6 +107,41 @@ fn read_block_count(s: &[u8], gone: bool) -> Word
     Word::Taken(count, first)
 }
 
+// Whether a number of 64 bits is the Length of a block and the length of its hash side by side: one test for both.
+fn is_head(head: u64) -> bool
+    ensures { λ r. ⌜ (r ≡ true → IsHead head) ⌝ }
+{
+    let left = std::num::wrapping_sub_u64(head, 4294967328);
+    if left % 4294967296 != 0 {
+        return false;
+    }
+    left / 4294967296 < 131072
+}
+
+// How many of the blocks from a place on are in order, where all of them are there: then none is tested for missing bytes.
+fn sound_blocks(s: &[u8], first: usize, count: u32) -> u32
+    requires { ⌜ first ≤ length (now s) ⌝ }
+    ensures { λ r. ⌜ (r ≤ count) × SoundBlocks (now (s .entry)) first r ⌝ }
+{
+    if (s.len() - first) / 40 < count as usize {
+        return 0;
+    }
+    let mut i = 0;
+    let mut at = first;
+    while i < count {
+        let end = at + 40;
+        let Hyper::Taken(head, _) = xdr::read_hyper(&s[at..end], 0) else {
+            return i;
+        };
+        if !is_head(head) {
+            return i;
+        }
+        at = end;
+        i += 1;
+    }
+    i
+}
+
 // The blocks at the front of a part, of a file that is gone, that is deleted, or not.
 pub fn read_blocks(s: &[u8], gone: bool) -> Array
     ensures { λ r. ⌜ r ≡ arrayAnswer (readAt (blocks gone) (now (s .entry)) 0) ⌝ }
@@ -112,8 +150,8 @@ pub fn read_blocks(s: &[u8], gone: bool) -> Array
     let Word::Taken(count, first) = answer else {
         return Array::Refused(answer.refusal());
     };
-    let mut next = first;
-    let mut i = 0;
+    let mut i = sound_blocks(s, first, count);
+    let mut next = first + (i as usize) * 40;
     while i < count {
         let read = read_block(&s[next..]);
         let Word::Taken(_, used) = read else {

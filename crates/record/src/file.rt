@@ -2,10 +2,9 @@
 ghost use mathlib.Core.Path.{_≡_};
 ghost use Rattle.xdr.specs.Answers.{wordAnswer, bytesAnswer};
 ghost use Rattle.xdr.specs.Format.{readAt};
-ghost use Rattle.record.specs.Answers.{fileAnswer, fileRefusal, arrayAnswer};
-ghost use Rattle.record.specs.File.{isDeleted, isInvalid, mode as modeOf, name as nameField, flags as flagsField, file, files};
+ghost use Rattle.record.specs.Answers.{fileAnswer, fileRefusal};
+ghost use Rattle.record.specs.File.{isDeleted, isInvalid, mode as modeOf, name as nameField, flags as flagsField, file};
 use crate::array::Array;
-use crate::array::read_count;
 use crate::block::read_blocks;
 use xdr::Bytes;
 use xdr::Hyper;
@@ -139,29 +138,4 @@ pub fn read_file(s: &[u8]) -> FileRead
         first: count_at + 4,
         next: count_at + used,
     })
-}
-
-// The files at the front of a part, up to a limit.
-pub fn read_files(s: &[u8], limit: u32) -> Array
-    ensures { λ r. ⌜ r ≡ arrayAnswer (readAt (files limit) (now (s .entry)) 0) ⌝ }
-{
-    let answer = read_count(s, 0, limit);
-    let Word::Taken(count, first) = answer else {
-        return Array::Refused(answer.refusal());
-    };
-    let mut next = first;
-    let mut i = 0;
-    while i < count {
-        let read = read_file(&s[next..]);
-        let FileRead::Taken(span) = read else {
-            let refusal = read.refusal();
-            return Array::Refused(Refusal {
-                number: refusal.number,
-                place: next + refusal.place,
-            });
-        };
-        next += span.next;
-        i += 1;
-    }
-    Array::Taken(count, next)
 }

@@ -17,12 +17,12 @@ use Rattle.message.specs.Message.{message}
 use Rattle.message.specs.Answers.{messageAnswer}
 use Rattle.message.specs.declared.answer.RequestSpan.{RequestSpan}
 use Rattle.message.specs.declared.answer.Message.{Message}
-use Rattle.table.specs.Order.{isEqual, compareLists, part}
-use Rattle.table.specs.declared.order.Order.{Order}
+use Rattle.order.specs.Order.{isEqual, compareLists, part}
+use Rattle.order.specs.declared.compare.Order.{Order}
 use Rattle.table.specs.Table.{isGood, records}
 use Rattle.table.proofs.TableLaws.{good-table}
 use Rattle.table.proofs.WalkLaws.{At, at-start, standing}
-use Rattle.table.proofs.PartLaws.{part-beyond, part-cut}
+use Rattle.order.proofs.PartLaws.{part-beyond, part-cut}
 use Rattle.want.specs.Listing.{listed, hasThere, listsThere}
 use Rattle.want.specs.Blocks.{blockWith, blocksFrom, listedCount}
 use Rattle.want.specs.Places.{listsAt}

@@ -14,7 +14,7 @@ use Rattle.message.specs.declared.answer.Message.the-variants as M
 use Rattle.message_write.specs.Writing.{writing, responseBytes, writtenAnswer, writtenBuffer}
 use Rattle.message_write.specs.declared.answer.Written.{Written}
 use Rattle.message_write.specs.declared.answer.Written.the-variants as W
-use Rattle.table.specs.Order.{isEqual, compareLists}
+use Rattle.order.specs.Order.{isEqual, compareLists}
 use Rattle.table.specs.Table.{isGood, records}
 use Rattle.want.specs.Listing.{listsThere}
 use Rattle.want.specs.Blocks.{blockWith}

@@ -44,7 +44,7 @@ fn lists(table: &[u8], name: &[u8], offset: u64, size: u32, hash: &[u8]) -> bool
         let Outline::Whole(f) = record::outline_at(table, at) else {
             return false;
         };
-        if table::compare_bytes(table::part(table, f.name, f.stop), name).is_equal() {
+        if order::compare_bytes(order::part(table, f.name, f.stop), name).is_equal() {
             return want::places::lists_at(table, at, name, offset, size, hash);
         }
         at = f.past;
@@ -75,7 +75,7 @@ fn is_ours(table: &[u8], repository: &[u8], message: &[u8], x: RequestSpan) -> b
     let named = x.repository;
     let name = x.name;
     let hash = x.hash;
-    if !table::compare_bytes(bytes_of(message, named), repository).is_equal() {
+    if !order::compare_bytes(bytes_of(message, named), repository).is_equal() {
         return false;
     }
     lists(

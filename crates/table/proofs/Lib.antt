@@ -1,10 +1,5 @@
--- Laws of the orders and of good tables.
-pub mod OrderLaws
-pub mod PartLaws
+-- Laws of the newest-record order and of good tables.
 pub mod NewestLaws
-pub mod WordLaws
-pub mod RisingLaws
-pub mod CheckLaws
 pub mod TableLaws
 pub mod WalkLaws
 pub mod FillingLaws

@@ -9,11 +9,11 @@ use Rattle.record.specs.Modified.{signed, raised}
 use Rattle.record.specs.declared.outline.Fields.{Fields}
 use Rattle.record.proofs.FileLaws.{split-encoding, same-file}
 use Rattle.record.proofs.SignedOrder.{raised-order}
-use Rattle.table.specs.Order.{compareLists}
+use Rattle.order.specs.Order.{compareLists}
 use Rattle.table.specs.Newest.{key, keyAt, compareFiles, compareAt}
-use Rattle.table.specs.declared.order.Order.{Order}
-use Rattle.table.specs.declared.order.Order.the-variants.{Less, Equal}
-use Rattle.table.proofs.OrderLaws.{number-less, heads, Compared, turned, compare-turned, equal-same, below-trans, same-equal, below-irrefl, below-asym, at-most-same, at-most-trans}
+use Rattle.order.specs.declared.compare.Order.{Order}
+use Rattle.order.specs.declared.compare.Order.the-variants.{Less, Equal}
+use Rattle.order.proofs.OrderLaws.{number-less, heads, Compared, turned, compare-turned, equal-same, below-trans, same-equal, below-irrefl, below-asym, at-most-same, at-most-trans}
 
 pub by-key : (f g : File) → compareFiles f g ≡ compareLists (key f) (key g)
 unfolding compareFiles

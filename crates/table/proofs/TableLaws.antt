@@ -1,10 +1,10 @@
 -- A good table is the bytes of its records, and records within the limits whose names rise make a good table.
-use Prim.Native.Nat.{ℕ, _+_, _≤_}
+use Prim.Native.Nat.{ℕ, _+_, _≤_, _<_}
 use mathlib.Core.List.{List, [], _∷_, _++_, append-nil}
 use mathlib.Core.Path.{_≡_, refl, sym, ap, _∙_}
-use mathlib.Core.Bool.{true, false, _&&_}
+use mathlib.Core.Bool.{Bool, true, false, _&&_}
 use native.Mathlib.Omega.{arith}
-use borrow.Author.Tests.{le-leb, leb-true, eq-eqb, eqb-true}
+use borrow.Author.Tests.{le-leb, lt-leb, leb-true, eq-eqb, eqb-true}
 use lib.ListN.{length, length-append}
 use lib.Dec.{leb, eqb}
 use Rattle.xdr.specs.Reading.{Reading, taken, refused}
@@ -15,9 +15,10 @@ use Rattle.xdr.proofs.NumberLaws.{length-digits}
 use Rattle.xdr.proofs.RoundTrip.{round}
 use Rattle.xdr.proofs.Corollaries.{read-whole}
 use Rattle.record.specs.File.{File, file}
+use Rattle.record.specs.Rising.{isRising, fillRising, isRisingArray}
 use Rattle.table.specs.Limits.{recordsLimit, bytesLimit}
-use Rattle.table.specs.Table.{table, isRising, goodReading, isGood, recordsRead, records, tableOf}
-use Rattle.table.proofs.RisingLaws.{both-true, Rising, rising-is, rising-test}
+use Rattle.table.specs.Table.{table, goodReading, isGood, recordsRead, records, tableOf}
+use Rattle.record.proofs.RisingLaws.{and-true, both-true, Rising, rising-is, rising-test}
 
 -- the bytes of records, one after another
 abbrev pub bytesOf : List File → List ℕ
@@ -37,6 +38,31 @@ word-bytes n = length-digits 4 n
 
 pub table-length : (fs : List File) → length (tableOf fs) ≡ 4 + length (bytesOf fs)
 table-length fs = ap length (table-bytes fs) ∙ length-append (encode word (length fs)) (bytesOf fs) ∙ ap (λ (n : ℕ). n + length (bytesOf fs)) (word-bytes (length fs))
+
+-- what makes a table good, beside its size
+
+and-false : (a b : Bool) → (a && (b && false)) ≡ false
+and-false true true = refl
+and-false true false = refl
+and-false false b = refl
+
+-- more bytes than a table may have
+pub good-long : (t : List ℕ) → bytesLimit < length t → isGood t ≡ false
+unfolding isGood
+good-long t h = go (read table t)
+  where
+    go : (r : Reading (List File)) → goodReading (length t) r ≡ false
+    go (taken fs n) = rw (lt-leb (length t) bytesLimit h) (and-false (eqb n (length t)) (isRising fs))
+    go (refused k p) = refl
+
+-- and no more
+pub good-rising : (t : List ℕ) → length t ≤ bytesLimit → isGood t ≡ isRisingArray recordsLimit t
+unfolding isGood isRisingArray
+good-rising t h = go (read table t)
+  where
+    go : (r : Reading (List File)) → goodReading (length t) r ≡ fillRising (length t) r
+    go (taken fs n) = ap (λ (b : Bool). eqb n (length t) && (isRising fs && b)) (le-leb (length t) bytesLimit h) ∙ ap (λ (b : Bool). eqb n (length t) && b) (and-true (isRising fs))
+    go (refused k p) = refl
 
 -- what a good table is
 pub record GoodTable (t : List ℕ) (fs : List File) : Type 0 where

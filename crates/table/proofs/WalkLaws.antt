@@ -14,7 +14,7 @@ use Rattle.record.specs.declared.outline.Outline.{Outline}
 use Rattle.record.specs.declared.outline.Outline.the-variants as O
 use Rattle.record.proofs.FileLaws.{encoding-parts, encoding-rest}
 use Rattle.record.proofs.OutlineLaws.{outline-cut}
-use Rattle.table.specs.Order.{part}
+use Rattle.order.specs.Order.{part}
 use Rattle.table.specs.Newest.{key, keyAt, compareFiles, compareAt}
 use Rattle.table.specs.Table.{tableOf}
 use Rattle.table.proofs.TableLaws.{bytesOf, AllValid, GoodTable, table-bytes, table-length, word-bytes}

@@ -1,4 +1,3 @@
-pub mod Order
 pub mod Newest
 pub mod Limits
 pub mod Table

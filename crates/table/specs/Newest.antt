@@ -5,8 +5,8 @@ use mathlib.Core.Bool.{Bool, not, cond}
 use Rattle.record.specs.File.{File, isDeleted, isInvalid, fromFlags}
 use Rattle.record.specs.Modified.{raised}
 use Rattle.record.specs.declared.outline.Fields.{Fields}
-use Rattle.table.specs.Order.{compareLists, part}
-use Rattle.table.specs.declared.order.Order.{Order}
+use Rattle.order.specs.Order.{compareLists, part}
+use Rattle.order.specs.declared.compare.Order.{Order}
 
 -- 1 over 0: yes over no
 abbrev pub bit : Bool → ℕ

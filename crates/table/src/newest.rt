@@ -2,10 +2,11 @@
 ghost use mathlib.Core.Path.{_≡_};
 ghost use Rattle.record.specs.Modified.{raised as raisedOf};
 ghost use Rattle.table.specs.Newest.{bit, compareAt};
-ghost use Rattle.table.specs.Order.{compareNumbers};
-use crate::order::Order;
-use crate::order::compare_numbers;
-use crate::order::compare_parts;
+ghost use Rattle.order.specs.Order.{compareNumbers};
+use order::Order;
+use order::compare_long;
+use order::compare_numbers;
+use order::part;
 use record::Fields;
 
 // Modified as a number from 0, in the order of the signed numbers.
@@ -61,5 +62,5 @@ pub fn compare_records(s: &[u8], f: Fields, t: &[u8], g: Fields) -> Order
     if !deleted.is_equal() {
         return deleted;
     }
-    compare_parts(s, f.rest, f.past, t, g.rest, g.past)
+    compare_long(part(s, f.rest, f.past), part(t, g.rest, g.past))
 }

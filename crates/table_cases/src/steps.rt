@@ -8,7 +8,7 @@ fn step(label: &[u8], table: &[u8], at: usize) {
     lines::text(b": ");
     match walker::step_at(table, at) {
         Step::Record(f) => {
-            lines::bytes(table::part(table, f.name, f.stop));
+            lines::bytes(order::part(table, f.name, f.stop));
             lines::text(b" up to ");
             lines::number(f.past as u64);
             lines::text(b"\n");

@@ -17,7 +17,7 @@ use Rattle.record.specs.Outline.{wordAt, outlineOf, blockPlace}
 use Rattle.record.specs.declared.outline.Fields.{Fields}
 use Rattle.record.specs.declared.outline.Outline.{Outline}
 use Rattle.record.specs.declared.outline.Outline.the-variants as O
-use Rattle.table.specs.Order.{part}
+use Rattle.order.specs.Order.{part}
 use Rattle.table.specs.Table.{isGood, records}
 use Rattle.merge.specs.Merged.{mergedOf}
 use Rattle.want.specs.Listing.{isHeld}

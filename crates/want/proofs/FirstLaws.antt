@@ -9,11 +9,11 @@ use native.Mathlib.Decide.{decLt}
 use lib.ListN.{getD}
 use Rattle.record.specs.File.{File}
 use Rattle.record.specs.Outline.{fieldsOf}
-use Rattle.table.specs.Order.{compareLists, part}
+use Rattle.order.specs.Order.{compareLists, part}
 use Rattle.table.specs.Newest.{compareFiles}
-use Rattle.table.specs.declared.order.Order.{Order}
-use Rattle.table.specs.declared.order.Order.the-variants.{Less, Equal, Greater}
-use Rattle.table.proofs.OrderLaws.{Below, equal-same, greater-above, below-trans}
+use Rattle.order.specs.declared.compare.Order.{Order}
+use Rattle.order.specs.declared.compare.Order.the-variants.{Less, Equal, Greater}
+use Rattle.order.proofs.OrderLaws.{Below, equal-same, greater-above, below-trans}
 use Rattle.table.proofs.NewestLaws.{at-least-itself, at-least-turned, at-least-trans}
 use Rattle.table.proofs.WalkLaws.{At, at-end, standing, compared-there}
 use Rattle.merge.specs.Highest.{AtLeast}

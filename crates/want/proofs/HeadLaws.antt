@@ -7,9 +7,9 @@ use mathlib.Core.Bool.{cond, true, false}
 use native.Mathlib.Omega.{arith}
 use lib.ListN.{length, getD, List·getD-map}
 use Rattle.record.specs.File.{File}
-use Rattle.table.specs.Order.{isEqual, compareLists}
-use Rattle.table.proofs.OrderLaws.{Below, turned, compare-turned, same-equal}
-use Rattle.table.proofs.RisingLaws.{Above, Rising, rising-test}
+use Rattle.order.specs.Order.{isEqual, compareLists}
+use Rattle.order.proofs.OrderLaws.{Below, turned, compare-turned, same-equal}
+use Rattle.record.proofs.RisingLaws.{Above, Rising, rising-test}
 use Rattle.merge.specs.Merged.{mergedOf}
 use Rattle.merge.specs.Highest.{joined, AtLeast, Topped, Highest}
 use Rattle.merge.proofs.HighestLaws.{_∈_, above-all, AllOK, merged-highest, highest-same}

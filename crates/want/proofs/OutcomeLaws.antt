@@ -8,7 +8,7 @@ use lib.ListN.{length}
 use Rattle.xdr.specs.Number.{IsBytes}
 use Rattle.table.specs.Table.{isGood}
 use Rattle.table.specs.Filling.{accepted, refused}
-use Rattle.table.proofs.RisingLaws.{both-true}
+use Rattle.record.proofs.RisingLaws.{both-true}
 use Rattle.want.specs.Wanted.{listBytes, allGood, requestOutcome}
 use Rattle.want.specs.Places.{tableAt, Five, listOf}
 use Rattle.want.proofs.SideLaws.{by-five}

@@ -11,8 +11,8 @@ use lib.ListN.{length, getD}
 use lib.Dec.{eqb}
 use Rattle.record.specs.Block.{Block, totalSize}
 use Rattle.record.specs.File.{File}
-use Rattle.table.proofs.OrderLaws.{same-equal}
-use Rattle.table.proofs.RisingLaws.{Rising}
+use Rattle.order.proofs.OrderLaws.{same-equal}
+use Rattle.record.proofs.RisingLaws.{Rising}
 use Rattle.merge.specs.Merged.{mergedOf}
 use Rattle.merge.proofs.HighestLaws.{_∈_, above-all, merged-highest}
 use Rattle.want.specs.Listing.{isSame, listed, hasBlock, isHeld, hasThere, listsThere}

@@ -14,10 +14,10 @@ use Rattle.record.specs.Outline.{outlineOf, fieldsOf}
 use Rattle.record.specs.declared.outline.Fields.{Fields}
 use Rattle.record.specs.declared.outline.Outline.{Outline}
 use Rattle.record.specs.declared.outline.Outline.the-variants as O
-use Rattle.table.specs.Order.{isEqual, compareLists, part}
+use Rattle.order.specs.Order.{isEqual, compareLists, part}
 use Rattle.table.specs.Table.{records}
-use Rattle.table.proofs.OrderLaws.{Below, below-trans}
-use Rattle.table.proofs.RisingLaws.{Above, Rising}
+use Rattle.order.proofs.OrderLaws.{Below, below-trans}
+use Rattle.record.proofs.RisingLaws.{Above, Rising}
 use Rattle.table.proofs.TableLaws.{good-table}
 use Rattle.table.proofs.WalkLaws.{At, at-start, at-end, standing}
 use Rattle.merge.specs.Merged.{mergedOf}

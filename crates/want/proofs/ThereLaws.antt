@@ -12,8 +12,8 @@ use Rattle.record.specs.Outline.{wordAt, blocksSize, outlineFrom, outlineOf, ou
 use Rattle.record.specs.declared.outline.Fields.{Fields}
 use Rattle.record.specs.declared.outline.Outline.{Outline}
 use Rattle.record.specs.declared.outline.Outline.the-variants as O
-use Rattle.table.specs.Order.{isEqual, compareLists, part}
-use Rattle.table.specs.declared.order.Order.{Order}
+use Rattle.order.specs.Order.{isEqual, compareLists, part}
+use Rattle.order.specs.declared.compare.Order.{Order}
 use Rattle.want.specs.Listing.{isCurrent, isSame, hasThere}
 use Rattle.want.specs.Blocks.{blockHere, blocksFrom, listedCount}
 use Rattle.want.specs.Places.{pastBy, pastName, listsBy, listsAt}

@@ -5,7 +5,7 @@ use mathlib.Core.Bool.{Bool, false, not, cond, _&&_, _||_}
 use lib.Dec.{eqb}
 use Rattle.record.specs.Block.{Block}
 use Rattle.record.specs.File.{File, isDeleted, isInvalid}
-use Rattle.table.specs.Order.{isEqual, compareLists}
+use Rattle.order.specs.Order.{isEqual, compareLists}
 
 -- valid and undeleted, by the Flags
 abbrev pub isCurrent : ℕ → Bool

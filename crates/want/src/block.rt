@@ -5,7 +5,6 @@ ghost use lib.Dec.{eqb};
 ghost use Prim.Native.Nat.{_+_, _≤_};
 ghost use lib.ListN.{length, getD, take, drop};
 ghost use Rattle.record.specs.Outline.{wordAt, blocksSize, blockPlace};
-ghost use Rattle.table.specs.Order.{isEqual, compareLists};
 ghost use Rattle.want.specs.Listing.{isCurrent, isSame, hasThere};
 ghost use Rattle.want.specs.Blocks.{blockWith, blockHere, blocksFrom, listedCount};
 use record::BlockOutline;
@@ -51,31 +50,12 @@ pub(crate) fn block_hash(s: &[u8], first: usize, j: u32) -> &[u8]
     &s[at..at + 32]
 }
 
-// Whether two hashes are the same. With no early exit the loop is two steps of 16 bytes.
-fn same_hash(a: &[u8], b: &[u8]) -> bool
-    requires { ⌜ (length (now a) ≡ 32) × (length (now b) ≡ 32) ⌝ }
-    ensures { λ r. ⌜ r ≡ isEqual (compareLists (now (a .entry)) (now (b .entry))) ⌝ }
-{
-    let mut same = true;
-    let mut i = 0;
-    while i < 32 {
-        if a[i] != b[i] {
-            same = false;
-        }
-        i += 1;
-    }
-    same
-}
-
 // Whether block j has a Length and a hash.
 fn same_block(s: &[u8], first: usize, j: u32, size: u32, hash: &[u8]) -> bool
     requires { ⌜ blockPlace first j + 40 ≤ length (now s) ⌝ }
     ensures { λ r. ⌜ r ≡ isSame (blockHere (now (s .entry)) (blockPlace first j)) (blockWith size (now (hash .entry))) ⌝ }
 {
-    if hash.len() != 32 {
-        return false;
-    }
-    if !same_hash(block_hash(s, first, j), hash) {
+    if !order::same_bytes(block_hash(s, first, j), hash) {
         return false;
     }
     block_size(s, first, j) == size

@@ -72,7 +72,7 @@ fn count(tables: [&[u8]; 5]) -> usize
             return n;
         };
         n += count_blocks(tables[0], t, f.first, listed(f));
-        places = advanced(tables, places, table::part(t, f.name, f.stop));
+        places = advanced(tables, places, order::part(t, f.name, f.stop));
     }
 }
 
@@ -171,7 +171,7 @@ fn fill(tables: [&[u8]; 5], out: &mut [u8])
         let Outline::Whole(f) = record::outline_at(t, places[k]) else {
             return;
         };
-        let name = table::part(t, f.name, f.stop);
+        let name = order::part(t, f.name, f.stop);
         at = fill_blocks(tables, places, name, t, f.first, listed(f), file, out, at);
         places = advanced(tables, places, name);
         file += 1;

@@ -52,7 +52,7 @@ fn past_name(name: &[u8], t: &[u8], at: usize) -> usize
     let Outline::Whole(f) = record::outline_at(t, at) else {
         return at;
     };
-    if table::compare_bytes(table::part(t, f.name, f.stop), name).is_equal() {
+    if order::compare_bytes(order::part(t, f.name, f.stop), name).is_equal() {
         return f.past;
     }
     at
@@ -78,7 +78,7 @@ pub fn lists_at(t: &[u8], at: usize, name: &[u8], offset: u64, size: u32, hash: 
     let Outline::Whole(f) = record::outline_at(t, at) else {
         return false;
     };
-    if table::compare_bytes(table::part(t, f.name, f.stop), name).is_equal() {
+    if order::compare_bytes(order::part(t, f.name, f.stop), name).is_equal() {
         return has_there(t, f.first, listed(f), offset, size, hash);
     }
     false

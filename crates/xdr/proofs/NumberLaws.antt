@@ -78,3 +78,10 @@ word-digits n =
     let third : n / 256 % 256 ≡ n % 16777216 % 65536 / 256 = omega arith in
     let fourth : n % 256 ≡ n % 16777216 % 65536 % 256 / 1 = omega arith in
     cc
+
+-- a number goes by its own bytes
+pub number-first : (k n : ℕ) (l : List ℕ) → k ≤ n → bigEndian k (take n l) ≡ bigEndian k l
+number-first zero n l h = refl
+number-first (suc k) zero l h = absurd (omega arith)
+number-first (suc k) (suc n) [] h = refl
+number-first (suc k) (suc n) (x ∷ l) h = ap (λ (m : ℕ). x * 256 ^ k + m) (number-first k n l (omega arith))

@@ -7,7 +7,7 @@ use native.Mathlib.Omega.{arith}
 use borrow.Author.Tests.{not-true, not-false}
 use denote.Ref.{now}
 use lib.ListN.{length}
-use Rattle.table.specs.Order.{isEqual, compareLists}
+use Rattle.order.specs.Order.{isEqual, compareLists}
 use Rattle.table.specs.Table.{isGood, records}
 use Rattle.table.specs.Filling.{tableInto}
 use Rattle.table.proofs.FillingLaws.{is-refused, same-outcome}

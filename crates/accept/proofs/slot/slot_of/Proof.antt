@@ -5,7 +5,7 @@ use mathlib.Core.List.{List}
 use native.Mathlib.Omega.{arith}
 use denote.Ref.{now}
 use lib.ListN.{length, getD}
-use Rattle.table.specs.Order.{compareLists}
+use Rattle.order.specs.Order.{compareLists}
 use Rattle.accept.specs.Slots.{slotOf, nameOf}
 use Rattle.accept.proofs.SlotLaws.{slot-behind, slot-repeated, slot-further, slot-first}
 use borrow.Author.Needs.{needs}

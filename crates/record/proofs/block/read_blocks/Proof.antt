@@ -7,24 +7,25 @@ use denote.Ref.{now}
 use Rattle.xdr.specs.Reading.{taken, refused}
 use Rattle.xdr.proofs.Answered.{word-taken, word-refused}
 use Rattle.xdr.proofs.Steps.{Reads, answered, ends, refused-within, part-read}
-use Rattle.xdr.proofs.Runs.{Progress, progress-none, progress-more, count-refused, element-refused}
+use Rattle.xdr.proofs.Runs.{Progress, progress-more, count-refused, element-refused}
 use Rattle.record.specs.Answers.{blockAnswer, arrayAnswer}
 use Rattle.record.specs.Block.{Block, block, blockCount}
 use Rattle.record.proofs.Arrays.{part-of, array-done}
+use Rattle.record.proofs.HeadLaws.{sound-progress}
 use Rattle.record.proofs.Answered.{block-taken, block-refused}
 use borrow.Author.Needs.{needs}
 use Rattle.record.proofs.block.read_blocks.Statement.{statement}
 use Rattle.record.proofs.block.read_blocks.Tie as tie
 
 abbrev Inv-loop : tie.InvT-loop
-Inv-loop s gone count first next₀ i₀ next i = Progress block s first i next × (i ≤ count)
+Inv-loop s gone count first i₀ next₀ i next = Progress block s first i next × (i ≤ count)
 
 abbrev μ-loop : tie.MeasureT-loop
-μ-loop s gone count first next₀ i₀ next i = count - i
+μ-loop s gone count first i₀ next₀ i next = count - i
 
 -- from the loop to the place after the count was read
 abbrev counted : tie.At-loop Inv-loop μ-loop → tie.After-known-told Inv-loop μ-loop
-counted c = c .before
+counted c = c .before .before
 
 -- what was given, and the count that was read with the place after it
 abbrev s : tie.After-known-told Inv-loop μ-loop → List ℕ
@@ -73,8 +74,22 @@ returns c =
     answered arrayAnswer (count-refused
     (word-refused (c .before .before .before .read-block-count .ensures) (c .before .enum-told .given .1) (c .refusal .ensures)))
 
+sound-blocks-requires : tie.Need-sound-blocks-requires Inv-loop μ-loop
+sound-blocks-requires c κs = ends (omega arith) (count-read c) .1
+
+cast-next : tie.Need-cast-next Inv-loop μ-loop
+cast-next c = search needs
+
+mul-next : tie.Need-mul-next Inv-loop μ-loop
+mul-next c = omega (arith, c .sound-blocks .ensures .1 .0)
+
+add-next : tie.Need-add-next Inv-loop μ-loop
+add-next c = omega (arith, c .sound-blocks .ensures .1 .0)
+
 loop-holds : tie.Need-loop-holds Inv-loop μ-loop
-loop-holds c = (progress-none (ends (omega arith) (count-read c) .1), omega arith)
+loop-holds c =
+    let k = c .before in
+    (sound-progress (s k) (λ i. k .before .before .before .before .shared-slice-known .given i .fits) (k .before .answer .given .0 .1 .0) (c .sound-blocks .result) (c .sound-blocks .ensures .1), c .sound-blocks .ensures .0)
 
 sub-read-block : tie.Need-sub-read-block Inv-loop μ-loop
 sub-read-block c = search needs
@@ -97,8 +112,8 @@ enum-told-2 c = search needs
 refusal-requires-2 : tie.Need-refusal-requires-2 Inv-loop μ-loop
 refusal-requires-2 c κs = search needs
 
-add-t17 : tie.Need-add-t17 Inv-loop μ-loop
-add-t17 c =
+add-t19 : tie.Need-add-t19 Inv-loop μ-loop
+add-t19 c =
     let p = c .before .before .before .before .before .before .before .loop .inv .0 in
     let w = refused-within (p .room) (refused-there (c .before)) in
     omega arith
@@ -109,8 +124,8 @@ returns-2 c =
     let p = l .loop .inv .0 in
     answered arrayAnswer (element-refused (count-read (counted l)) (p .run) (omega (arith, p .counted)) (refused-there (c .before)))
 
-add-next : tie.Need-add-next Inv-loop μ-loop
-add-next c =
+add-next-2 : tie.Need-add-next-2 Inv-loop μ-loop
+add-next-2 c =
     let p = c .before .before .before .before .before .before .loop .inv .0 in
     let w = ends (p .room) (read-there c .1) in
     omega arith
@@ -138,6 +153,10 @@ read-blocks-spec =
     enum-told
     refusal-requires
     returns
+    sound-blocks-requires
+    cast-next
+    mul-next
+    add-next
     loop-holds
     sub-read-block
     part-read-block-start
@@ -146,9 +165,9 @@ read-blocks-spec =
     enum-known-read
     enum-told-2
     refusal-requires-2
-    add-t17
+    add-t19
     returns-2
-    add-next
+    add-next-2
     add-i
     loop-less
     loop-again

@@ -7,10 +7,10 @@ use borrow.Author.Tests.{not-true, not-false}
 use denote.Ref.{now}
 use Rattle.record.specs.File.{isDeleted, isInvalid}
 use Rattle.record.specs.Modified.{raised}
-use Rattle.table.specs.Order.{compareNumbers, part}
+use Rattle.order.specs.Order.{compareNumbers, part}
 use Rattle.table.specs.Newest.{bit}
-use Rattle.table.specs.declared.order.Order.{Order}
-use Rattle.table.proofs.OrderLaws.{Compared, decides, passes}
+use Rattle.order.specs.declared.compare.Order.{Order}
+use Rattle.order.proofs.OrderLaws.{Compared, decides, passes}
 use Rattle.table.proofs.NewestLaws.{compared-at}
 use borrow.Author.Needs.{needs}
 use Rattle.table.proofs.newest.compare_records.Statement.{statement}
@@ -28,10 +28,10 @@ deleted-compared : (c : tie.After-compare-bits2)
     c .compare-bits2 .result ≡ compareNumbers (bit (isDeleted (a .f .flags))) (bit (isDeleted (a .g .flags)))
 deleted-compared c = c .compare-bits2 .ensures ∙ rw (c .before .before .is-deleted .ensures, c .before .is-deleted2 .ensures)
 
-parts-compared : (c : tie.After-compare-parts)
-    → let a = c .before .before .before .before .before .before .before .before .before .before .before .before .before .before .before .before .before .before .before .before .before .args in
-    Compared (part (now (a .s)) (a .f .rest) (a .f .past)) (part (now (a .t)) (a .g .rest) (a .g .past)) (c .compare-parts .result)
-parts-compared c = record { is = c .compare-parts .ensures }
+parts-compared : (c : tie.After-compare-long)
+    → let a = c .before .before .before .before .before .before .before .before .before .before .before .before .before .before .before .before .before .before .before .before .before .before .before .args in
+    Compared (part (now (a .s)) (a .f .rest) (a .f .past)) (part (now (a .t)) (a .g .rest) (a .g .past)) (c .compare-long .result)
+parts-compared c = record { is = c .compare-long .ensures ∙ rw (c .before .before .part .ensures, c .before .part2 .ensures) }
 
 -- past each field that is the same in both
 
@@ -124,12 +124,18 @@ returns-4 c =
     compared-at (now (a .s)) (a .f) (now (a .t)) (a .g)
     (past-modified c1 (past-version c2 (past-valid c3 (decides (deleted-compared (c .before .before)) (sym (c .before .is-equal4 .ensures) ∙ not-true _ (c .if4 .taken))))))
 
-compare-parts-requires : tie.Need-compare-parts-requires
-compare-parts-requires c κs = search needs
+part-requires : tie.Need-part-requires
+part-requires c κs = search needs
+
+part-requires-2 : tie.Need-part-requires-2
+part-requires-2 c κs = search needs
+
+compare-long-requires : tie.Need-compare-long-requires
+compare-long-requires c κs = search needs
 
 returns-5 : tie.Need-returns-5
 returns-5 c =
-    let c4 = c .before in
+    let c4 = c .before .before .before in
     let c3 = c4 .before .before .before .before .before in
     let c2 = c3 .before .before .before .before .before in
     let c1 = c2 .before .before .before .before .before in
@@ -159,5 +165,7 @@ compare-records-spec =
     compare-bits-requires-2
     is-equal-requires-4
     returns-4
-    compare-parts-requires
+    part-requires
+    part-requires-2
+    compare-long-requires
     returns-5)

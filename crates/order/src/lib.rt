@@ -1,0 +1,11 @@
+// The order of numbers and of bytes.
+pub mod compare;
+pub mod long;
+
+pub use compare::Order;
+pub use compare::compare_bytes;
+pub use compare::compare_numbers;
+pub use compare::compare_parts;
+pub use compare::part;
+pub use long::compare_long;
+pub use long::same_bytes;

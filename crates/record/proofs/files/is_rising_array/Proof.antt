@@ -1,0 +1,27 @@
+-- `record::files::is_rising_array` meets its contract.
+use mathlib.Core.Path.{refl, sym, ap, _∙_}
+use denote.Ref.{now}
+use lib.ListN.{length}
+use Rattle.record.specs.Rising.{endsAt}
+use borrow.Author.Needs.{needs}
+use Rattle.record.proofs.files.is_rising_array.Statement.{statement}
+use Rattle.record.proofs.files.is_rising_array.Tie as tie
+
+read-run-requires : tie.Need-read-run-requires
+read-run-requires c κs = search needs
+
+enum-known-next : tie.Need-enum-known-next
+enum-known-next c = search needs
+
+enum-told : tie.Need-enum-told
+enum-told c = search needs
+
+returns : tie.Need-returns
+returns c = let r = c .before .before .before in sym (ap (endsAt (length (now (r .before .before .args .s)))) (c .before .next .given .1)) ∙ r .read-run .ensures .1 refl
+
+returns-2 : tie.Need-returns-2
+returns-2 c = let r = c .before .before in sym (ap (endsAt (length (now (r .before .before .args .s)))) (c .enum-told .given .1)) ∙ r .read-run .ensures .1 refl
+
+pub is-rising-array-spec : {M : Type 1} → statement M
+is-rising-array-spec =
+    tie.close (tie.spec read-run-requires enum-known-next enum-told returns returns-2)
