@@ -9,3 +9,4 @@ mod ListHistory
 pub mod Requests
 mod HeldLaws
 pub mod RequestList
+pub mod Serving

@@ -5,3 +5,4 @@ pub mod Merges
 pub mod History
 pub mod ListCalls
 pub mod RequestList
+pub mod Serving
