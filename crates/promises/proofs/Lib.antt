@@ -10,3 +10,4 @@ pub mod Requests
 mod HeldLaws
 pub mod RequestList
 pub mod Serving
+pub mod Spans

@@ -6,3 +6,4 @@ pub mod History
 pub mod ListCalls
 pub mod RequestList
 pub mod Serving
+pub mod Spans
