@@ -9,5 +9,6 @@ mod ListHistory
 pub mod Requests
 mod HeldLaws
 pub mod RequestList
-pub mod Serving
 pub mod Spans
+pub mod Serving
+pub mod Following

@@ -2,7 +2,7 @@
 use Prim.Native.Nat.{ℕ, _/_, _%_, _≤_}
 use mathlib.Core.List.{List, []}
 use mathlib.Core.Path.{_≡_, refl, sym, ap, subst, _∙_}
-use mathlib.Core.Bool.{Bool, true, false, cond}
+use mathlib.Core.Bool.{Bool, true, false, cond, _&&_}
 use native.Mathlib.Omega.{arith}
 use lib.ListN.{length}
 use lib.Dec.{leb}
@@ -18,10 +18,14 @@ use Rattle.message.specs.declared.answer.Message.{Message}
 use Rattle.message.specs.declared.answer.Message.the-variants as M
 use Rattle.message_write.specs.Writing.{messageBytes, responseBytes, fitted, writing, writtenAnswer, writtenBuffer}
 use Rattle.message_write.proofs.WritingLaws.{by-body}
-use Rattle.table.specs.Table.{isGood}
+use Rattle.table.specs.Order.{isEqual, compareLists}
+use Rattle.table.specs.Table.{isGood, records}
+use Rattle.want.specs.Listing.{listsThere}
+use Rattle.want.specs.Blocks.{blockWith}
 use Rattle.serve.specs.Ruling.{isOurs, Ruling, replies, rulingOf, replyAnswer, servingAnswer, servingBuffer}
 use Rattle.serve.specs.declared.ruling.Serving.the-variants as S
 use Rattle.serve.proofs.RulingLaws.{table-good, ours-not}
+use Rattle.promises.specs.Spans.{RequestFields}
 use Rattle.promises.specs.Serving.{replyBytes, Replied}
 
 -- the ID of a Request that was read
@@ -84,3 +88,8 @@ unserved-replied t repository s out id x g e o =
     let ruling : rulingOf t repository s ≡ replies id = table-good t repository s out g (sym e) refl refl ∙ ours-not t repository s out id x refl o in
     let small : id ≤ 4095 = subst (λ (a : Message). idIn a ≤ 4095) e (small-id (readAt message s 0)) in
     subst (λ (r : Ruling). Replied id out (servingAnswer r (length out)) (servingBuffer r out)) (sym ruling) (replied id small out)
+
+-- whether it is ours goes by its fields
+pub ours-by-fields : (t repository s : List ℕ) (x : RequestSpan) (b : Body isRequest) (end : ℕ) → RequestFields s x b end
+    → isOurs t repository s x ≡ (isEqual (compareLists (b .0) repository) && listsThere (records t) (b .1 .0) (b .1 .1 .0) (blockWith (b .1 .1 .1 .0) (b .1 .1 .1 .1)))
+ours-by-fields t repository s x b end f = rw (f .repository-is, f .name-is, f .offset-is, f .length-is, f .hash-is) refl

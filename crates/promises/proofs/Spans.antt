@@ -84,19 +84,22 @@ module _ {s : List ℕ} {next : ℕ} where
   by-kind isIndexUpdate p id b h = (indexSpan p next, refl, index-fields b h)
   by-kind isOptions p id b h = (optionsSpan p next, refl, options-fields b h)
 
--- the body of a message stands behind its header
-pub body-there : {s : List ℕ} {m : Sent} {n : ℕ} → read message s ≡ taken m n → Reads (body (kindOf (typeOf (m .0)))) s 4 (taken (m .1) n)
+-- a message is read from the start of the bytes
+pub from-start : (s : List ℕ) → readAt message s 0 ≡ read message s
 unfolding readAt
+from-start s = shifted-zero (read message s)
+
+-- its body stands behind its header
+pub body-there : {s : List ℕ} {m : Sent} {n : ℕ} → read message s ≡ taken m n → Reads (body (kindOf (typeOf (m .0)))) s 4 (taken (m .1) n)
 body-there {s} {m} {n} e =
-    let r : Reads message s 0 (taken m n) = record { is = shifted-zero (read message s) ∙ e } in
+    let r : Reads message s 0 (taken m n) = record { is = from-start s ∙ e } in
     let h = pair-parts r in
     subst (λ (k : ℕ). Reads (body (kindOf (typeOf (m .0)))) s k (taken (m .1) n)) (ends-word (passed (passed (passed (h .1)))) .0) (h .2)
 
 -- every message that is read
 pub spans-are-fields : (s : List ℕ) (m : Sent) (n : ℕ) → IsBytes s → read message s ≡ taken m n
     → Answers s (idOf (m .0)) (kindOf (typeOf (m .0))) (m .1) n (messageAnswer (readAt message s 0))
-unfolding readAt
 spans-are-fields s m n b e =
     let k : Kind = kindOf (typeOf (m .0)) in
-    subst (λ (r : Reading Sent). Answers s (idOf (m .0)) k (m .1) n (messageAnswer r)) (sym (shifted-zero (read message s) ∙ e))
+    subst (λ (r : Reading Sent). Answers s (idOf (m .0)) k (m .1) n (messageAnswer r)) (sym (from-start s ∙ e))
     (by-kind k (m .1) (idOf (m .0)) b (body-there e))

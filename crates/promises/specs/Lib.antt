@@ -5,5 +5,6 @@ pub mod Merges
 pub mod History
 pub mod ListCalls
 pub mod RequestList
-pub mod Serving
 pub mod Spans
+pub mod Serving
+pub mod Following
