@@ -14,8 +14,8 @@ use Rattle.message.specs.Header.{typeOf, idOf}
 use Rattle.message.specs.Message.{Kind, isIndex, isRequest, isResponse, isPing, isPong, isIndexUpdate, isOptions, kindOf, Body, body, Sent, message}
 use Rattle.message.specs.Answers.{requestSpan, bodyAnswer, messageAnswer}
 use Rattle.table.specs.Table.{isGood}
-use Rattle.accept.specs.Accepting.{ofReading, acceptOutcome}
 use Rattle.table.specs.Filling.{refused as refusedCall}
+use Rattle.accept.specs.Accepting.{ofReading, acceptOutcome}
 use Rattle.serve.specs.Ruling.{isOurs, Ruling, serves, replies, refuses, askingOf, rulingBy, rulingOf, servingAnswer, servingBuffer}
 use Rattle.queue.specs.Queue.{answerOf}
 use Rattle.promises.specs.Following.{IsEnough, Unchanged}
