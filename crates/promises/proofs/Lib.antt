@@ -13,3 +13,5 @@ pub mod Spans
 pub mod Serving
 pub mod Following
 pub mod Walking
+mod BelongLaws
+pub mod Accepting

@@ -9,3 +9,4 @@ pub mod Spans
 pub mod Serving
 pub mod Following
 pub mod Walking
+pub mod Accepting
