@@ -26,9 +26,9 @@ use Rattle.accept.specs.Resulting.{isNamed, resulting}
 use Rattle.accept.specs.Accepting.{unrepeated, firstRecord, listed, ofKind, ofReading, acceptOutcome}
 use Rattle.accept.specs.Sorted.{Distinct}
 use Rattle.accept.proofs.ResultLaws.{resulting-valid, accept-good}
-use Rattle.promises.specs.Accepting.{Sends, Accepted}
+use Rattle.promises.specs.Accepting.{Sends, NoneNamed, Accepted}
 use Rattle.promises.proofs.HeldLaws.{is-equal}
-use Rattle.promises.proofs.BelongLaws.{NoneNamed, none-named, named-none, resulting-only, resulting-all}
+use Rattle.promises.proofs.BelongLaws.{none-named, named-none, resulting-only, resulting-all}
 use Rattle.promises.proofs.Spans.{from-start}
 
 not-accepted : {k p : ℕ} {l : List ℕ} {P : Type 0} → refused k p ≡ accepted l → P

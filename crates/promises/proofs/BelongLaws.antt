@@ -11,12 +11,10 @@ use Rattle.table.specs.declared.order.Order.the-variants.{Less, Equal, Greater}
 use Rattle.table.proofs.OrderLaws.{same-equal, equal-same}
 use Rattle.accept.specs.Resulting.{isNamed, unmentioned, placed, insert, byName, resulting}
 use Rattle.accept.specs.Sorted.{Distinct}
-use Rattle.promises.specs.Accepting.{Belongs}
+use Rattle.promises.specs.Accepting.{NoneNamed, Belongs}
 use Rattle.promises.proofs.HeldLaws.{differ, is-equal}
 
--- no record of some has a name
-abbrev pub NoneNamed : List ℕ → List File → Type 0
-NoneNamed n fs = (g : File) → List·Memᴰ g fs → g .name ≡ n → ⊥
+-- whether a name is that of one of some records
 
 named-test : (n : List ℕ) (f : File) → f .name ≡ n → isEqual (compareLists n (f .name)) ≡ true
 named-test n f e = ap (λ (m : List ℕ). isEqual (compareLists n m)) e ∙ ap isEqual (same-equal n)

@@ -21,10 +21,13 @@ Sends isPong b update repository sent = ⊥
 Sends isIndexUpdate b update repository sent = (update ≡ true) × (b .0 ≡ repository) × (b .1 ≡ sent)
 Sends isOptions b update repository sent = ⊥
 
+-- no record of some has a name
+abbrev pub NoneNamed : List ℕ → List File → Type 0
+NoneNamed n fs = (g : File) → List·Memᴰ g fs → g .name ≡ n → ⊥
+
 -- a record was sent; or it is an old one whose name is not mentioned, and the message is an IndexUpdate
 abbrev pub Belongs : (update : Bool) → (sent old : List File) → File → Type 0
-Belongs update sent old f =
-    List·Memᴰ f sent ⊎ ((update ≡ true) × List·Memᴰ f old × ((g : File) → List·Memᴰ g sent → g .name ≡ f .name → ⊥))
+Belongs update sent old f = List·Memᴰ f sent ⊎ ((update ≡ true) × List·Memᴰ f old × NoneNamed (f .name) sent)
 
 -- a message was accepted over an old table for a Repository, and filled in a table
 pub record Accepted (old bytes repository table : List ℕ) : Type 0 where

@@ -23,6 +23,7 @@ pub record IndexFields (s : List ℕ) (x : IndexSpan) (b : Body isIndex) (end : 
   pub count-is : x .count ≡ length (b .1)
   pub end-is : x .end ≡ end
 
+-- a Request: its strings and its hash at their spans, and its numbers
 pub record RequestFields (s : List ℕ) (x : RequestSpan) (b : Body isRequest) (end : ℕ) : Type 0 where
   pub repository-is : spanBytes s (x .repository) ≡ b .0
   pub name-is : spanBytes s (x .name) ≡ b .1 .0
@@ -31,6 +32,7 @@ pub record RequestFields (s : List ℕ) (x : RequestSpan) (b : Body isRequest) (
   pub hash-is : spanBytes s (x .hash) ≡ b .1 .1 .1 .1
   pub end-is : x .end ≡ end
 
+-- a Response: its data
 pub record ResponseFields (s : List ℕ) (x : ResponseSpan) (b : Body isResponse) (end : ℕ) : Type 0 where
   pub data-is : spanBytes s (x .«data») ≡ b
   pub end-is : x .end ≡ end
