@@ -5,8 +5,8 @@ ghost use Rattle.accept.specs.Next.{fromSent, fromOld, nextOf};
 use merge::next::Next;
 use merge::next::Step;
 use merge::next::from_right;
-use record::Outline;
 use order::Order;
+use record::Outline;
 
 fn from_sent(at: usize, x: usize, i: usize, j: usize) -> Next
     ensures { λ r. ⌜ r ≡ fromSent at x i j ⌝ }

@@ -6,9 +6,9 @@ ghost use Rattle.table.specs.Table.{isGood};
 ghost use Rattle.merge.specs.Answer.{mergeOutcome};
 ghost use Rattle.accept.specs.Accepting.{acceptOutcome};
 ghost use Rattle.bep.specs.Tables.{goodNumber, fillingNumber, fillingWords, Gave, orderWord, comparedNumber, comparedWords};
+use order::Order;
 use record::Outline;
 use table::Filling;
-use order::Order;
 
 // Fills the answer of a call that fills a buffer, and gives its number.
 pub fn give_filling(f: Filling, answer: &mut [u64; 1]) -> u32

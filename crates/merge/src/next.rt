@@ -2,9 +2,9 @@
 ghost use mathlib.Core.Path.{_≡_};
 ghost use Rattle.xdr.specs.Buffer.{put, putCount};
 ghost use Rattle.merge.specs.Next.{fromLeft, fromRight, chosenOf, nextOf, stepBytes};
+use order::Order;
 use record::Fields;
 use record::Outline;
-use order::Order;
 
 // A record that is taken: of the first table or of the second, at start..end; the merge goes on at i of the first and j of the second.
 pub struct Step {

@@ -130,14 +130,14 @@ fn put_options(out: &mut [u8], head: u32, options: &[u8]) -> Written
     checked
 }
 
-fn put_nothing(out: &mut [u8], head: u32) -> Written
-    ensures { λ r. ⌜ (r ≡ bodyFitted nothing [] (length (now (out .entry)))) × (now (out .exit) ≡ storedBuffer r (now (out .entry)) (encode word head ++ [])) ⌝ }
+fn put_nothing(out: &mut [u8], header: u32) -> Written
+    ensures { λ r. ⌜ (r ≡ bodyFitted nothing [] (length (now (out .entry)))) × (now (out .exit) ≡ storedBuffer r (now (out .entry)) (encode word header ++ [])) ⌝ }
 {
     let checked = fit(4, out.len());
     let Written::Filled(_) = checked else {
         return checked;
     };
-    xdr::put_word(out, 0, head);
+    xdr::put_word(out, 0, header);
     checked
 }
 

@@ -16,14 +16,14 @@ use Rattle.order.proofs.OrderLaws.{same-equal, equal-same}
 use Rattle.record.proofs.RisingLaws.{both-true}
 use Rattle.want.specs.Listing.{isSame, listed, hasBlock, isHeld}
 
-differ : true ≡ false → ⊥
+pub differ : true ≡ false → ⊥
 differ e = let z : _≡_ {A = ℕ} 0 1 = cc in omega arith
 
 neither : (a b : Bool) → (a || b) ≡ false → (a ≡ false) × (b ≡ false)
 neither true b e = absurd (differ e)
 neither false b e = (refl, e)
 
-is-equal : (o : Order) → isEqual o ≡ true → o ≡ Equal
+pub is-equal : (o : Order) → isEqual o ≡ true → o ≡ Equal
 is-equal Less e = absurd (differ (sym e))
 is-equal Equal e = refl
 is-equal Greater e = absurd (differ (sym e))

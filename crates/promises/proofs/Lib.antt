@@ -9,3 +9,9 @@ mod ListHistory
 pub mod Requests
 mod HeldLaws
 pub mod RequestList
+pub mod Spans
+pub mod Serving
+pub mod Following
+pub mod Walking
+mod BelongLaws
+pub mod Accepting

@@ -1,18 +1,19 @@
 -- Messages are read and written as laid down: what is read writes back to the same bytes, what is written reads back to the same fields.
 use Prim.Native.Nat.{ℕ, _≤_}
 use mathlib.Core.List.{List, _++_, append-assoc}
-use mathlib.Core.Path.{_≡_, refl, sym, ap, _∙_}
+use mathlib.Core.Path.{_≡_, refl, sym, ap, subst, _∙_}
 use mathlib.Core.Bool.{Bool, true, false, cond}
 use native.Mathlib.Omega.{arith}
-use borrow.Author.Tests.{le-leb, eqb-true}
+use borrow.Author.Tests.{le-leb, leb-true, eqb-true}
 use lib.ListN.{length, take, drop}
 use lib.Seq.{take-at, drop-at, length-take-le}
 use lib.Dec.{leb}
-use Rattle.xdr.specs.Reading.{Reading, taken, refused}
+use Rattle.xdr.specs.Reading.{Reading, taken, refused, shifted}
 use Rattle.xdr.specs.Number.{IsBytes}
-use Rattle.xdr.specs.Format.{read, encode, Valid}
+use Rattle.xdr.specs.Format.{read, readAt, encode, Valid}
 use Rattle.xdr.specs.Fields.{word}
 use Rattle.xdr.specs.Buffer.{filled}
+use Rattle.xdr.proofs.Steps.{shifted-zero}
 use Rattle.xdr.proofs.Corollaries.{read-exactly}
 use Rattle.xdr.proofs.RoundTrip.{round}
 use Rattle.xdr.proofs.Within.{within}
@@ -21,6 +22,7 @@ use Rattle.record.specs.File.{file}
 use Rattle.message.specs.Limits.{idLimit}
 use Rattle.message.specs.Header.{headerOf, versionOf, reservedOf, idOf, typeOf, header}
 use Rattle.message.specs.Message.{Kind, isIndex, isRequest, isResponse, isPing, isPong, isIndexUpdate, isOptions, kindOf, Body, body, Sent, message}
+use Rattle.message.specs.Answers.{bodyAnswer, messageAnswer}
 use Rattle.message_write.specs.Writing.{messageBytes, fitted, writing, writtenBuffer}
 use Rattle.promises.specs.Fields.{fieldBytes}
 
@@ -133,6 +135,29 @@ written-reads-back id type b t room l n e u =
         let bytes : l ≡ encode message x = f ∙ take-at (encode message x) t n long in
         ap (λ (y : List ℕ). read message (y ++ u)) bytes ∙ told message x wide-message .reads u ∙ p ∙ ap (λ (k : ℕ). taken x k) long
     go r p (fault k j) m e f = let z : _≡_ {A = ℕ} 0 1 = cc in absurd (omega arith)
+
+-- its ID and its type are those that were given
+pub written-header : (id type : ℕ) (b : List ℕ) (room : ℕ) (l : List ℕ) (n : ℕ) → type ≤ 7 → writing id type b room ≡ taken l n
+    → (idOf (headerOf id type) ≡ id) × (typeOf (headerOf id type) ≡ type)
+unfolding writing
+written-header id type b room l n h = by-id (leb id idLimit) refl
+  where
+    by-id : (c : Bool) → leb id idLimit ≡ c → cond c (fitted room (messageBytes id type b) (read message (messageBytes id type b))) (refused 5 0) ≡ taken l n
+        → (idOf (headerOf id type) ≡ id) × (typeOf (headerOf id type) ≡ type)
+    by-id true q e = let small = leb-true id idLimit q in (omega arith, omega arith)
+    by-id false q e = let z : _≡_ {A = ℕ} 0 1 = cc in absurd (omega arith)
+
+-- so reading it answers the ID and the kind that were given, with the spans of their fields
+pub written-answers : (id type : ℕ) (b : Body (kindOf type)) (t : List ℕ) (room : ℕ) (l : List ℕ) (n : ℕ) → type ≤ 7
+    → writing id type (fieldBytes (kindOf type) b ++ t) room ≡ taken l n
+    → (u : List ℕ) → messageAnswer (readAt message (l ++ u) 0) ≡ bodyAnswer (kindOf type) id (taken b n)
+unfolding readAt
+written-answers id type b t room l n h e u =
+    let q = written-header id type (fieldBytes (kindOf type) b ++ t) room l n h e in
+    subst Answers (q .1) (λ b e. ap messageAnswer (shifted-zero (read message (l ++ u)) ∙ written-reads-back id type b t room l n e u) ∙ ap (λ (i : ℕ). bodyAnswer (kindOf (typeOf (headerOf id type))) i (taken b n)) (q .0)) b e
+  where
+    Answers : ℕ → Type 0
+    Answers k = (b : Body (kindOf k)) → writing id type (fieldBytes (kindOf k) b ++ t) room ≡ taken l n → messageAnswer (shifted 0 (read message (l ++ u))) ≡ bodyAnswer (kindOf k) id (taken b n)
 
 -- an accepted writing changes only the first bytes of the buffer, as many as it reports; a refused one changes none
 pub only-first-bytes : (id type : ℕ) (b out l : List ℕ) (n : ℕ) → writing id type b (length out) ≡ taken l n

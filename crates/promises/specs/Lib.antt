@@ -5,3 +5,8 @@ pub mod Merges
 pub mod History
 pub mod ListCalls
 pub mod RequestList
+pub mod Spans
+pub mod Serving
+pub mod Following
+pub mod Walking
+pub mod Accepting

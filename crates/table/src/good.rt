@@ -1,6 +1,7 @@
 // Good tables.
 ghost use mathlib.Core.Path.{_≡_};
 ghost use Rattle.table.specs.Table.{isGood, isWithin};
+
 const RECORDS_LIMIT: u32 = 512;
 
 const BYTES_LIMIT: usize = 65536;

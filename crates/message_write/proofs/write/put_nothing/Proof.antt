@@ -35,7 +35,7 @@ enum-told-2 c = search needs
 returns : tie.Need-returns
 returns c =
     let a = c .before .before .before .before .args in
-    (checked (c .before .before), ap (λ w. storedBuffer w (now (a .out)) (encode word (a .head) ++ [])) (sym (c .enum-told2 .given .1)))
+    (checked (c .before .before), ap (λ w. storedBuffer w (now (a .out)) (encode word (a .header) ++ [])) (sym (c .enum-told2 .given .1)))
 
 put-word-requires : tie.Need-put-word-requires
 put-word-requires c κs = search needs
@@ -50,11 +50,11 @@ returns-2 c =
     let n = k .enum-told .given .0 .0 in
     let q = body-taken (checked (k .before .before)) (k .enum-told .given .1) in
     let four = nothing-parts (q .1) in
-    let size = number-size 4 (a .head) in (
+    let size = number-size 4 (a .header) in (
       checked (k .before .before),
-      put-next (filled-none (now (a .out))) (encode word (a .head)) size (omega (arith, four, q .2)) (c .before .before .put-word .ensures .1) .fills
-          ∙ ap (filled (now (a .out))) (sym (append-nil (encode word (a .head))) ∙ sym (take-all n (encode word (a .head) ++ []) (simp append-nil (omega (arith, size, four)))))
-          ∙ ap (λ w. storedBuffer w (now (a .out)) (encode word (a .head) ++ [])) (sym (k .enum-told .given .1)),
+      put-next (filled-none (now (a .out))) (encode word (a .header)) size (omega (arith, four, q .2)) (c .before .before .put-word .ensures .1) .fills
+          ∙ ap (filled (now (a .out))) (sym (append-nil (encode word (a .header))) ∙ sym (take-all n (encode word (a .header) ++ []) (simp append-nil (omega (arith, size, four)))))
+          ∙ ap (λ w. storedBuffer w (now (a .out)) (encode word (a .header) ++ [])) (sym (k .enum-told .given .1)),
     )
 
 pub put-nothing-spec : {M : Type 1} → statement M

@@ -1,0 +1,26 @@
+-- Bytes after the end of a message belong to the next one.
+use Prim.Native.Nat.{ℕ}
+use mathlib.Core.List.{List, _++_}
+use mathlib.Core.Path.{_≡_}
+use lib.ListN.{length}
+use Rattle.xdr.specs.Reading.{refused}
+use Rattle.xdr.specs.Format.{read}
+use Rattle.message.specs.Message.{message}
+use Rattle.accept.specs.Accepting.{acceptOutcome}
+use Rattle.serve.specs.Ruling.{rulingOf, servingAnswer, servingBuffer}
+use Rattle.queue.specs.Queue.{answerOf}
+use Rattle.queue.specs.declared.queue.RequestQueue.{RequestQueue}
+use Rattle.promises.specs.History.{said}
+
+-- the bytes are enough to tell: they are taken as a message, or refused with another number than 1
+abbrev pub IsEnough : List ℕ → Type 0
+IsEnough s = (p : ℕ) → read message s ≡ refused 1 p → ⊥
+
+-- each call that is given a message does the same when bytes follow it
+pub record Unchanged (s t : List ℕ) : Type 0 where
+  pub reading : said (s ++ t) ≡ said s
+  pub accepting : (old repository : List ℕ) (room : ℕ) → acceptOutcome old (s ++ t) repository room ≡ acceptOutcome old s repository room
+  pub answering : (q : RequestQueue) → answerOf q (said (s ++ t)) ≡ answerOf q (said s)
+  pub serving : (table repository out : List ℕ)
+      → (servingAnswer (rulingOf table repository (s ++ t)) (length out) ≡ servingAnswer (rulingOf table repository s) (length out))
+      × (servingBuffer (rulingOf table repository (s ++ t)) out ≡ servingBuffer (rulingOf table repository s) out)
