@@ -237,7 +237,7 @@ uint32_t bep_find(const uint8_t *table, size_t table_len, uint32_t length,
  * that offset: answer[0] is 1, [1] and [2] start and length of the name in the message, [3] the
  * offset, [4] the length, and nothing is written. Otherwise the reply, a Response with the same ID and
  * no data (8 bytes), is written: answer[0] is 0 and [1] its length. Refused with 15, what reading the
- * message gives, 18 or 14: answer[0] is 0 and [1] the place.
+ * message gives, 18 or 14: answer[0] is the place.
  */
 uint32_t bep_serve(uint8_t *out, size_t out_len, const uint8_t *table, size_t table_len,
                    const uint8_t *repository, size_t repository_len,
@@ -252,14 +252,19 @@ uint32_t bep_serve(uint8_t *out, size_t out_len, const uint8_t *table, size_t ta
  *   [2]       how many requests are outstanding
  *   [3] [4]   ID and Length of the oldest; those of the others follow, 16 in all, the unused ones 0
  *
- * Each call but the totals returns 22 first, where the queue isn't one that such calls can have made.
- * A refused call leaves the queue as it was, but for an opening, which leaves one that no call takes.
+ * Each call but the totals returns 22 first, where the queue isn't sound: a window of 1 to 16, no more
+ * requests than that, Lengths of 1 to 131,072 and together within the allowance, IDs that rise by one (0
+ * after 4095) up to the next ID. The words of unused entries don't count. The place of 22 is 0. A
+ * refused call leaves the queue as it was.
  */
 enum {
     BEP_QUEUE_WORDS = 35
 };
 
-/* Opens an empty queue with this window, or returns 22. */
+/*
+ * Opens an empty queue with this window. Another window than 1 to 16 returns 22 and leaves an empty
+ * queue of window 0, which every call but the totals refuses.
+ */
 uint32_t bep_queue_open(uint32_t queue[BEP_QUEUE_WORDS], uint32_t window);
 
 /*

@@ -77,7 +77,7 @@ pub fn serve<'a>(
             offset,
             length: word(length),
         }),
-        (number, [_, place, ..]) => Err(Refusal {
+        (number, [place, ..]) => Err(Refusal {
             number,
             place: size(place),
         }),

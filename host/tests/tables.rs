@@ -266,8 +266,10 @@ fn lists_of_merges_give_the_merged_table_of_their_origins() {
     say(&format!(
         "{lists} lists of merges: {calls} calls, no difference"
     ));
-    for number in [0, 14, 15, 19] {
-        assert!(met.get(&number) >= Some(&20), "{number} in {met:?}");
+    if lists >= INPUTS / 4 {
+        for number in [0, 14, 15, 19] {
+            assert!(met.get(&number) >= Some(&20), "{number} in {met:?}");
+        }
     }
 }
 

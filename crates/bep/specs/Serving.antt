@@ -4,13 +4,14 @@ use mathlib.Core.List.{List, [], _∷_}
 use Rattle.serve.specs.declared.ruling.Serving.{Serving}
 use Rattle.serve.specs.declared.ruling.Serving.the-variants.{Served, Replied, Refused}
 
+-- 0, or the number of the refusal
 abbrev pub servingNumber : Serving → ℕ
 servingNumber (Served name offset size) = 0
 servingNumber (Replied n) = 0
 servingNumber (Refused r) = r .number
 
--- 1, the start and the length of the name, the offset and the Length; or 0 and how many bytes of a reply were filled in; or 0 and the place
+-- 1, the start and the length of the name, the offset and the Length; or 0 and how many bytes of a reply were filled in; or the place
 abbrev pub servingWords : Serving → List ℕ
 servingWords (Served name offset size) = 1 ∷ name .start ∷ name .length ∷ offset ∷ size ∷ []
 servingWords (Replied n) = 0 ∷ n ∷ 0 ∷ 0 ∷ 0 ∷ []
-servingWords (Refused r) = 0 ∷ r .place ∷ 0 ∷ 0 ∷ 0 ∷ []
+servingWords (Refused r) = r .place ∷ 0 ∷ 0 ∷ 0 ∷ 0 ∷ []

@@ -25,7 +25,7 @@ fn give_serving(s: Serving, answer: &mut [u64; 5]) -> u32
             0
         }
         Serving::Refused(r) => {
-            *answer = [0, r.place as u64, 0, 0, 0];
+            *answer = [r.place as u64, 0, 0, 0, 0];
             r.number
         }
     }

@@ -121,6 +121,8 @@ static int requests(void)
     CHECK(served[0] == 1 && request[served[1]] == files[8] && served[2] == 1);
     CHECK(served[3] == 0 && served[4] == size);
     CHECK(bep_serve(out, 7, empty, 4, repository, 1, request, length[0], served) == 14);
+    CHECK(bep_serve(out, 8, empty, 4, repository, 1, request, 6, served) == 1);
+    CHECK(served[0] == 4 && served[1] == 0);
     CHECK(bep_serve(out, 8, empty, 4, repository, 1, request, length[0], served) == 0);
     CHECK(served[0] == 0 && served[1] == 8 && memcmp(out, "\0\6\3\0\0\0\0\0", 8) == 0);
     return 0;
