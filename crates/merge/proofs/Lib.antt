@@ -2,6 +2,8 @@
 pub mod TwoLaws
 pub mod NextLaws
 pub mod StepLaws
+pub mod NoteLaws
+pub mod NotingLaws
 pub mod LoopLaws
 pub mod AnswerLaws
 pub mod HighestLaws
