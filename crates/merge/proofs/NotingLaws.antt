@@ -1,24 +1,23 @@
 -- A pass over the records of a resulting table that notes them: two numbers for each, as far as a table may have so many.
-use Prim.Native.Nat.{ℕ, _+_, _-_, _≤_, _<_}
+use Prim.Native.Nat.{ℕ, _+_, _≤_, _<_}
 use mathlib.Core.List.{List, [], _∷_, _++_, append-assoc, append-nil}
 use mathlib.Core.Path.{_≡_, refl, sym, ap, _∙_}
-use mathlib.Core.Bool.{Bool, true, false, cond, and-eq-true-iff}
+use mathlib.Core.Bool.{Bool, true, false, cond}
 use native.Mathlib.Omega.{arith}
-use borrow.Author.Tests.{le-leb, lt-leb, leb-true}
+use borrow.Author.Tests.{le-leb, lt-leb}
 use lib.ListN.{length, take, drop, length-append}
-use lib.Dec.{leb}
 use lib.Seq.{take-at, length-take-le}
 use Rattle.xdr.specs.Format.{encode}
 use Rattle.xdr.specs.Buffer.{over, put, putCount}
 use Rattle.record.specs.File.{File, file}
 use Rattle.table.specs.Order.{part}
-use Rattle.table.specs.Limits.{recordsLimit, bytesLimit}
-use Rattle.table.specs.Table.{isWithin, tableOf}
-use Rattle.table.proofs.TableLaws.{bytesOf, table-length}
+use Rattle.table.specs.Limits.{recordsLimit}
+use Rattle.table.specs.Table.{tableOf}
+use Rattle.table.proofs.TableLaws.{bytesOf}
 use Rattle.merge.specs.Next.{stepBytes}
-use Rattle.merge.specs.Notes.{noteOf, noted, notedAll, putNotes, NotesOf}
+use Rattle.merge.specs.Notes.{noteOf, noted, notedAll, Measured}
 use Rattle.merge.specs.declared.next.Step.{Step}
-use Rattle.merge.proofs.NoteLaws.{noted-by, put-within, put-length, put-fits, count-fits, notes-room, noted-append}
+use Rattle.merge.proofs.NoteLaws.{noted-by, put-within, put-length, put-fits, count-fits, noted-append}
 
 -- the records so far are noted, as long as there were few enough, and the rest is to come
 pub record Noting (a b : List ℕ) (all rest : List File) (notes : List ℕ) (count at : ℕ) : Type 0 where
@@ -57,11 +56,12 @@ front notes at l h =
     ap (take (at + length l)) (sym (append-assoc (take at notes) l (drop (length l) (drop at notes)))) ∙ take-at (take at notes ++ l) (drop (length l) (drop at notes)) (at + length l) long
 
 module _ {a b : List ℕ} {all rest : List File} {notes : List ℕ} {count at : ℕ} (n : Noting a b all rest notes count at) where
-  pub noting-all : rest ≡ [] → count ≤ recordsLimit → NotesOf a b notes all at
-  noting-all e h =
+  pub noting-all : {bytes : ℕ} → rest ≡ [] → (count ≡ length all) × (bytes ≡ length (tableOf all)) → Measured a b (take at notes) all count bytes
+  noting-all e m =
       record {
-        inside = omega (arith, n .inside, n .long);
-        are = sym (append-nil (notedAll a b (take at notes))) ∙ ap (λ (l : List File). notedAll a b (take at notes) ++ bytesOf l) (sym e) ∙ n .follows h;
+        counted = m .0;
+        sized = m .1;
+        are = λ h. sym (append-nil (notedAll a b (take at notes))) ∙ ap (λ (l : List File). notedAll a b (take at notes) ++ bytesOf l) (sym e) ∙ n .follows h;
       }
 
   module _ (s : Step) {k : ℕ} {o : List ℕ} (q : k ≡ putCount notes at (noteOf s)) (p : o ≡ put notes at (noteOf s)) where
@@ -99,18 +99,3 @@ module _ {a b : List ℕ} {all rest : List File} {notes : List ℕ} {count at : 
               ∙ ap (λ (l : List File). notedAll a b (take at notes) ++ bytesOf l) (sym e)
               ∙ n .follows (omega arith);
         }
-
--- a table within the limits has few enough records
-pub few : (count size : ℕ) {t : Bool} → t ≡ isWithin count size → t ≡ true → count ≤ recordsLimit
-few count size e h = leb-true count recordsLimit (and-eq-true-iff (leb count recordsLimit) (leb size bytesLimit) .0 (sym e ∙ h) .0)
-
--- all that is noted is written, as it was lent
-pub notes-written : {a b notes : List ℕ} {fs : List File} {end : ℕ} (out : List ℕ) {o : List ℕ} → NotesOf a b notes fs end → length (tableOf fs) ≤ length out
-    → o ≡ putNotes a b (take (end - 0) notes) out 4 → o ≡ over out 4 (bytesOf fs)
-notes-written {a} {b} {notes} {fs} {end} out n h e =
-    let lent : end - 0 ≡ end = omega arith in
-    let long : length (notedAll a b (take end notes)) ≡ length (bytesOf fs) = ap length (n .are) in
-    e
-    ∙ ap (λ (k : ℕ). putNotes a b (take k notes) out 4) lent
-    ∙ notes-room a b (take end notes) out 4 (omega (arith, table-length fs))
-    ∙ ap (over out 4) (n .are)

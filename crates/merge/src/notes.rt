@@ -1,9 +1,11 @@
 // Notes of the records that a table takes: two numbers each, so that a pass that writes them compares nothing.
 ghost use mathlib.Core.Path.{_≡_};
 ghost use mathlib.Core.List.{[], _∷_};
+ghost use lib.ListN.{length};
 ghost use Rattle.xdr.specs.Buffer.{put, putCount};
-ghost use Rattle.merge.specs.Notes.{noteOf, noted, putNotes};
+ghost use Rattle.merge.specs.Notes.{noteOf, noted, putNotes, tableAnswer, tableAfter};
 use crate::next::Step;
+use table::Filling;
 
 // How many records a table has and how many bytes, and how many numbers are noted of it.
 pub struct Size {
@@ -48,7 +50,7 @@ fn put_note(a: &[u8], b: &[u8], x: usize, y: usize, out: &mut [u8], at: usize) -
 }
 
 // Puts the bytes of all records that are noted, one after another, from a place of the buffer on.
-pub fn put_notes(a: &[u8], b: &[u8], notes: &[usize], out: &mut [u8], at: usize)
+fn put_notes(a: &[u8], b: &[u8], notes: &[usize], out: &mut [u8], at: usize)
     ensures { λ _. ⌜ now (out .exit) ≡ putNotes (now (a .entry)) (now (b .entry)) (now (notes .entry)) (now (out .entry)) at ⌝ }
 {
     let mut to = at;
@@ -57,4 +59,19 @@ pub fn put_notes(a: &[u8], b: &[u8], notes: &[usize], out: &mut [u8], at: usize)
         to += put_note(a, b, notes[k], notes[k + 1], out, to);
         k += 2;
     }
+}
+
+// Puts a table into the first bytes of the buffer, by its size and the notes of its records.
+pub fn put_table(a: &[u8], b: &[u8], notes: &[usize], size: Size, out: &mut [u8]) -> Filling
+    ensures { λ r. ⌜ (r ≡ tableAnswer (size .count) (size .bytes) (length (now (out .entry)))) × (now (out .exit) ≡ tableAfter (now (a .entry)) (now (b .entry)) (now (notes .entry)) (size .count) (size .bytes) (now (out .entry))) ⌝ }
+{
+    if !table::within_limits(size.count, size.bytes) {
+        return table::refused(19);
+    }
+    if out.len() < size.bytes {
+        return table::refused(14);
+    }
+    xdr::put_word(out, 0, size.count);
+    put_notes(a, b, notes, out, 4);
+    Filling::Filled(size.bytes)
 }

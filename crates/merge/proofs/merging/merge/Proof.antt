@@ -7,6 +7,7 @@ use lib.ListN.{length}
 use Rattle.table.specs.Table.{isGood}
 use Rattle.table.proofs.FillingLaws.{is-refused, same-outcome}
 use Rattle.merge.proofs.AnswerLaws.{first-bad, second-bad, both-good}
+use Rattle.merge.proofs.PutLaws.{table-put}
 use borrow.Author.Needs.{needs}
 use Rattle.merge.proofs.merging.merge.Statement.{statement}
 use Rattle.merge.proofs.merging.merge.Tie as tie
@@ -42,17 +43,34 @@ returns-2 c =
     is-refused (now (s .out))
     (second-bad (now (s .a)) (now (s .b)) (length (now (s .out))) (first-good g) (sym (c .before .before .is-good2 .ensures) ∙ not-true _ (c .before .if2 .taken))) (c .refused2 .ensures)
 
-fill-requires : tie.Need-fill-requires
-fill-requires c κs = (first-good (c .before .before .before), second-good (c .before))
+slice-aggregate-note-records : tie.Need-slice-aggregate-note-records
+slice-aggregate-note-records c = search needs
+
+note-records-requires : tie.Need-note-records-requires
+note-records-requires c κs = (first-good (c .before .before .before), second-good (c .before), search needs)
+
+sub-put-table : tie.Need-sub-put-table
+sub-put-table c = search needs
+
+part-put-table-start : tie.Need-part-put-table-start
+part-put-table-start c = search needs
+
+part-put-table-end : tie.Need-part-put-table-end
+part-put-table-end c = search needs
+
+put-table-requires : tie.Need-put-table-requires
+put-table-requires c κs = search needs
 
 same-length : tie.Need-same-length
 same-length c = search needs
 
 returns-3 : tie.Need-returns-3
 returns-3 c =
-    let g = c .before .before .before .before in
+    let g = c .before .before .before .before .before .before .before .before .before in
     let s = g .before .before .before .before .before .before .before .args in
-    same-outcome (now (s .out)) (both-good (now (s .a)) (now (s .b)) (length (now (s .out))) (first-good (g .before .before)) (second-good g)) (c .before .before .fill .ensures)
+    let n = c .before .before .before .before .before .before .before .note-records in
+    same-outcome (now (s .out)) (both-good (now (s .a)) (now (s .b)) (length (now (s .out))) (first-good (g .before .before)) (second-good g))
+    (table-put (now (s .a)) (now (s .b)) (n .last .1 .1 .0) (n .result .noted) (n .result .count) (n .result .bytes) (now (s .out)) (n .ensures .1) (c .before .before .put-table .ensures))
 
 pub merge-spec : {M : Type 1} → statement M
 merge-spec =
@@ -64,6 +82,11 @@ merge-spec =
     is-good-requires-2
     refused-requires-2
     returns-2
-    fill-requires
+    slice-aggregate-note-records
+    note-records-requires
+    sub-put-table
+    part-put-table-start
+    part-put-table-end
+    put-table-requires
     same-length
     returns-3)
