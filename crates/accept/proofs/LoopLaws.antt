@@ -1,4 +1,4 @@
--- The passes over the resulting records: what is left at the places of both sources, and the turns.
+-- The pass over the resulting records: what is left at the places of both sources, and the turns.
 use Prim.Native.Nat.{ℕ, _+_, _-_, _≤_}
 use mathlib.Core.List.{List, []}
 use mathlib.Core.Path.{_≡_, sym, ap, subst, _∙_}
@@ -11,10 +11,11 @@ use Rattle.table.specs.Limits.{recordsLimit, bytesLimit}
 use Rattle.table.specs.Table.{isGood, records, tableOf}
 use Rattle.table.proofs.TableLaws.{bytesOf, table-length, good-table}
 use Rattle.table.proofs.WalkLaws.{At, at-start, at-last}
-use Rattle.table.proofs.PassLaws.{Counted, counted-none, Wrote, wrote-none}
+use Rattle.table.proofs.PassLaws.{Counted, counted-none}
 use Rattle.merge.specs.declared.next.Step.{Step}
 use Rattle.merge.specs.declared.next.Next.{Next}
 use Rattle.merge.specs.declared.next.Next.the-variants.{End, More}
+use Rattle.merge.proofs.NotingLaws.{Noting, noting-none}
 use Rattle.accept.specs.Next.{nextOf}
 use Rattle.accept.specs.Resulting.{byName, resulting}
 use Rattle.accept.specs.Sorted.{Places, InOrder}
@@ -55,11 +56,12 @@ module _ (s places old : List ℕ) (update : Bool) (p : InOrder s places) (b : I
   begun-all : overlay (byName (records s) []) source ≡ all
   begun-all = overlay-sorted (records s) source ∙ sym result-is
 
-  pub begun-counting : {j : ℕ} → j ≡ cond update 4 (length old) → (l : Left s places old 0 j) × Counted all (rest l) 0 4
-  begun-counting e = (begun e, subst (λ (l : List File). Counted all l 0 4) (sym begun-all) (counted-none all))
-
-  pub begun-writing : (out : List ℕ) {j : ℕ} → j ≡ cond update 4 (length old) → (l : Left s places old 0 j) × Wrote all out out (rest l) 4
-  begun-writing out e = (begun e, subst (λ (l : List File). Wrote all out out l 4) (sym begun-all) (wrote-none all out))
+  pub begun-noting : (notes : List ℕ) → length notes ≡ 1024 → {j : ℕ} → j ≡ cond update 4 (length old) → (l : Left s places old 0 j) × Counted all (rest l) 0 4 × Noting s old all (rest l) notes 0 0
+  begun-noting notes h e = (
+    begun e,
+    subst (λ (l : List File). Counted all l 0 4) (sym begun-all) (counted-none all),
+    subst (λ (l : List File). Noting s old all l notes 0 0) (sym begun-all) (noting-none s old all notes h),
+  )
 
   -- what the sizes can be at most
   source-few : (u : Bool) → (length (cond u (records old) []) ≤ recordsLimit) × (4 + length (bytesOf (cond u (records old) [])) ≤ bytesLimit)

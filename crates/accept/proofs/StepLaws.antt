@@ -55,6 +55,7 @@ pub record Took (s places : List ℕ) (fs : List File) (old : List ℕ) (gs : Li
   pub is : overlay fs gs ≡ head ∷ overlay lefts rights
   pub bytes-are : stepBytes s old t ≡ encode file head
   pub sized : t .end ≡ t .start + length (encode file head)
+  pub some : t .start < t .end
   pub left : Places s (drop (t .i) places) lefts
   pub inside : t .i ≤ length places
   pub right : At old (t .j) rights
@@ -70,14 +71,14 @@ module _ (s places : List ℕ) (i : ℕ) (old : List ℕ) (j : ℕ) where
       → Steps s places i (f ∷ fs) old j gs (fromSent (getD places i 0) (fieldsOf (getD places i 0) f .past) (i + 1) y)
   takes-sent {f} {fs} {gs} rs y p w h m =
       let q = standing (p .stood .1) in
-      record { head = f; lefts = fs; rights = rs; is = m; bytes-are = q .bytes-are; sized = q .sized; left = p .others; inside = omega (arith, p .some); right = w; grows = omega arith }
+      record { head = f; lefts = fs; rights = rs; is = m; bytes-are = q .bytes-are; sized = q .sized; some = omega (arith, q .sized); left = p .others; inside = omega (arith, p .some); right = w; grows = omega arith }
 
   -- the old one
   takes-old : {g : File} {fs gs : List File} → i ≤ length places → Places s (drop i places) fs → At old j (g ∷ gs) → overlay fs (g ∷ gs) ≡ g ∷ overlay fs gs
       → Steps s places i fs old j (g ∷ gs) (fromRight j (fieldsOf j g .past) i)
   takes-old {g} {fs} {gs} h u w m =
       let q = standing w in
-      record { head = g; lefts = fs; rights = gs; is = m; bytes-are = q .bytes-are; sized = q .sized; left = u; inside = h; right = q .next; grows = omega arith }
+      record { head = g; lefts = fs; rights = gs; is = m; bytes-are = q .bytes-are; sized = q .sized; some = omega (arith, q .sized); left = u; inside = h; right = q .next; grows = omega arith }
 
   takes : (f g : File) (fs gs : List File) → i ≤ length places → Places s (drop i places) (f ∷ fs) → At old j (g ∷ gs) → (o : Order) → compareLists (f .name) (g .name) ≡ o
       → Steps s places i (f ∷ fs) old j (g ∷ gs) (chosen (getD places i 0) (fieldsOf (getD places i 0) f .past) i j (fieldsOf j g .past) o)

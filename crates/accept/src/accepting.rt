@@ -4,11 +4,9 @@ ghost use mathlib.Core.List.{[], _∷_, _++_};
 ghost use mathlib.Core.Bool.{true, cond};
 ghost use Prim.Native.Nat.{_+_, _-_, _≤_, _<_};
 ghost use lib.ListN.{length, take, drop};
-ghost use Rattle.xdr.specs.Buffer.{over};
-ghost use Rattle.xdr.specs.Format.{encode, encodeAll};
-ghost use Rattle.record.specs.File.{file};
-ghost use Rattle.table.specs.Table.{isGood, records, tableOf};
+ghost use Rattle.table.specs.Table.{isGood, records};
 ghost use Rattle.table.specs.Filling.{fillingAnswer, bufferAfter, tableInto};
+ghost use Rattle.merge.specs.Notes.{Measured};
 ghost use Rattle.accept.specs.Resulting.{resulting};
 ghost use Rattle.accept.specs.Accepting.{unrepeated, acceptOutcome};
 ghost use Rattle.accept.specs.Sorted.{IsArray, InOrder, SortedTo};
@@ -18,7 +16,9 @@ use crate::next::next_at;
 use crate::slot::Slot;
 use crate::slot::slot_of;
 use merge::next::Next;
-use merge::next::put_step;
+use merge::notes::Size;
+use merge::notes::note;
+use merge::notes::put_table;
 use record::Outline;
 use table::Filling;
 use xdr::Refusal;
@@ -27,12 +27,6 @@ use xdr::Refusal;
 enum Sorting {
     Sorted(usize),
     Repeated(usize),
-}
-
-// How many records a table has, and how many bytes.
-struct Size {
-    count: u32,
-    bytes: usize,
 }
 
 // A place among places: those behind it move up, and the last is lost.
@@ -78,40 +72,27 @@ fn start_of(old: &[u8], update: bool) -> usize
     old.len()
 }
 
-// The size of the resulting table.
-fn measure(s: &[u8], places: &[usize], old: &[u8], update: bool) -> Size
-    requires { ⌜ InOrder (now s) (now places) × (isGood (now old) ≡ true) ⌝ }
-    ensures { λ r. ⌜ (r .count ≡ length (resulting update (records (now (s .entry))) (records (now (old .entry))))) × (r .bytes ≡ length (tableOf (resulting update (records (now (s .entry))) (records (now (old .entry)))))) ⌝ }
+// Notes the resulting records, as far as there is room, and measures the resulting table.
+fn note_records(s: &[u8], places: &[usize], old: &[u8], update: bool, notes: &mut [usize]) -> Size
+    requires { ⌜ InOrder (now s) (now places) × (isGood (now old) ≡ true) × (length (now notes) ≡ 1024) ⌝ }
+    ensures { λ r. ⌜ (r .noted ≤ length (now (notes .exit))) × Measured (now (s .entry)) (now (old .entry)) (take (r .noted) (now (notes .exit))) (resulting update (records (now (s .entry))) (records (now (old .entry)))) (r .count) (r .bytes) ⌝ }
 {
     let mut i = 0;
     let mut j = start_of(old, update);
     let mut count = 0;
     let mut bytes = 4;
+    let mut noted = 0;
     loop {
         let Next::More(step) = next_at(s, places, i, old, j) else {
-            return Size { count, bytes };
+            return Size {
+                count,
+                bytes,
+                noted,
+            };
         };
         bytes += step.end - step.start;
         count += 1;
-        i = step.i;
-        j = step.j;
-    }
-}
-
-// The resulting records, from place 4 on.
-fn write_records(s: &[u8], places: &[usize], old: &[u8], update: bool, out: &mut [u8])
-    requires { ⌜ InOrder (now s) (now places) × (isGood (now old) ≡ true) ⌝ }
-    requires { ⌜ length (tableOf (resulting update (records (now s)) (records (now old)))) ≤ length (now out) ⌝ }
-    ensures { λ _. ⌜ now (out .exit) ≡ over (now (out .entry)) 4 (encodeAll (λ f. encode file f) (resulting update (records (now (s .entry))) (records (now (old .entry))))) ⌝ }
-{
-    let mut i = 0;
-    let mut j = start_of(old, update);
-    let mut at = 4;
-    loop {
-        let Next::More(step) = next_at(s, places, i, old, j) else {
-            return;
-        };
-        at += put_step(s, old, step, out, at);
+        noted += note(notes, noted, step);
         i = step.i;
         j = step.j;
     }
@@ -122,16 +103,10 @@ fn fill(s: &[u8], places: &[usize], old: &[u8], update: bool, out: &mut [u8]) ->
     requires { ⌜ InOrder (now s) (now places) × (isGood (now old) ≡ true) ⌝ }
     ensures { λ r. ⌜ (r ≡ fillingAnswer (tableInto (resulting update (records (now (s .entry))) (records (now (old .entry)))) (length (now (out .entry))))) × (now (out .exit) ≡ bufferAfter (tableInto (resulting update (records (now (s .entry))) (records (now (old .entry)))) (length (now (out .entry)))) (now (out .entry))) ⌝ }
 {
-    let size = measure(s, places, old, update);
-    if !table::within_limits(size.count, size.bytes) {
-        return table::refused(19);
-    }
-    if out.len() < size.bytes {
-        return table::refused(14);
-    }
-    xdr::put_word(out, 0, size.count);
-    write_records(s, places, old, update, out);
-    Filling::Filled(size.bytes)
+    let mut notes = [0usize; 1024];
+    let size = note_records(s, places, old, update, &mut notes);
+    let end = size.noted;
+    put_table(s, old, &notes[0..end], size, out)
 }
 
 // The records of a message's array, which begins at a place of the message.

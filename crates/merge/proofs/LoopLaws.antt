@@ -1,4 +1,4 @@
--- The passes over the merged records: what is left at the places of both tables.
+-- The pass over the merged records: what is left at the places of both tables.
 use Prim.Native.Nat.{ℕ, _+_, _-_, _≤_}
 use mathlib.Core.List.{List, []}
 use mathlib.Core.Path.{_≡_, sym, subst, _∙_}
@@ -10,7 +10,7 @@ use Rattle.table.specs.Limits.{bytesLimit}
 use Rattle.table.specs.Table.{isGood, records}
 use Rattle.table.proofs.TableLaws.{good-table}
 use Rattle.table.proofs.WalkLaws.{At, at-start}
-use Rattle.table.proofs.PassLaws.{Counted, counted-none, Wrote, wrote-none}
+use Rattle.table.proofs.PassLaws.{Counted, counted-none}
 use Rattle.merge.specs.Answer.{mergedRecords}
 use Rattle.merge.specs.Next.{nextOf}
 use Rattle.merge.specs.declared.next.Step.{Step}
@@ -18,6 +18,7 @@ use Rattle.merge.specs.declared.next.Next.{Next}
 use Rattle.merge.specs.declared.next.Next.the-variants.{End, More}
 use Rattle.merge.proofs.TwoLaws.{merged, merged-two}
 use Rattle.merge.proofs.StepLaws.{Took, Steps, steps}
+use Rattle.merge.proofs.NotingLaws.{Noting, noting-none}
 
 -- the records of two good tables that are left, at a place of each
 pub record Left (a b : List ℕ) (i j : ℕ) : Type 0 where
@@ -48,11 +49,12 @@ module _ (a b : List ℕ) (p : IsBytes a) (q : IsBytes b) (g : isGood a ≡ true
   unfolding mergedRecords
   begun-all = merged-two (records a) (records b) (good-table a p g .rising) (good-table b q h .rising)
 
-  pub begun-counting : (l : Left a b 4 4) × Counted (mergedRecords a b) (rest l) 0 4
-  begun-counting = (begun, subst (λ (l : List File). Counted (mergedRecords a b) l 0 4) (sym begun-all) (counted-none (mergedRecords a b)))
-
-  pub begun-writing : (out : List ℕ) → (l : Left a b 4 4) × Wrote (mergedRecords a b) out out (rest l) 4
-  begun-writing out = (begun, subst (λ (l : List File). Wrote (mergedRecords a b) out out l 4) (sym begun-all) (wrote-none (mergedRecords a b) out))
+  pub begun-noting : (notes : List ℕ) → length notes ≡ 1024 → (l : Left a b 4 4) × Counted (mergedRecords a b) (rest l) 0 4 × Noting a b (mergedRecords a b) (rest l) notes 0 0
+  begun-noting notes e = (
+    begun,
+    subst (λ (l : List File). Counted (mergedRecords a b) l 0 4) (sym begun-all) (counted-none (mergedRecords a b)),
+    subst (λ (l : List File). Noting a b (mergedRecords a b) l notes 0 0) (sym begun-all) (noting-none a b (mergedRecords a b) notes e),
+  )
 
 module _ {a b : List ℕ} {i j : ℕ} (l : Left a b i j) where
   -- the next step, by the answer that was given

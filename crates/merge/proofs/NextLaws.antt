@@ -1,17 +1,14 @@
--- Which record is next, by the outlines at the two places, and what is put of it.
+-- Which record is next, by the outlines at the two places.
 use Prim.Native.Nat.{ℕ}
 use mathlib.Core.List.{List}
 use mathlib.Core.Path.{_≡_, sym, ap, _∙_}
-use mathlib.Core.Bool.{Bool, cond}
-use Rattle.xdr.specs.Buffer.{put, putCount}
 use Rattle.record.specs.Outline.{outlineOf}
 use Rattle.record.specs.declared.outline.Fields.{Fields}
 use Rattle.record.specs.declared.outline.Outline.{Outline}
 use Rattle.order.specs.Order.{compareLists, part}
 use Rattle.table.specs.Newest.{compareAt}
 use Rattle.order.specs.declared.compare.Order.{Order}
-use Rattle.merge.specs.Next.{chosen, chosenOf, nextBy, nextOf, stepBytes}
-use Rattle.merge.specs.declared.next.Step.{Step}
+use Rattle.merge.specs.Next.{chosen, chosenOf, nextBy, nextOf}
 use Rattle.merge.specs.declared.next.Next.{Next}
 
 -- by the answers x and y that were given, and what they are
@@ -27,10 +24,3 @@ module _ (a : List ℕ) (i : ℕ) (f : Fields) (b : List ℕ) (j : ℕ) (g : Fie
 
   pub by-records : {r : Next} {y o : Order} → y ≡ compareAt a f b g → y ≡ o → r ≡ chosen i j (f .past) (g .past) n o → r ≡ chosenOf a i f b j g
   by-records p q h = by-names (h ∙ ap (λ (o : Order). chosen i j (f .past) (g .past) n o) (sym q ∙ p))
-
--- a put of the bytes that a step takes
-pub step-put : (a b : List ℕ) (s : Step) (out : List ℕ) (at : ℕ) {t : Bool} {l o : List ℕ} {n : ℕ} → s .left ≡ t → l ≡ part (cond t a b) (s .start) (s .end)
-    → (n ≡ putCount out at l) × (o ≡ put out at l) → (n ≡ putCount out at (stepBytes a b s)) × (o ≡ put out at (stepBytes a b s))
-step-put a b s out at {t} {l} {o} {n} e h p =
-    let same : l ≡ stepBytes a b s = h ∙ ap (λ (u : Bool). part (cond u a b) (s .start) (s .end)) (sym e) in
-    (p .0 ∙ ap (putCount out at) same, p .1 ∙ ap (put out at) same)

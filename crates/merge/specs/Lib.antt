@@ -1,4 +1,5 @@
 pub mod Merged
 pub mod Highest
 pub mod Next
+pub mod Notes
 pub mod Answer

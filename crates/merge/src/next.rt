@@ -1,7 +1,6 @@
 // Which record a merge takes next.
 ghost use mathlib.Core.Path.{_≡_};
-ghost use Rattle.xdr.specs.Buffer.{put, putCount};
-ghost use Rattle.merge.specs.Next.{fromLeft, fromRight, chosenOf, nextOf, stepBytes};
+ghost use Rattle.merge.specs.Next.{fromLeft, fromRight, chosenOf, nextOf};
 use order::Order;
 use record::Fields;
 use record::Outline;
@@ -74,14 +73,4 @@ pub fn next_at(a: &[u8], i: usize, b: &[u8], j: usize) -> Next
             Outline::Whole(g) => choose(a, i, f, b, j, g),
         },
     }
-}
-
-// Puts the bytes that are taken at a place of the buffer.
-pub fn put_step(a: &[u8], b: &[u8], step: Step, out: &mut [u8], at: usize) -> usize
-    ensures { λ r. ⌜ (r ≡ putCount (now (out .entry)) at (stepBytes (now (a .entry)) (now (b .entry)) step)) × (now (out .exit) ≡ put (now (out .entry)) at (stepBytes (now (a .entry)) (now (b .entry)) step)) ⌝ }
-{
-    if step.left {
-        return xdr::put_raw(out, at, order::part(a, step.start, step.end));
-    }
-    xdr::put_raw(out, at, order::part(b, step.start, step.end))
 }

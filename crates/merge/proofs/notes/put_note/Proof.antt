@@ -1,9 +1,11 @@
--- `merge::next::put_step` meets its contract.
+-- `merge::notes::put_note` meets its contract.
+use mathlib.Core.Path.{_∙_}
+use borrow.Author.Tests.{le-leb, lt-leb}
 use denote.Ref.{now}
-use Rattle.merge.proofs.NextLaws.{step-put}
+use Rattle.merge.proofs.NoteLaws.{put-by, noted-by}
 use borrow.Author.Needs.{needs}
-use Rattle.merge.proofs.next.put_step.Statement.{statement}
-use Rattle.merge.proofs.next.put_step.Tie as tie
+use Rattle.merge.proofs.notes.put_note.Statement.{statement}
+use Rattle.merge.proofs.notes.put_note.Tie as tie
 
 part-requires : tie.Need-part-requires
 part-requires c κs = search needs
@@ -17,7 +19,7 @@ same-length c = search needs
 returns : tie.Need-returns
 returns c =
     let s = c .before .before .before .before .before .before .before .before .before .args in
-    step-put (now (s .a)) (now (s .b)) (s .step) (now (s .out)) (s .at) (c .before .before .before .before .before .if1 .taken) (c .before .before .before .part .ensures) (c .before .before .put-raw .ensures)
+    put-by (now (s .out)) (s .at) (c .before .before .before .part .ensures ∙ noted-by (now (s .a)) (now (s .b)) (s .x) (s .y) (le-leb (s .x) (s .y) (c .before .before .before .before .before .if1 .taken))) (c .before .before .put-raw .ensures)
 
 part-requires-2 : tie.Need-part-requires-2
 part-requires-2 c κs = search needs
@@ -31,10 +33,10 @@ same-length-2 c = search needs
 returns-2 : tie.Need-returns-2
 returns-2 c =
     let s = c .before .before .before .before .before .before .before .before .before .args in
-    step-put (now (s .a)) (now (s .b)) (s .step) (now (s .out)) (s .at) (c .before .before .before .before .before .if1 .left) (c .before .before .before .part2 .ensures) (c .before .before .put-raw2 .ensures)
+    put-by (now (s .out)) (s .at) (c .before .before .before .part2 .ensures ∙ noted-by (now (s .a)) (now (s .b)) (s .x) (s .y) (lt-leb (s .x) (s .y) (c .before .before .before .before .before .if1 .left))) (c .before .before .put-raw2 .ensures)
 
-pub put-step-spec : {M : Type 1} → statement M
-put-step-spec =
+pub put-note-spec : {M : Type 1} → statement M
+put-note-spec =
     tie.close
     (tie.spec
     part-requires

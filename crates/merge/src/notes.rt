@@ -1,0 +1,77 @@
+// Notes of the records that a table takes: two numbers each, so that a pass that writes them compares nothing.
+ghost use mathlib.Core.Path.{_≡_};
+ghost use mathlib.Core.List.{[], _∷_};
+ghost use lib.ListN.{length};
+ghost use Rattle.xdr.specs.Buffer.{put, putCount};
+ghost use Rattle.merge.specs.Notes.{noteOf, noted, putNotes, tableAnswer, tableAfter};
+use crate::next::Step;
+use table::Filling;
+
+// How many records a table has and how many bytes, and how many numbers are noted of it.
+pub struct Size {
+    pub count: u32,
+    pub bytes: usize,
+    pub noted: usize,
+}
+
+// Two numbers at a place of the notes, and how many were put: none where there is no room for both.
+fn put_pair(notes: &mut [usize], at: usize, x: usize, y: usize) -> usize
+    ensures { λ r. ⌜ (r ≡ putCount (now (notes .entry)) at (x ∷ y ∷ [])) × (now (notes .exit) ≡ put (now (notes .entry)) at (x ∷ y ∷ [])) ⌝ }
+{
+    if notes.len() < 2 {
+        return 0;
+    }
+    if notes.len() - 2 < at {
+        return 0;
+    }
+    notes[at] = x;
+    notes[at + 1] = y;
+    2
+}
+
+// Notes a record that is taken: where it starts and where it ends, or for the second table where it ends and where it starts.
+pub fn note(notes: &mut [usize], at: usize, step: Step) -> usize
+    ensures { λ r. ⌜ (r ≡ putCount (now (notes .entry)) at (noteOf step)) × (now (notes .exit) ≡ put (now (notes .entry)) at (noteOf step)) ⌝ }
+{
+    if step.left {
+        return put_pair(notes, at, step.start, step.end);
+    }
+    put_pair(notes, at, step.end, step.start)
+}
+
+// Puts the bytes of a record that is noted at a place of the buffer.
+fn put_note(a: &[u8], b: &[u8], x: usize, y: usize, out: &mut [u8], at: usize) -> usize
+    ensures { λ r. ⌜ (r ≡ putCount (now (out .entry)) at (noted (now (a .entry)) (now (b .entry)) x y)) × (now (out .exit) ≡ put (now (out .entry)) at (noted (now (a .entry)) (now (b .entry)) x y)) ⌝ }
+{
+    if x <= y {
+        return xdr::put_raw(out, at, order::part(a, x, y));
+    }
+    xdr::put_raw(out, at, order::part(b, y, x))
+}
+
+// Puts the bytes of all records that are noted, one after another, from a place of the buffer on.
+fn put_notes(a: &[u8], b: &[u8], notes: &[usize], out: &mut [u8], at: usize)
+    ensures { λ _. ⌜ now (out .exit) ≡ putNotes (now (a .entry)) (now (b .entry)) (now (notes .entry)) (now (out .entry)) at ⌝ }
+{
+    let mut to = at;
+    let mut k = 0;
+    while 2 <= notes.len() - k {
+        to += put_note(a, b, notes[k], notes[k + 1], out, to);
+        k += 2;
+    }
+}
+
+// Puts a table into the first bytes of the buffer, by its size and the notes of its records.
+pub fn put_table(a: &[u8], b: &[u8], notes: &[usize], size: Size, out: &mut [u8]) -> Filling
+    ensures { λ r. ⌜ (r ≡ tableAnswer (size .count) (size .bytes) (length (now (out .entry)))) × (now (out .exit) ≡ tableAfter (now (a .entry)) (now (b .entry)) (now (notes .entry)) (size .count) (size .bytes) (now (out .entry))) ⌝ }
+{
+    if !table::within_limits(size.count, size.bytes) {
+        return table::refused(19);
+    }
+    if out.len() < size.bytes {
+        return table::refused(14);
+    }
+    xdr::put_word(out, 0, size.count);
+    put_notes(a, b, notes, out, 4);
+    Filling::Filled(size.bytes)
+}
