@@ -11,7 +11,7 @@ use std::env;
 use std::io::Write;
 use std::ops::Range;
 use support::compare::{same, same_bytes, Compared};
-use support::encode::{Encoding, File};
+use support::encode::{Block, Encoding, File};
 use support::generate::text;
 use support::library::ffi;
 use support::random::Random;
@@ -271,6 +271,33 @@ fn lists_of_merges_give_the_merged_table_of_their_origins() {
             assert!(met.get(&number) >= Some(&20), "{number} in {met:?}");
         }
     }
+}
+
+#[test]
+fn a_merge_is_refused_in_one_grouping_and_not_in_another() {
+    let block = Block {
+        length: 1,
+        hash: [7; 32],
+    };
+    let file = |name: &str, version, blocks| File {
+        name: name.as_bytes().to_vec(),
+        flags: 0o644,
+        modified: 0,
+        version,
+        blocks: vec![block; blocks],
+    };
+    let a = encode(&[file("a", 0, 1_000)]);
+    let b = encode(&[file("b", 0, 1_000)]);
+    let newer = encode(&[file("a", 1, 0)]);
+    let mut out = vec![0; 65_536];
+    assert_eq!(fordtrumpet::merge(&a, &b, &mut out).unwrap_err().number, 19);
+    let length = fordtrumpet::merge(&a, &newer, &mut out).unwrap();
+    let shorter = out[..length].to_vec();
+    let length = fordtrumpet::merge(&shorter, &b, &mut out).unwrap();
+    assert_eq!(
+        out[..length],
+        encode(&[file("a", 1, 0), file("b", 0, 1_000)])
+    );
 }
 
 /// Compares calls with a fault until that is found.

@@ -1,0 +1,126 @@
+//! Runs the programs in folders of their own and reads what they print. `rt check` builds them.
+
+#[allow(dead_code)]
+mod reference;
+#[allow(dead_code)]
+mod support;
+
+use std::path::{Path, PathBuf};
+use std::process::Command;
+use std::{env, fs};
+use support::encode::{Block, File};
+use support::tables::encode;
+
+/// Runs a program in a new folder that holds these files, and gives what it prints.
+fn run(program: &str, case: &str, files: &[(&str, &[u8])]) -> String {
+    let folder = folder(program, case);
+    for (name, bytes) in files {
+        fs::write(folder.join(name), bytes).unwrap();
+    }
+    run_in(program, &folder)
+}
+
+fn folder(program: &str, case: &str) -> PathBuf {
+    let folder = Path::new(env!("CARGO_TARGET_TMPDIR"))
+        .join(program)
+        .join(case);
+    let _ = fs::remove_dir_all(&folder);
+    fs::create_dir_all(&folder).unwrap();
+    folder
+}
+
+fn run_in(program: &str, folder: &Path) -> String {
+    let path = Path::new(env!("CARGO_MANIFEST_DIR"))
+        .join("../target/bin")
+        .join(program);
+    let output = Command::new(&path)
+        .current_dir(folder)
+        .output()
+        .unwrap_or_else(|error| panic!("{}: {error} (`rt check {program}`)", path.display()));
+    assert!(output.status.success());
+    String::from_utf8(output.stdout).unwrap()
+}
+
+fn file(name: &str, blocks: impl Iterator<Item = u32>) -> File {
+    let block = |number: u32| {
+        let mut hash = [0; 32];
+        hash[..4].copy_from_slice(&number.to_be_bytes());
+        Block { length: 5, hash }
+    };
+    File {
+        name: name.as_bytes().to_vec(),
+        flags: 0o644,
+        modified: 0,
+        version: 0,
+        blocks: blocks.map(block).collect(),
+    }
+}
+
+#[test]
+fn wanted_prints_nothing_but_a_closing_line_where_nothing_is_wanted() {
+    assert_eq!(run("wanted", "no_files", &[]), "wanted 0\n");
+    let held = encode(&[file("a", 0..3)]);
+    let files: [(&str, &[u8]); 2] = [("local", &held), ("peer4", &held)];
+    assert_eq!(run("wanted", "all_held", &files), "wanted 0\n");
+}
+
+#[test]
+fn wanted_refuses_what_is_no_good_table() {
+    let long = vec![0; 65_537];
+    let mut stale = encode(&[file("a", 0..1)]);
+    stale.push(0);
+    for (case, name, bytes) in [
+        ("too_long", "local", &long[..]),
+        ("stale_end", "peer3", &stale),
+        ("no_bytes", "peer1", &[]),
+    ] {
+        assert_eq!(
+            run("wanted", case, &[(name, bytes)]),
+            "refused 15\n",
+            "{case}"
+        );
+    }
+    let folder = folder("wanted", "a_folder");
+    fs::create_dir(folder.join("peer2")).unwrap();
+    assert_eq!(run_in("wanted", &folder), "refused 15\n");
+}
+
+#[test]
+fn wanted_lends_65536_bytes_for_the_list() {
+    // A table has room for 1,600 blocks, so that two make more than the 2,730 entries that fit.
+    let first = encode(&[file("a", 0..800), file("b", 800..1_600)]);
+    let second = |count: u32| encode(&[file("c", 1_600..2_400), file("d", 2_400..2_400 + count)]);
+    let fits = run(
+        "wanted",
+        "fits",
+        &[("peer1", &first), ("peer2", &second(330))],
+    );
+    assert_eq!(fits.lines().count(), 2_731);
+    assert!(fits.ends_with("file 3 block 329 offset 1645 length 5 peer 2\nwanted 2730\n"));
+    let over = run(
+        "wanted",
+        "over",
+        &[("peer1", &first), ("peer2", &second(331))],
+    );
+    assert_eq!(over, "refused 14\n");
+}
+
+#[test]
+fn listing_prints_a_line_for_each_record() {
+    assert_eq!(run("listing", "no_file", &[]), "refused 15\n");
+    assert_eq!(run("listing", "empty", &[("table", &[0; 4])]), "");
+    assert_eq!(
+        run("listing", "no_bytes", &[("table", &[])]),
+        "refused 15\n"
+    );
+    assert_eq!(
+        run("listing", "too_long", &[("table", &[0; 65_537])]),
+        "refused 15\n"
+    );
+    let files: Vec<_> = (0..512)
+        .map(|i| file(&format!("{i:03}"), 0..i % 2))
+        .collect();
+    let printed = run("listing", "full", &[("table", &encode(&files))]);
+    assert_eq!(printed.lines().count(), 512);
+    assert!(printed.ends_with("511 511 blocks 1 bytes 5 modified 0 version 0\n"));
+}
