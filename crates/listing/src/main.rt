@@ -2,18 +2,17 @@
 mod line;
 
 use libc::STDOUT_FILENO;
-use walker::Step;
+use walker::Walker;
 
 // A line for each record from the first on. A good table has at most 512, and the last turn meets the end.
 fn list(table: &[u8]) {
-    let mut at = 4;
+    let mut walker = Walker::open(table);
     let mut number: u32 = 0;
     while number <= 512 {
-        let step = walker::step_at(table, at);
+        let step = walker.step();
         if !line::show(table, number, step) {
             return;
         }
-        at = walker::next_place(step, at);
         number += 1;
     }
 }

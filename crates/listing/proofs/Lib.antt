@@ -1,0 +1,3 @@
+-- How a walker in a local is stepped.
+pub mod Lent
+pub mod Stepping
