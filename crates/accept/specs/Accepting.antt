@@ -32,7 +32,7 @@ listed update old expected room sent =
     (unrepeated [] (firstRecord (sent .0)) (sent .1) (tableInto (resulting update (sent .1) (records old)) room))
     (refused 21 0)
 
--- a message of each kind: only those two are taken (18)
+-- a message of each kind: only an Index and an IndexUpdate are accepted (18)
 abbrev pub ofKind : (old expected : List ℕ) → (room : ℕ) → (k : Kind) → Body k → Outcome
 ofKind old expected room isIndex sent = listed false old expected room sent
 ofKind old expected room isRequest sent = refused 18 0

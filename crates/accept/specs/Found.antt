@@ -1,4 +1,4 @@
--- The Index or IndexUpdate that a message is, by what reading it answers.
+-- For the steps of accepting: the Index or IndexUpdate that a message is, by what reading it answers.
 use mathlib.Core.Bool.{true, false}
 use Rattle.xdr.specs.declared.answer.Refusal.{Refusal}
 use Rattle.message.specs.declared.answer.Message.{Message}
@@ -10,6 +10,7 @@ use Rattle.accept.specs.declared.found.Found.the-variants as F
 abbrev pub otherKind : Found
 otherKind = F.Refused (record { number = 18; place = 0 })
 
+-- an Index, an IndexUpdate, or why it is neither
 abbrev pub foundIn : Message → Found
 foundIn (M.Index id x) = F.Taken false x
 foundIn (M.Request id x) = otherKind
@@ -20,6 +21,7 @@ foundIn (M.IndexUpdate id x) = F.Taken true x
 foundIn (M.Options id x) = otherKind
 foundIn (M.Refused r) = F.Refused r
 
+-- the refusal, or number 0 where there is none
 abbrev pub foundRefusal : Found → Refusal
 foundRefusal (F.Taken update x) = record { number = 0; place = 0 }
 foundRefusal (F.Refused r) = r

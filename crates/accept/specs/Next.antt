@@ -1,4 +1,4 @@
--- Which record comes next, where the message's records in order have come to number i and the old table to place j.
+-- For the steps of accepting: which record comes next, where the message's records in order have come to number i and the old table to place j.
 use Prim.Native.Nat.{ℕ, _+_}
 use mathlib.Core.List.{List}
 use mathlib.Core.Bool.{true, cond}
@@ -29,12 +29,14 @@ chosen at x i j y Less = fromSent at x (i + 1) j
 chosen at x i j y Equal = fromSent at x (i + 1) y
 chosen at x i j y Greater = fromRight j y i
 
+-- the message's record, or the old one before it
 abbrev pub nextBy : List ℕ → (at : ℕ) → Outline → (i : ℕ) → List ℕ → ℕ → Outline → Next
 nextBy s at O.Short i old j g = End
 nextBy s at (O.Whole f) i old j O.Short = fromSent at (f .past) (i + 1) j
 nextBy s at (O.Whole f) i old j (O.Whole g) =
     chosen at (f .past) i j (g .past) (compareLists (part s (f .name) (f .stop)) (part old (g .name) (g .stop)))
 
+-- the next record where the two have come to i and j
 unfoldable pub nextOf : List ℕ → List ℕ → ℕ → List ℕ → ℕ → Next
 nextOf s places i old j =
     cond (ltb i (length places))

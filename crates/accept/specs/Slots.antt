@@ -1,4 +1,4 @@
--- Where a record goes among records that are in order, by their places.
+-- For the steps of accepting: where a record goes among records that are in order, by their places.
 use Prim.Native.Nat.{ℕ, zero, suc, _+_}
 use mathlib.Core.List.{List}
 use lib.ListN.{getD}

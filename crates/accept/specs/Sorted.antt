@@ -1,4 +1,4 @@
--- The records of a message in order, by their places.
+-- For the steps of accepting: the records of a message in order, by their places.
 use Prim.Native.Nat.{ℕ, _+_, _≤_}
 use mathlib.Core.List.{List, [], _∷_}
 use mathlib.Core.Path.{_≡_}

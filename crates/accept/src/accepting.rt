@@ -42,7 +42,7 @@ fn insert_at(places: &mut [usize], j: usize, at: usize)
     places[j] = at;
 }
 
-// The places of an array's records, in the order of their names.
+// Puts the places of an array's records in the order of their names, or answers where a name first repeats.
 fn sort(s: &[u8], places: &mut [usize]) -> Sorting
     requires { ⌜ IsArray (now s) × (length (now places) ≡ 512) ⌝ }
     ensures { λ r. ⌜ SortedTo (now (s .entry)) (now (places .exit)) r ⌝ }
@@ -62,7 +62,7 @@ fn sort(s: &[u8], places: &mut [usize]) -> Sorting
     }
 }
 
-// Where the old records that may be kept begin: none are after an Index.
+// Where the old records that may be kept begin: at 4 for an IndexUpdate, at the end for an Index, which keeps none.
 fn start_of(old: &[u8], update: bool) -> usize
     ensures { λ r. ⌜ r ≡ cond update 4 (length (now (old .entry))) ⌝ }
 {

@@ -29,6 +29,7 @@ impl Found {
     }
 }
 
+// A message of another type.
 fn other() -> Found
     ensures { λ r. ⌜ r ≡ otherKind ⌝ }
 {

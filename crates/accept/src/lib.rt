@@ -1,7 +1,7 @@
 // Accepting an Index or an IndexUpdate: the sender's new table into a lent buffer.
 pub mod accepting;
-pub mod found;
-pub mod next;
-pub mod slot;
+mod found;
+mod next;
+mod slot;
 
 pub use accepting::accept;

@@ -8,6 +8,7 @@ use merge::next::from_right;
 use order::Order;
 use record::Outline;
 
+// The message's record at a place, up to x; number i comes after it.
 fn from_sent(at: usize, x: usize, i: usize, j: usize) -> Next
     ensures { λ r. ⌜ r ≡ fromSent at x i j ⌝ }
 {

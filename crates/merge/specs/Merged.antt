@@ -6,6 +6,7 @@ use Rattle.table.specs.Newest.{compareFiles}
 use Rattle.order.specs.declared.compare.Order.{Order}
 use Rattle.order.specs.declared.compare.Order.the-variants.{Less, Equal, Greater}
 
+-- one of two records, by how the first compares with the second
 abbrev pub higherBy : Order → File → File → File
 higherBy Less f g = g
 higherBy Equal f g = f
@@ -26,10 +27,12 @@ abbrev pub insert : File → List File → List File
 insert f [] = f ∷ []
 insert f (g ∷ gs) = placed (compareLists (f .name) (g .name)) f g gs (insert f gs)
 
+-- all records of a table among them
 abbrev pub insertAll : List File → List File → List File
 insertAll [] l = l
 insertAll (f ∷ fs) l = insert f (insertAll fs l)
 
+-- the records of the merged table of some tables
 unfoldable pub mergedOf : List (List File) → List File
 mergedOf [] = []
 mergedOf (t ∷ ts) = insertAll t (mergedOf ts)

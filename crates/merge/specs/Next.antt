@@ -14,10 +14,11 @@ use Rattle.merge.specs.declared.next.Step.{Step}
 use Rattle.merge.specs.declared.next.Next.{Next}
 use Rattle.merge.specs.declared.next.Next.the-variants.{End, More}
 
--- the record of the first table at i up to x, the second going on at j; and the other way round
+-- the record of the first table at i up to x, the second going on at j
 abbrev pub fromLeft : (i x j : ℕ) → Next
 fromLeft i x j = More (record { left = true; start = i; end = x; i = x; j = j })
 
+-- the record of the second table at j up to y, the first going on at i
 abbrev pub fromRight : (j y i : ℕ) → Next
 fromRight j y i = More (record { left = false; start = j; end = y; i = i; j = y })
 
@@ -29,15 +30,18 @@ chosen i j x y Equal Less = fromRight j y x
 chosen i j x y Equal Equal = fromLeft i x y
 chosen i j x y Equal Greater = fromLeft i x y
 
+-- two records by their fields, each in its own table
 abbrev pub chosenOf : List ℕ → ℕ → Fields → List ℕ → ℕ → Fields → Next
 chosenOf a i f b j g = chosen i j (f .past) (g .past) (compareLists (part a (f .name) (f .stop)) (part b (g .name) (g .stop))) (compareAt a f b g)
 
+-- a record that is the only one left, or one of two
 abbrev pub nextBy : List ℕ → ℕ → Outline → List ℕ → ℕ → Outline → Next
 nextBy a i O.Short b j O.Short = End
 nextBy a i O.Short b j (O.Whole g) = fromRight j (g .past) i
 nextBy a i (O.Whole f) b j O.Short = fromLeft i (f .past) j
 nextBy a i (O.Whole f) b j (O.Whole g) = chosenOf a i f b j g
 
+-- the next record where a merge has come to i and j
 unfoldable pub nextOf : List ℕ → ℕ → List ℕ → ℕ → Next
 nextOf a i b j = nextBy a i (outlineOf a i) b j (outlineOf b j)
 

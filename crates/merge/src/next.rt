@@ -14,11 +14,13 @@ pub struct Step {
     pub j: usize,
 }
 
+// The next record, or none is left.
 pub enum Next {
     End,
     More(Step),
 }
 
+// The record of the first table at i, up to x.
 fn from_left(i: usize, x: usize, j: usize) -> Next
     ensures { λ r. ⌜ r ≡ fromLeft i x j ⌝ }
 {

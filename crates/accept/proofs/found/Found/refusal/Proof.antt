@@ -1,3 +1,4 @@
+-- `accept::found::Found::refusal` meets its contract: by the variant that it is.
 use mathlib.Core.Path.{sym, ap}
 use Rattle.accept.specs.Found.{foundRefusal}
 use borrow.Author.Needs.{needs}
