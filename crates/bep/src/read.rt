@@ -31,6 +31,7 @@ fn index_words(kind: u64, id: u32, x: IndexSpan) -> [u64; 11]
     ]
 }
 
+// A Request.
 fn request_words(id: u32, x: RequestSpan) -> [u64; 11]
     ensures { λ r. ⌜ r ≡ requestWords id x ⌝ }
 {
@@ -52,6 +53,7 @@ fn request_words(id: u32, x: RequestSpan) -> [u64; 11]
     ]
 }
 
+// A Response.
 fn response_words(id: u32, x: ResponseSpan) -> [u64; 11]
     ensures { λ r. ⌜ r ≡ responseWords id x ⌝ }
 {
@@ -78,6 +80,7 @@ fn ping_words(kind: u64, id: u32, end: usize) -> [u64; 11]
     [end as u64, kind, id as u64, 0, 0, 0, 0, 0, 0, 0, 0]
 }
 
+// Options.
 fn options_words(id: u32, x: OptionsSpan) -> [u64; 11]
     ensures { λ r. ⌜ r ≡ optionsWords id x ⌝ }
 {
@@ -97,12 +100,14 @@ fn options_words(id: u32, x: OptionsSpan) -> [u64; 11]
     ]
 }
 
+// A message that is refused: the place and zeros.
 fn place_words(place: usize) -> [u64; 11]
     ensures { λ r. ⌜ r ≡ placeWords place ⌝ }
 {
     [place as u64, 0, 0, 0, 0, 0, 0, 0, 0, 0, 0]
 }
 
+// The words of a message.
 fn read_words(m: Message) -> [u64; 11]
     ensures { λ r. ⌜ r ≡ readWords m ⌝ }
 {
@@ -118,6 +123,7 @@ fn read_words(m: Message) -> [u64; 11]
     }
 }
 
+// The number that reading a message returns.
 fn read_number(m: Message) -> u32
     ensures { λ r. ⌜ r ≡ readNumber m ⌝ }
 {

@@ -58,6 +58,7 @@ fn read_index(s: &[u8]) -> IndexRead
     })
 }
 
+// The Index with an ID and a body that was read, or the refusal.
 fn index_message(id: u32, read: IndexRead) -> Message
     ensures { λ r. ⌜ r ≡ indexMessage id read ⌝ }
 {
@@ -67,6 +68,7 @@ fn index_message(id: u32, read: IndexRead) -> Message
     }
 }
 
+// The IndexUpdate with an ID and a body that was read, or the refusal.
 fn update_message(id: u32, read: IndexRead) -> Message
     ensures { λ r. ⌜ r ≡ updateMessage id read ⌝ }
 {

@@ -73,7 +73,7 @@ fn store_request(
     xdr::put_bytes(out, offset_at + 12, hash);
 }
 
-// Each kind of body behind a header: checked, and put where the check takes it.
+// Each kind of body behind a header: checked, and put where it passes.
 
 fn put_index(out: &mut [u8], head: u32, repository: &[u8], files: &[u8]) -> Written
     ensures { λ r. ⌜ (r ≡ bodyFitted index (indexBytes (now (repository .entry)) (now (files .entry))) (length (now (out .entry)))) × (now (out .exit) ≡ storedBuffer r (now (out .entry)) (encode word head ++ indexBytes (now (repository .entry)) (now (files .entry)))) ⌝ }

@@ -39,22 +39,24 @@ pub data Event : Type 0 where
 abbrev pub said : List ℕ → Message
 said s = messageAnswer (readAt message s 0)
 
--- the queue that a call hands back, and the event
+-- the queue that a call hands back
 abbrev pub after-call : RequestQueue → Call → RequestQueue
 after-call q (issue r n o size h room) = issueOf q (requestBytes r n o size h) size room .queue
 after-call q (answer s) = answerOf q (said s) .queue
 after-call q drop = dropOf q .queue
 
+-- the event that a call is
 abbrev pub event : RequestQueue → Call → Event
 event q (issue r n o size h room) = issue-was size (issueOf q (requestBytes r n o size h) size room .outcome)
 event q (answer s) = answer-was (said s) (answerOf q (said s) .outcome)
 event q drop = drop-was (dropOf q .outcome)
 
--- the queue after some calls, and their history
+-- the queue after some calls
 abbrev pub final : RequestQueue → List Call → RequestQueue
 final q [] = q
 final q (c ∷ cs) = final (after-call q c) cs
 
+-- the events that some calls are
 abbrev pub history : RequestQueue → List Call → List Event
 history q [] = []
 history q (c ∷ cs) = event q c ∷ history (after-call q c) cs
@@ -91,6 +93,7 @@ settles id (answer-was m o) = cond (isTaken o) (responds id m) false
 settles id (drop-was C.Made) = true
 settles id (drop-was (C.Refused r)) = false
 
+-- one of some events settles the request of an ID
 abbrev pub settled : (id : ℕ) → List Event → Bool
 settled id [] = false
 settled id (e ∷ es) = settles id e || settled id es
@@ -111,6 +114,6 @@ pub record Held (window : ℕ) (calls : List Call) : Type 0 where
   pub exact : outstanding (final (opening window .queue) calls) ≡ standing (history (opening window .queue) calls)
   -- it is sound
   pub sound : isSound (final (opening window .queue) calls) ≡ true
-  -- both totals are those of the list, and within the window and the allowance
+  -- so their number is within the window, and their bytes within the allowance
   pub counted : length (standing (history (opening window .queue) calls)) ≤ window
   pub summed : total (standing (history (opening window .queue) calls)) ≤ allowance

@@ -16,10 +16,12 @@ pub record Slice : Type 0 where
   pub made : Bool
   pub origins : List (List ℕ)
 
+-- the memory, and the slices at hand
 pub record State : Type 0 where
   pub memory : Memory
   pub hand : List Slice
 
+-- what may happen
 pub data Event : Type 0 where
   -- merge is called with two slices at hand, or one twice, and a buffer
   call : (x y : Slice) (buffer : Region) → Event
@@ -30,6 +32,7 @@ pub data Event : Type 0 where
 abbrev pub begun : Memory → Region → Slice
 begun m r = record { region = r; made = false; origins = bytesIn m r ∷ [] }
 
+-- at the start the starting slices are at hand
 abbrev pub start : Memory → List Region → State
 start m rs = record { memory = m; hand = map (begun m) rs }
 
@@ -53,10 +56,12 @@ merging m x y room = mergeOutcome (bytesIn m (x .region)) (bytesIn m (y .region)
 abbrev pub afterCall : Outcome → State → (x y : Slice) → (buffer : Region) → State
 afterCall o s x y b = record { memory = written (s .memory) (b .at) (bufferAfter o (bytesIn (s .memory) b)); hand = handAfter o x y (b .at) (s .hand) }
 
+-- what is after an event
 abbrev pub step : State → Event → State
 step s (call x y b) = afterCall (merging (s .memory) x y (b .size)) s x y b
 step s (write at l) = record { memory = written (s .memory) at l; hand = untouched (record { at = at; size = length l }) (s .hand) }
 
+-- what is after some events
 abbrev pub run : State → List Event → State
 run s [] = s
 run s (e ∷ es) = run (step s e) es
@@ -66,10 +71,12 @@ abbrev pub Allowed : State → Event → Type 0
 Allowed s (call x y b) = List·Memᴰ x (s .hand) × List·Memᴰ y (s .hand) × (isApart (x .region) b ≡ true) × (isApart (y .region) b ≡ true)
 Allowed s (write at l) = Unit {0}
 
+-- each of some events is allowed when it happens
 abbrev pub AllAllowed : State → List Event → Type 0
 AllAllowed s [] = Unit {0}
 AllAllowed s (e ∷ es) = Allowed s e × AllAllowed (step s e) es
 
+-- each of some tables is good
 abbrev pub areGood : List (List ℕ) → Bool
 areGood [] = true
 areGood (t ∷ ts) = isGood t && areGood ts

@@ -26,7 +26,8 @@ use xdr::Refusal;
 
 const LAST_ID: u32 = 4095;
 
-// The requests are the first `count` entries, the oldest first; the others are blank.
+// The requests are the first `count` entries, the oldest first; the others don't count; calls from an opening leave them
+// blank.
 pub struct RequestQueue {
     pub window: u32,
     pub next: u32,
@@ -34,12 +35,13 @@ pub struct RequestQueue {
     pub entries: [Request; 16],
 }
 
-// The bytes outstanding, where the rest is sound.
+// The bytes outstanding of a queue that passed the check, or that it didn't.
 pub enum Tally {
     Unsound,
     Bytes(u32),
 }
 
+// Whether a window is 1 to 16.
 fn window_fits(window: u32) -> bool
     ensures { λ r. ⌜ r ≡ windowFits window ⌝ }
 {
@@ -49,6 +51,7 @@ fn window_fits(window: u32) -> bool
     window <= RequestQueue::WINDOW
 }
 
+// A refusal at place 0.
 fn refusal(number: u32) -> Refusal
     ensures { λ r. ⌜ r ≡ record { number = number; place = 0 } ⌝ }
 {
@@ -96,6 +99,7 @@ impl RequestQueue {
     // The largest window, which is the default too.
     pub const WINDOW: u32 = 16;
 
+    // The byte allowance.
     pub const ALLOWANCE: u32 = 524288;
 
     // An empty queue with a stated window.
@@ -167,6 +171,7 @@ impl RequestQueue {
         Tally::Bytes(sum)
     }
 
+    // The bytes outstanding of a sound queue, or that it is none.
     fn sound_bytes(self) -> Tally
         ensures { λ r. ⌜ r ≡ soundBytes self ⌝ }
     {
@@ -179,7 +184,7 @@ impl RequestQueue {
         Tally::Bytes(sum)
     }
 
-    // Whether such a queue can come about by calls from an accepted opening.
+    // Whether the queue is sound (document 01: a sound desk). Entries past the count don't matter.
     pub fn is_sound(self) -> bool
         ensures { λ r. ⌜ r ≡ isSound self ⌝ }
     {

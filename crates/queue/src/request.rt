@@ -4,6 +4,7 @@ ghost use mathlib.Core.List.{_++_, [], _∷_};
 ghost use lib.ListN.{drop};
 ghost use Rattle.queue.specs.Requests.{after, blank, follows};
 
+// An outstanding request: its ID and its Length.
 pub struct Request {
     pub id: u32,
     pub length: u32,

@@ -10,7 +10,7 @@ use Rattle.xdr.specs.Format.{Format, bytes, array, pair, checked, via}
 use Rattle.xdr.specs.Fields.{word, upTo}
 use Rattle.record.specs.Limits.{blocksLimit, sizeLimit, hashLength}
 
--- (`size` is the Length)
+-- a block as a value: `size` is the Length
 pub record Block : Type 0 where
   pub size : ℕ
   pub hash : List ℕ
@@ -27,9 +27,11 @@ size = checked 10 isSize word
 abbrev pub hash : Format (List ℕ)
 hash = bytes (checked 9 (λ n. eqb n hashLength) word)
 
+-- the block with a Length and a hash
 abbrev pub toBlock : ℕ × List ℕ → Block
 toBlock p = record { size = p .0; hash = p .1 }
 
+-- the Length and the hash of a block
 abbrev pub fromBlock : Block → ℕ × List ℕ
 fromBlock b = (b .size, b .hash)
 

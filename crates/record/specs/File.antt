@@ -38,9 +38,11 @@ name = checked 8 (λ l. leb 1 (length l)) (text nameLimit)
 abbrev pub flags : Format ℕ
 flags = checked 11 (λ f. ltb f 16384) word
 
+-- the file with these fields
 abbrev pub toFile : List ℕ × (ℕ × (ℕ × (ℕ × List Block))) → File
 toFile p = record { name = p .0; flags = p .1 .0; modified = p .1 .1 .0; version = p .1 .1 .1 .0; blocks = p .1 .1 .1 .1 }
 
+-- the fields of a file
 abbrev pub fromFile : File → List ℕ × (ℕ × (ℕ × (ℕ × List Block)))
 fromFile f = (f .name, (f .flags, (f .modified, (f .version, f .blocks))))
 

@@ -39,6 +39,7 @@ pub data Ruling : Type 0 where
   replies : (id : ℕ) → Ruling
   refuses : (number place : ℕ) → Ruling
 
+-- no Request, but a refusal at place 0
 abbrev pub otherOf : (number : ℕ) → Asking
 otherOf number = A.Other (record { number = number; place = 0 })
 
@@ -62,11 +63,12 @@ rulingBy t repository m (A.Other r) = refuses (r .number) (r .place)
 unfoldable pub rulingOf : (t repository m : List ℕ) → Ruling
 rulingOf t repository m = cond (isGood t) (rulingBy t repository m (askingOf (messageAnswer (readAt message m 0)))) (refuses 15 0)
 
--- what is answered: of a reply how many bytes it took, or 14
+-- what is answered of a reply: how many bytes it took, or 14
 abbrev pub replyAnswer : Written → Serving
 replyAnswer (W.Filled n) = S.Replied n
 replyAnswer (W.Refused r) = S.Refused r
 
+-- what is answered
 abbrev pub servingAnswer : Ruling → (room : ℕ) → Serving
 servingAnswer (serves name offset length) room = S.Served name offset length
 servingAnswer (replies id) room = replyAnswer (writtenAnswer (writing id 3 (responseBytes []) room))

@@ -28,6 +28,7 @@ enum Asking {
     Other(Refusal),
 }
 
+// No Request, but a refusal at place 0.
 fn other(number: u32) -> Asking
     ensures { λ r. ⌜ r ≡ otherOf number ⌝ }
 {
@@ -87,6 +88,7 @@ fn is_ours(table: &[u8], repository: &[u8], message: &[u8], x: RequestSpan) -> b
     )
 }
 
+// A refusal at place 0.
 fn refused(number: u32) -> Serving
     ensures { λ r. ⌜ r ≡ servingAnswer (refuses number 0) 0 ⌝ }
 {

@@ -8,6 +8,7 @@ use Rattle.record.specs.Outline.{wordAt, blockPlace}
 use Rattle.record.specs.declared.outline.Fields.{Fields}
 use Rattle.want.specs.Listing.{isCurrent}
 
+-- the block with a Length and a hash
 abbrev pub blockWith : (size : ℕ) → (hash : List ℕ) → Block
 blockWith size hash = record { size = size; hash = hash }
 

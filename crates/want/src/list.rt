@@ -58,7 +58,7 @@ fn count_blocks(local: &[u8], t: &[u8], first: usize, blocks: u32) -> usize
     n
 }
 
-// How long the list is: a block takes more than one byte of the five tables.
+// How many entries the list has: fewer than the five tables have bytes (5 x 65,536), so 24 times as many don't overflow.
 fn count(tables: [&[u8]; 5]) -> usize
     requires { ⌜ Five (map now tables) ⌝ }
     ensures { λ r. ⌜ (r ≡ length (listOf (map now (tables .entry)))) × (r ≤ 327680) ⌝ }

@@ -140,7 +140,7 @@ fn store_bytes(out: &mut [u8], src: &[u8])
     clear(&mut out[end..past]);
 }
 
-// An opaque: its length, its contents and its pad.
+// An opaque: its length, its contents and its pad. None is put where no word holds the length.
 pub fn put_bytes(out: &mut [u8], at: usize, src: &[u8]) -> usize
     ensures { λ r. ⌜ (r ≡ putCount (now (out .entry)) at (opaqueBytes (now (src .entry)))) × (now (out .exit) ≡ put (now (out .entry)) at (opaqueBytes (now (src .entry)))) ⌝ }
 {
