@@ -3,11 +3,12 @@ use Prim.Native.Nat.{ℕ, _+_, _-_}
 use mathlib.Core.List.{List}
 use lib.ListN.{length}
 use Rattle.xdr.specs.Reading.{Reading, taken, refused}
+use Rattle.xdr.specs.Format.{readAt}
 use Rattle.xdr.specs.Pad.{padded}
 use Rattle.record.specs.File.{File}
 use Rattle.record.specs.KeyValue.{KeyValue}
 use Rattle.message.specs.Header.{typeOf, idOf}
-use Rattle.message.specs.Message.{Kind, isIndex, isRequest, isResponse, isPing, isPong, isIndexUpdate, isOptions, kindOf, Body, Sent}
+use Rattle.message.specs.Message.{Kind, isIndex, isRequest, isResponse, isPing, isPong, isIndexUpdate, isOptions, kindOf, Body, Sent, message}
 use Rattle.message.specs.declared.answer.Span.{Span}
 use Rattle.message.specs.declared.answer.IndexSpan.{IndexSpan}
 use Rattle.message.specs.declared.answer.RequestSpan.{RequestSpan}
@@ -94,3 +95,7 @@ bodyAnswer isOptions id (refused n p) = refusal n p
 abbrev pub messageAnswer : Reading Sent → Message
 messageAnswer (taken m next) = bodyAnswer (kindOf (typeOf (m .0))) (idOf (m .0)) (taken (m .1) next)
 messageAnswer (refused n p) = refusal n p
+
+-- what bytes say that are given as a message: it is read from their start
+abbrev pub said : List ℕ → Message
+said s = messageAnswer (readAt message s 0)

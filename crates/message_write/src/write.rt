@@ -2,7 +2,7 @@
 ghost use mathlib.Core.Path.{_≡_};
 ghost use mathlib.Core.List.{[], _++_};
 ghost use Prim.Native.Nat.{_+_, _≤_};
-ghost use lib.ListN.{length, take};
+ghost use lib.ListN.{length};
 ghost use Rattle.xdr.specs.Buffer.{filled};
 ghost use Rattle.xdr.specs.Fields.{word};
 ghost use Rattle.xdr.specs.Format.{nothing, encode};

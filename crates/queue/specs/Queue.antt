@@ -7,6 +7,7 @@ use lib.Dec.{leb, eqb}
 use Rattle.xdr.specs.Reading.{Reading, taken, refused}
 use Rattle.xdr.specs.Format.{read}
 use Rattle.xdr.specs.declared.answer.Refusal.{Refusal}
+use Rattle.message.specs.Limits.{idLimit}
 use Rattle.message.specs.Message.{message}
 use Rattle.message.specs.declared.answer.Span.{Span}
 use Rattle.message.specs.declared.answer.Message.{Message}
@@ -31,9 +32,17 @@ use Rattle.queue.specs.declared.outcome.Answering.the-variants as A
 abbrev pub allowance : ℕ
 allowance = 524288
 
+-- the largest window, which is as many entries as a queue has
+abbrev pub windowLimit : ℕ
+windowLimit = 16
+
+-- the window of a queue that is opened without a stated one
+abbrev pub defaultWindow : ℕ
+defaultWindow = 16
+
 -- a window is 1 to 16
 abbrev pub windowFits : ℕ → Bool
-windowFits w = leb 1 w && leb w 16
+windowFits w = leb 1 w && leb w windowLimit
 
 -- the outstanding requests, the oldest first
 abbrev pub outstanding : RequestQueue → List Request
@@ -41,23 +50,15 @@ outstanding q = take (q .count) (q .entries)
 
 -- a window of 1 to 16, no more requests than that, and a next ID of 0 to 4095
 abbrev pub shapeFits : RequestQueue → Bool
-shapeFits q = windowFits (q .window) && (leb (q .count) (q .window) && leb (q .next) 4095)
+shapeFits q = windowFits (q .window) && (leb (q .count) (q .window) && leb (q .next) idLimit)
 
 -- sound but for the allowance
 unfoldable pub isOrderly : RequestQueue → Bool
 isOrderly q = shapeFits q && inOrder (outstanding q) (q .next)
 
--- the bytes outstanding of a queue that is sound but for the allowance, or that it is not
-abbrev pub orderlyBytes : RequestQueue → Tally
-orderlyBytes q = cond (isOrderly q) (Bytes (total (outstanding q))) Unsound
-
 -- a sound queue (document 01: a sound desk)
 unfoldable pub isSound : RequestQueue → Bool
 isSound q = isOrderly q && leb (total (outstanding q)) allowance
-
--- the bytes outstanding of a sound queue, or that it is none
-abbrev pub soundBytes : RequestQueue → Tally
-soundBytes q = cond (isSound q) (Bytes (total (outstanding q))) Unsound
 
 -- a refusal at place 0
 abbrev pub numbered : ℕ → Refusal
@@ -65,7 +66,7 @@ numbered k = record { number = k; place = 0 }
 
 -- a queue with a window and no requests, whose next ID is 0
 abbrev pub emptyQueue : (window : ℕ) → RequestQueue
-emptyQueue window = record { window = window; next = 0; count = 0; entries = replicate 16 blank }
+emptyQueue window = record { window = window; next = 0; count = 0; entries = replicate windowLimit blank }
 
 -- opening with a window: 22, and an empty queue of window 0, where it is not 1 to 16
 abbrev pub opening : (window : ℕ) → Changed
@@ -77,11 +78,6 @@ opening window =
 -- 16 where the window is full, 17 where the bytes held and the Length exceed the limit, 0 where both pass
 abbrev pub faultWithin : (held limit : ℕ) → RequestQueue → (size : ℕ) → ℕ
 faultWithin held limit q size = cond (eqb (q .count) (q .window)) 16 (cond (leb (held + size) limit) 0 17)
-
--- the fault of a Request's fields, which its reading tells, or else another
-abbrev pub fieldsFirst : {A : Type 0} → Reading A → (fault : ℕ) → Refusal
-fieldsFirst (refused k p) fault = record { number = k; place = p }
-fieldsFirst (taken v n) fault = numbered fault
 
 -- what issuing writes: a fault of the fields comes first, then 16 or 17, then 14
 abbrev pub writtenBy : {A : Type 0} → (fault : ℕ) → Reading A → Reading (List ℕ) → Reading (List ℕ)
@@ -151,8 +147,21 @@ answerOf q m = cond (isSound q) (answeredBy q m) (keptWith q (numbered 22))
 
 -- dropping the link releases everything; the next ID goes on
 abbrev pub emptied : RequestQueue → RequestQueue
-emptied q = record { window = q .window; next = q .next; count = 0; entries = replicate 16 blank }
+emptied q = record { window = q .window; next = q .next; count = 0; entries = replicate windowLimit blank }
 
 -- dropping the link: the queue is sound (22)
 abbrev pub dropOf : RequestQueue → Changed
 dropOf q = cond (isSound q) (record { queue = emptied q; outcome = C.Made }) (record { queue = q; outcome = C.Refused (numbered 22) })
+
+-- for the steps of the calls: the bytes outstanding of a queue that is sound but for the allowance, or that it is not
+abbrev pub orderlyBytes : RequestQueue → Tally
+orderlyBytes q = cond (isOrderly q) (Bytes (total (outstanding q))) Unsound
+
+-- and: the bytes outstanding of a sound queue, or that it is none
+abbrev pub soundBytes : RequestQueue → Tally
+soundBytes q = cond (isSound q) (Bytes (total (outstanding q))) Unsound
+
+-- and: the fault of a Request's fields, which its reading tells, or else another
+abbrev pub fieldsFirst : {A : Type 0} → Reading A → (fault : ℕ) → Refusal
+fieldsFirst (refused k p) fault = record { number = k; place = p }
+fieldsFirst (taken v n) fault = numbered fault

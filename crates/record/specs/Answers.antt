@@ -37,7 +37,7 @@ blockAnswer r = wordAnswer (mapped (λ b. b .size) r)
 abbrev pub fileAnswer : Reading File → FileRead
 fileAnswer (taken f next) =
     F.Taken (record {
-      name = length (f .name);
+      «name_length» = length (f .name);
       flags = f .flags;
       modified = f .modified;
       version = f .version;
@@ -55,7 +55,7 @@ fileRefusal (F.Refused r) = r
 -- an option at the front of a part: the lengths of its Key and of its Value, the place where the Value's bytes start and the place after the option
 abbrev pub optionAnswer : Reading KeyValue → OptionRead
 optionAnswer (taken o next) =
-    O.Taken (record { key = length (o .key); start = padded (length (o .key)) + 8; value = length (o .value); next = next })
+    O.Taken (record { «key_length» = length (o .key); «value_start» = padded (length (o .key)) + 8; «value_length» = length (o .value); next = next })
 optionAnswer (refused k p) = O.Refused (record { number = k; place = p })
 
 -- the refusal of an option's answer: number 0 where there is none

@@ -7,7 +7,7 @@ use lib.ListN.{length}
 use lib.Dec.{leb, ltb, eqb}
 use Rattle.xdr.specs.Format.{Format, array, pair, checked, via, encode}
 use Rattle.xdr.specs.Fields.{word, hyper, upTo, text}
-use Rattle.record.specs.Limits.{nameLimit}
+use Rattle.record.specs.Limits.{nameLimit, flagsBound}
 use Rattle.record.specs.Block.{Block, blocks}
 
 -- `modified` is the number that the 64 bits are without a sign: Modified.antt has the sign
@@ -36,7 +36,7 @@ name = checked 8 (λ l. leb 1 (length l)) (text nameLimit)
 
 -- Flags: the top 18 bits are zero
 abbrev pub flags : Format ℕ
-flags = checked 11 (λ f. ltb f 16384) word
+flags = checked 11 (λ f. ltb f flagsBound) word
 
 -- the file with these fields
 abbrev pub toFile : List ℕ × (ℕ × (ℕ × (ℕ × List Block))) → File

@@ -2,7 +2,7 @@
 ghost use mathlib.Core.Path.{_≡_};
 ghost use Prim.Native.Nat.{_+_, _≤_, _<_};
 ghost use lib.ListN.{length, replicate};
-ghost use Rattle.xdr.specs.Buffer.{filled, over, put, putCount, opaqueBytes};
+ghost use Rattle.xdr.specs.Buffer.{filled, put, putCount, opaqueBytes};
 ghost use Rattle.xdr.specs.Fields.{word, hyper};
 ghost use Rattle.xdr.specs.Format.{bytes, encode};
 ghost use Rattle.xdr.specs.Pad.{padded};
