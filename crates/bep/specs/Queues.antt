@@ -16,14 +16,13 @@ use Rattle.queue.specs.declared.outcome.Change.the-variants as C
 use Rattle.queue.specs.declared.outcome.Issued.{Issued}
 use Rattle.queue.specs.declared.outcome.Issuing.{Issuing}
 use Rattle.queue.specs.declared.outcome.Issuing.the-variants as I
-use Rattle.queue.specs.declared.outcome.Answered.{Answered}
 use Rattle.queue.specs.declared.outcome.Answering.{Answering}
 use Rattle.queue.specs.declared.outcome.Answering.the-variants as A
 
 -- f at 0, 1, .., n - 1
-abbrev pub upTo : {X : Type 0} → (ℕ → X) → ℕ → List X
-upTo f zero = []
-upTo f (suc n) = upTo f n ++ (f n ∷ [])
+abbrev pub tabulated : {X : Type 0} → (ℕ → X) → ℕ → List X
+tabulated f zero = []
+tabulated f (suc n) = tabulated f n ++ (f n ∷ [])
 
 -- entry i
 abbrev pub entryAt : List ℕ → ℕ → Request
@@ -31,7 +30,7 @@ entryAt ws i = record { id = getD ws (3 + 2 * i) 0; length = getD ws (4 + 2 * i)
 
 -- the queue that words are
 abbrev pub queueOf : List ℕ → RequestQueue
-queueOf ws = record { window = getD ws 0 0; next = getD ws 1 0; count = getD ws 2 0; entries = upTo (entryAt ws) 16 }
+queueOf ws = record { window = getD ws 0 0; next = getD ws 1 0; count = getD ws 2 0; entries = tabulated (entryAt ws) 16 }
 
 -- the ID and the Length of each request
 abbrev pub pairs : List Request → List ℕ

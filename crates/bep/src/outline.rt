@@ -29,6 +29,7 @@ fn field_words(f: Fields) -> [u64; 8]
     ]
 }
 
+// An option's fields as words.
 fn key_words(f: OptionFields) -> [u64; 5]
     ensures { λ r. ⌜ r ≡ keyWords f ⌝ }
 {

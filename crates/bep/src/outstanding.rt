@@ -3,9 +3,7 @@
 // Any words may be given: those of a queue that is not sound are refused with 22 and left as they were.
 ghost use mathlib.Core.Path.{_≡_};
 ghost use lib.Seq.{paste};
-ghost use Rattle.xdr.specs.Format.{readAt};
-ghost use Rattle.message.specs.Message as sent;
-ghost use Rattle.message.specs.Answers.{messageAnswer};
+ghost use Rattle.message.specs.Answers.{said};
 ghost use Rattle.message_write.specs.Writing.{requestBytes};
 ghost use Rattle.queue.specs.Queue.{opening, dropOf};
 ghost use Rattle.bep.specs.Queues.{queueOf, pairs, wordsOf, changeNumber, Becomes, issuingNumber, issuingWords, Issues, answeringNumber, answeringWords, Answers, totalWords};
@@ -159,7 +157,7 @@ pub extern "C" fn bep_queue_answer(
     message: &[u8],
     answer: &mut [u64; 5],
 ) -> u32
-    ensures { λ r. ⌜ Answers (now (queue .entry)) (messageAnswer (readAt sent.message (now (message .entry)) 0)) r (now (answer .exit)) (now (queue .exit)) ⌝ }
+    ensures { λ r. ⌜ Answers (now (queue .entry)) (said (now (message .entry))) r (now (answer .exit)) (now (queue .exit)) ⌝ }
 {
     let before = unpacked(queue);
     let d = before.answer(message);

@@ -15,6 +15,10 @@ isCurrent flags = not (isInvalid flags) && not (isDeleted flags)
 abbrev pub listed : File → List Block
 listed f = cond (isCurrent (f .flags)) (f .blocks) []
 
+-- the block with a Length and a hash
+abbrev pub blockWith : (size : ℕ) → (hash : List ℕ) → Block
+blockWith size hash = record { size = size; hash = hash }
+
 -- the same Length and hash
 abbrev pub isSame : Block → Block → Bool
 isSame b c = eqb (b .size) (c .size) && isEqual (compareLists (b .hash) (c .hash))

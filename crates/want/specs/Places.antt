@@ -1,4 +1,5 @@
--- Five tables side by side, with a place in each: which record is next by name, and what goes by the records at the places.
+-- For the steps of the list (`listsAt` serves the ruling too): five tables side by side, with a place in each, which record is next by name,
+-- and what goes by the records at the places.
 use Prim.Native.Nat.{ℕ, zero, suc, _+_, _<_}
 use mathlib.Core.List.{List, [], _∷_, map}
 use mathlib.Core.Path.{_≡_}

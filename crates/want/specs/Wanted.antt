@@ -3,14 +3,14 @@ use Prim.Native.Nat.{ℕ, _+_, _<_}
 use mathlib.Core.List.{List, [], _∷_, _++_, map, List·Memᴰ}
 use mathlib.Core.Path.{_≡_}
 use mathlib.Core.Logic.{_⊎_}
-use mathlib.Core.Bool.{Bool, true, cond, _&&_}
+use mathlib.Core.Bool.{cond}
 use lib.ListN.{length}
 use lib.Dec.{leb}
 use Rattle.xdr.specs.Format.{encode, encodeAll}
 use Rattle.xdr.specs.Fields.{word, hyper}
 use Rattle.record.specs.Block.{Block}
 use Rattle.record.specs.File.{File}
-use Rattle.table.specs.Table.{isGood, records}
+use Rattle.table.specs.Table.{allGood, records}
 use Rattle.table.specs.Filling.{Outcome, accepted, refused}
 use Rattle.merge.specs.Merged.{mergedOf}
 use Rattle.want.specs.Listing.{listed, isHeld, listsThere}
@@ -56,11 +56,6 @@ wantedBytes w = encode word (w .file) ++ encode word (w .block) ++ encode hyper 
 -- the bytes of a list, entry after entry
 abbrev pub listBytes : List Wanted → List ℕ
 listBytes l = encodeAll wantedBytes l
-
--- each of some tables is good
-abbrev pub allGood : List (List ℕ) → Bool
-allGood [] = true
-allGood (t ∷ ts) = isGood t && allGood ts
 
 -- the list into a buffer that has room for it, or 14
 abbrev pub listInto : List ℕ → (room : ℕ) → Outcome

@@ -2,8 +2,7 @@
 ghost use mathlib.Core.Path.{_≡_};
 ghost use mathlib.Core.Bool.{true};
 ghost use Rattle.table.specs.Table.{isGood, records};
-ghost use Rattle.want.specs.Blocks.{blockWith};
-ghost use Rattle.want.specs.Listing.{isHeld};
+ghost use Rattle.want.specs.Listing.{isHeld, blockWith};
 ghost use Rattle.want.specs.Found.{foundFrom, foundIn};
 use crate::block::is_block;
 use crate::block::listed;
