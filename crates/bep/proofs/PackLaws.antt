@@ -9,7 +9,7 @@ use lib.Seq.{paste, paste-suc, set-at, append-snoc, take-all, take-suc, getD-dro
 use Rattle.queue.specs.Requests.{blank}
 use Rattle.queue.specs.declared.request.Request.{Request}
 use Rattle.queue.specs.declared.queue.RequestQueue.{RequestQueue}
-use Rattle.bep.specs.Queues.{upTo, entryAt, queueOf, pairs, wordsOf}
+use Rattle.bep.specs.Queues.{tabulated, entryAt, queueOf, pairs, wordsOf}
 
 -- twice a number, one further
 twice : (n : ℕ) → 2 * suc n ≡ suc (suc (2 * n))
@@ -47,18 +47,18 @@ put-more d i es hd he =
     ∙ ap (paste d 3 p) n
 
 -- a turn that takes up one entry
-length-upTo : {X : Type 0} (f : ℕ → X) (n : ℕ) → length (upTo f n) ≡ n
-length-upTo f zero = refl
-length-upTo f (suc n) = length-append (upTo f n) (f n ∷ []) ∙ rw (length-upTo f n) (add-one n)
+length-tabulated : {X : Type 0} (f : ℕ → X) (n : ℕ) → length (tabulated f n) ≡ n
+length-tabulated f zero = refl
+length-tabulated f (suc n) = length-append (tabulated f n) (f n ∷ []) ∙ rw (length-tabulated f n) (add-one n)
 
-pub upTo-more : {X : Type 0} (f : ℕ → X) (b : X) (n i : ℕ) → i < n
-    → set (upTo f i ++ replicate (n - i) b) i (f i) ≡ upTo f (i + 1) ++ replicate (n - (i + 1)) b
-upTo-more {X} f b n i h =
+pub tabulated-more : {X : Type 0} (f : ℕ → X) (b : X) (n i : ℕ) → i < n
+    → set (tabulated f i ++ replicate (n - i) b) i (f i) ≡ tabulated f (i + 1) ++ replicate (n - (i + 1)) b
+tabulated-more {X} f b n i h =
     let e : n - i ≡ suc (n - (i + 1)) = omega arith in
-    ap (λ (k : ℕ). set (upTo f i ++ replicate k b) i (f i)) e
-    ∙ set-at (upTo f i) b (replicate (n - (i + 1)) b) (f i) i (length-upTo f i)
-    ∙ sym (append-snoc (upTo f i) (f i) (replicate (n - (i + 1)) b))
-    ∙ ap (λ (k : ℕ). upTo f k ++ replicate (n - (i + 1)) b) (sym (add-one i))
+    ap (λ (k : ℕ). set (tabulated f i ++ replicate k b) i (f i)) e
+    ∙ set-at (tabulated f i) b (replicate (n - (i + 1)) b) (f i) i (length-tabulated f i)
+    ∙ sym (append-snoc (tabulated f i) (f i) (replicate (n - (i + 1)) b))
+    ∙ ap (λ (k : ℕ). tabulated f k ++ replicate (n - (i + 1)) b) (sym (add-one i))
 
 heads : (ws : List ℕ) (a b c : ℕ) → 3 ≤ length ws → take 3 (set (set (set ws 0 a) 1 b) 2 c) ≡ a ∷ b ∷ c ∷ []
 heads [] a b c h = absurd (omega arith)
@@ -86,9 +86,9 @@ pairs-append [] b = refl
 pairs-append (e ∷ a) b = ap (λ (l : List ℕ). e .id ∷ e .length ∷ l) (pairs-append a b)
 
 -- the words of the entries that were taken up
-pairs-up-to : (ws : List ℕ) (n : ℕ) → 3 + 2 * n ≤ length ws → pairs (upTo (entryAt ws) n) ≡ take (2 * n) (drop 3 ws)
-pairs-up-to ws zero h = refl
-pairs-up-to ws (suc n) h =
+pairs-tabulated : (ws : List ℕ) (n : ℕ) → 3 + 2 * n ≤ length ws → pairs (tabulated (entryAt ws) n) ≡ take (2 * n) (drop 3 ws)
+pairs-tabulated ws zero h = refl
+pairs-tabulated ws (suc n) h =
     let r : List ℕ = drop 3 ws in
     let lr : length r ≡ length ws - 3 = length-drop 3 ws in
     let one : take (suc (2 * n)) r ≡ take (2 * n) r ++ (getD r (2 * n) 0 ∷ []) = take-suc r (2 * n) 0 (omega arith) in
@@ -96,8 +96,8 @@ pairs-up-to ws (suc n) h =
     let k : 3 + suc (2 * n) ≡ 4 + 2 * n = omega arith in
     let id-is : getD ws (3 + 2 * n) 0 ≡ getD r (2 * n) 0 = sym (getD-drop 3 ws (2 * n) 0) in
     let length-is : getD ws (4 + 2 * n) 0 ≡ getD r (suc (2 * n)) 0 = ap (λ (j : ℕ). getD ws j 0) (sym k) ∙ sym (getD-drop 3 ws (suc (2 * n)) 0) in
-    pairs-append (upTo (entryAt ws) n) (entryAt ws n ∷ [])
-    ∙ ap (λ (l : List ℕ). l ++ (getD ws (3 + 2 * n) 0 ∷ getD ws (4 + 2 * n) 0 ∷ [])) (pairs-up-to ws n (omega arith))
+    pairs-append (tabulated (entryAt ws) n) (entryAt ws n ∷ [])
+    ∙ ap (λ (l : List ℕ). l ++ (getD ws (3 + 2 * n) 0 ∷ getD ws (4 + 2 * n) 0 ∷ [])) (pairs-tabulated ws n (omega arith))
     ∙ ap (λ (x : ℕ). take (2 * n) r ++ (x ∷ getD ws (4 + 2 * n) 0 ∷ [])) id-is
     ∙ ap (λ (x : ℕ). take (2 * n) r ++ (getD r (2 * n) 0 ∷ x ∷ [])) length-is
     ∙ sym (append-assoc (take (2 * n) r) (getD r (2 * n) 0 ∷ []) (getD r (suc (2 * n)) 0 ∷ []))
@@ -115,5 +115,5 @@ heads-back (x ∷ y ∷ z ∷ ws) h = refl
 pub words-back : (ws : List ℕ) → length ws ≡ 35 → wordsOf (queueOf ws) ≡ ws
 words-back ws l =
     let short : length (drop 3 ws) ≤ 32 = rw (length-drop 3 ws) (omega arith) in
-    ap (λ (r : List ℕ). getD ws 0 0 ∷ getD ws 1 0 ∷ getD ws 2 0 ∷ r) (pairs-up-to ws 16 (omega arith) ∙ take-all 32 (drop 3 ws) short)
+    ap (λ (r : List ℕ). getD ws 0 0 ∷ getD ws 1 0 ∷ getD ws 2 0 ∷ r) (pairs-tabulated ws 16 (omega arith) ∙ take-all 32 (drop 3 ws) short)
     ∙ heads-back ws (omega arith)

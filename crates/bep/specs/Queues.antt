@@ -16,22 +16,23 @@ use Rattle.queue.specs.declared.outcome.Change.the-variants as C
 use Rattle.queue.specs.declared.outcome.Issued.{Issued}
 use Rattle.queue.specs.declared.outcome.Issuing.{Issuing}
 use Rattle.queue.specs.declared.outcome.Issuing.the-variants as I
-use Rattle.queue.specs.declared.outcome.Answered.{Answered}
 use Rattle.queue.specs.declared.outcome.Answering.{Answering}
 use Rattle.queue.specs.declared.outcome.Answering.the-variants as A
 
 -- f at 0, 1, .., n - 1
-abbrev pub upTo : {X : Type 0} → (ℕ → X) → ℕ → List X
-upTo f zero = []
-upTo f (suc n) = upTo f n ++ (f n ∷ [])
+abbrev pub tabulated : {X : Type 0} → (ℕ → X) → ℕ → List X
+tabulated f zero = []
+tabulated f (suc n) = tabulated f n ++ (f n ∷ [])
 
+-- entry i
 abbrev pub entryAt : List ℕ → ℕ → Request
 entryAt ws i = record { id = getD ws (3 + 2 * i) 0; length = getD ws (4 + 2 * i) 0 }
 
 -- the queue that words are
 abbrev pub queueOf : List ℕ → RequestQueue
-queueOf ws = record { window = getD ws 0 0; next = getD ws 1 0; count = getD ws 2 0; entries = upTo (entryAt ws) 16 }
+queueOf ws = record { window = getD ws 0 0; next = getD ws 1 0; count = getD ws 2 0; entries = tabulated (entryAt ws) 16 }
 
+-- the ID and the Length of each request
 abbrev pub pairs : List Request → List ℕ
 pairs [] = []
 pairs (r ∷ rs) = r .id ∷ r .length ∷ pairs rs
@@ -40,6 +41,7 @@ pairs (r ∷ rs) = r .id ∷ r .length ∷ pairs rs
 abbrev pub wordsOf : RequestQueue → List ℕ
 wordsOf q = q .window ∷ q .next ∷ q .count ∷ pairs (q .entries)
 
+-- the number that an opening or a drop returns
 abbrev pub changeNumber : Change → ℕ
 changeNumber C.Made = 0
 changeNumber (C.Refused r) = r .number
@@ -48,6 +50,7 @@ changeNumber (C.Refused r) = r .number
 abbrev pub Becomes : Changed → (number : ℕ) (queue : List ℕ) → Type 0
 Becomes d number queue = (number ≡ changeNumber (d .outcome)) × (queue ≡ wordsOf (d .queue))
 
+-- the number that an issue returns
 abbrev pub issuingNumber : Issuing → ℕ
 issuingNumber (I.Issued id n) = 0
 issuingNumber (I.Refused r) = r .number
@@ -64,6 +67,7 @@ pub record Issues (ws body : List ℕ) (size : ℕ) (before : List ℕ) (number 
   pub queue-is : queue ≡ wordsOf (issueOf (queueOf ws) body size (length before) .queue)
   pub buffer-is : after ≡ writtenBuffer before (issueReading (queueOf ws) body size (length before))
 
+-- the number that an answer returns: 0 where a request was released
 abbrev pub answeringNumber : Answering → ℕ
 answeringNumber (A.Data r d) = 0
 answeringNumber (A.NotAvailable r) = 0

@@ -4,6 +4,7 @@ use mathlib.Core.List.{List, [], _∷_}
 use Rattle.want.specs.declared.search.Found.{Found}
 use Rattle.want.specs.declared.search.Found.the-variants.{At, Nothing, Refused}
 
+-- 0 whether or not there is one, or 15
 abbrev pub foundNumber : Found → ℕ
 foundNumber (At n j) = 0
 foundNumber Nothing = 0

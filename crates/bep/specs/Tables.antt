@@ -16,6 +16,7 @@ use Rattle.order.specs.declared.compare.Order.the-variants.{Less, Equal, Greate
 abbrev pub goodNumber : Bool → ℕ
 goodNumber good = cond good 0 15
 
+-- the number that a call returns which fills a buffer
 abbrev pub fillingNumber : Filling → ℕ
 fillingNumber (F.Filled n) = 0
 fillingNumber (F.Refused r) = r .number
@@ -37,12 +38,13 @@ orderWord Less = 0
 orderWord Equal = 1
 orderWord Greater = 2
 
--- two records that are wholly there are compared; else the number is 1 and the word 0
+-- two records that are wholly there are compared: 0; else 1
 abbrev pub comparedNumber : Outline → Outline → ℕ
 comparedNumber O.Short o = 1
 comparedNumber (O.Whole f) O.Short = 1
 comparedNumber (O.Whole f) (O.Whole g) = 0
 
+-- how two records compare that are wholly there; else 0
 abbrev pub comparedWords : List ℕ → Outline → List ℕ → Outline → List ℕ
 comparedWords a O.Short b o = 0 ∷ []
 comparedWords a (O.Whole f) b O.Short = 0 ∷ []

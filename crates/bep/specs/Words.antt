@@ -41,9 +41,11 @@ pingWords type id end = end ∷ type ∷ id ∷ 0 ∷ 0 ∷ 0 ∷ 0 ∷ 0 ∷ 0 
 abbrev pub optionsWords : (id : ℕ) → OptionsSpan → List ℕ
 optionsWords id x = x .end ∷ 7 ∷ id ∷ 0 ∷ 0 ∷ x .options .start ∷ x .options .length ∷ x .count ∷ 0 ∷ 0 ∷ 0 ∷ []
 
+-- a message that is refused
 abbrev pub placeWords : ℕ → List ℕ
 placeWords place = place ∷ 0 ∷ 0 ∷ 0 ∷ 0 ∷ 0 ∷ 0 ∷ 0 ∷ 0 ∷ 0 ∷ 0 ∷ []
 
+-- the words of a message
 abbrev pub readWords : Message → List ℕ
 readWords (M.Index id x) = indexWords 1 id x
 readWords (M.Request id x) = requestWords id x
@@ -54,6 +56,7 @@ readWords (M.IndexUpdate id x) = indexWords 6 id x
 readWords (M.Options id x) = optionsWords id x
 readWords (M.Refused r) = placeWords (r .place)
 
+-- the number that reading a message returns
 abbrev pub readNumber : Message → ℕ
 readNumber (M.Index id x) = 0
 readNumber (M.Request id x) = 0
@@ -68,10 +71,12 @@ readNumber (M.Refused r) = r .number
 abbrev pub fieldWords : Fields → List ℕ
 fieldWords f = f .past ∷ f .name ∷ (f .stop - f .name) ∷ f .flags ∷ f .modified ∷ f .version ∷ f .blocks ∷ f .first ∷ []
 
+-- a file that is there, or zeros
 abbrev pub fileWords : Outline → List ℕ
 fileWords (O.Whole f) = fieldWords f
 fileWords O.Short = replicate 8 0
 
+-- 0, or 1 where the file isn't there
 abbrev pub fileNumber : Outline → ℕ
 fileNumber (O.Whole f) = 0
 fileNumber O.Short = 1
@@ -80,20 +85,23 @@ fileNumber O.Short = 1
 abbrev pub keyWords : OptionFields → List ℕ
 keyWords f = f .past ∷ f .key ∷ f .«key_length» ∷ f .value ∷ f .«value_length» ∷ []
 
+-- an option that is there, or zeros
 abbrev pub optionWords : OptionOutline → List ℕ
 optionWords (K.Whole f) = keyWords f
 optionWords K.Short = replicate 5 0
 
+-- 0, or 1 where the option isn't there
 abbrev pub optionNumber : OptionOutline → ℕ
 optionNumber (K.Whole f) = 0
 optionNumber K.Short = 1
 
--- a step over a table: the words of the record there, or zeros at the end and where it is refused
+-- a step over a table: 0 at a record and at the end, or 15
 abbrev pub stepNumber : Step → ℕ
 stepNumber (S.Record f) = 0
 stepNumber S.End = 0
 stepNumber (S.Refused r) = r .number
 
+-- a step over a table: the words of the record there, or zeros at the end and where it is refused
 abbrev pub stepWords : Step → List ℕ
 stepWords (S.Record f) = fieldWords f
 stepWords S.End = replicate 8 0

@@ -8,6 +8,7 @@ use Rattle.message_write.specs.Writing.{writing, writtenAnswer, writtenBuffer}
 use Rattle.message_write.specs.declared.answer.Written.{Written}
 use Rattle.message_write.specs.declared.answer.Written.the-variants as W
 
+-- the number that a writer returns
 abbrev pub writtenNumber : Written → ℕ
 writtenNumber (W.Filled n) = 0
 writtenNumber (W.Refused r) = r .number

@@ -12,7 +12,7 @@ use record::OptionOutline;
 use record::Outline;
 use walker::Step;
 
-// The name's length is the way from its start to its end.
+// A record's fields as words; the name's length is its end less its start.
 fn field_words(f: Fields) -> [u64; 8]
     requires { ⌜ f .name ≤ f .stop ⌝ }
     ensures { λ r. ⌜ r ≡ fieldWords f ⌝ }
@@ -29,6 +29,7 @@ fn field_words(f: Fields) -> [u64; 8]
     ]
 }
 
+// An option's fields as words.
 fn key_words(f: OptionFields) -> [u64; 5]
     ensures { λ r. ⌜ r ≡ keyWords f ⌝ }
 {

@@ -3,9 +3,7 @@
 // Any words may be given: those of a queue that is not sound are refused with 22 and left as they were.
 ghost use mathlib.Core.Path.{_≡_};
 ghost use lib.Seq.{paste};
-ghost use Rattle.xdr.specs.Format.{readAt};
-ghost use Rattle.message.specs.Message as sent;
-ghost use Rattle.message.specs.Answers.{messageAnswer};
+ghost use Rattle.message.specs.Answers.{said};
 ghost use Rattle.message_write.specs.Writing.{requestBytes};
 ghost use Rattle.queue.specs.Queue.{opening, dropOf};
 ghost use Rattle.bep.specs.Queues.{queueOf, pairs, wordsOf, changeNumber, Becomes, issuingNumber, issuingWords, Issues, answeringNumber, answeringWords, Answers, totalWords};
@@ -15,6 +13,7 @@ use queue::Issuing;
 use queue::Request;
 use queue::RequestQueue;
 
+// The queue that words are.
 fn unpacked(words: &[u32; 35]) -> RequestQueue
     ensures { λ r. ⌜ r ≡ queueOf (now (words .entry)) ⌝ }
 {
@@ -34,6 +33,7 @@ fn unpacked(words: &[u32; 35]) -> RequestQueue
     }
 }
 
+// The entries from word 3 on, an ID and a Length each.
 fn put_entries(words: [u32; 35], entries: [Request; 16]) -> [u32; 35]
     ensures { λ r. ⌜ r ≡ paste words 3 (pairs entries) 32 ⌝ }
 {
@@ -46,6 +46,7 @@ fn put_entries(words: [u32; 35], entries: [Request; 16]) -> [u32; 35]
     out
 }
 
+// The words of a queue.
 fn packed(queue: RequestQueue) -> [u32; 35]
     ensures { λ r. ⌜ r ≡ wordsOf queue ⌝ }
 {
@@ -57,6 +58,7 @@ fn packed(queue: RequestQueue) -> [u32; 35]
     put_entries(words, entries)
 }
 
+// The number that an opening or a drop returns.
 fn change_number(o: Change) -> u32
     ensures { λ r. ⌜ r ≡ changeNumber o ⌝ }
 {
@@ -66,6 +68,7 @@ fn change_number(o: Change) -> u32
     }
 }
 
+// Fills the answer of an issue, and gives its number.
 fn give_issuing(o: Issuing, answer: &mut [u64; 2]) -> u32
     ensures { λ r. ⌜ (r ≡ issuingNumber o) × (now (answer .exit) ≡ issuingWords o) ⌝ }
 {
@@ -81,6 +84,7 @@ fn give_issuing(o: Issuing, answer: &mut [u64; 2]) -> u32
     }
 }
 
+// Fills the answer of an answer to the queue, and gives its number.
 fn give_answering(o: Answering, answer: &mut [u64; 5]) -> u32
     ensures { λ r. ⌜ (r ≡ answeringNumber o) × (now (answer .exit) ≡ answeringWords o) ⌝ }
 {
@@ -110,7 +114,8 @@ fn give_answering(o: Answering, answer: &mut [u64; 5]) -> u32
     }
 }
 
-// An empty queue with a window; with one that is not 1 to 16 it is refused, and no call takes the queue.
+// Opens an empty queue with a window. A window not 1 to 16 is refused (22) and leaves a queue of window 0, which every call but the totals
+// refuses.
 #[no_mangle]
 pub extern "C" fn bep_queue_open(queue: &mut [u32; 35], window: u32) -> u32
     ensures { λ r. ⌜ Becomes (opening window) r (now (queue .exit)) ⌝ }
@@ -152,7 +157,7 @@ pub extern "C" fn bep_queue_answer(
     message: &[u8],
     answer: &mut [u64; 5],
 ) -> u32
-    ensures { λ r. ⌜ Answers (now (queue .entry)) (messageAnswer (readAt sent.message (now (message .entry)) 0)) r (now (answer .exit)) (now (queue .exit)) ⌝ }
+    ensures { λ r. ⌜ Answers (now (queue .entry)) (said (now (message .entry))) r (now (answer .exit)) (now (queue .exit)) ⌝ }
 {
     let before = unpacked(queue);
     let d = before.answer(message);

@@ -1,8 +1,6 @@
 // Reading a message.
 ghost use mathlib.Core.Path.{_≡_};
-ghost use Rattle.xdr.specs.Format.{readAt};
-ghost use Rattle.message.specs.Answers.{messageAnswer};
-ghost use Rattle.message.specs.Message.{message as messageFormat};
+ghost use Rattle.message.specs.Answers.{said};
 ghost use Rattle.bep.specs.Words.{indexWords, requestWords, responseWords, pingWords, optionsWords, placeWords, readWords, readNumber};
 use message::IndexSpan;
 use message::Message;
@@ -31,6 +29,7 @@ fn index_words(kind: u64, id: u32, x: IndexSpan) -> [u64; 11]
     ]
 }
 
+// A Request.
 fn request_words(id: u32, x: RequestSpan) -> [u64; 11]
     ensures { λ r. ⌜ r ≡ requestWords id x ⌝ }
 {
@@ -52,6 +51,7 @@ fn request_words(id: u32, x: RequestSpan) -> [u64; 11]
     ]
 }
 
+// A Response.
 fn response_words(id: u32, x: ResponseSpan) -> [u64; 11]
     ensures { λ r. ⌜ r ≡ responseWords id x ⌝ }
 {
@@ -78,6 +78,7 @@ fn ping_words(kind: u64, id: u32, end: usize) -> [u64; 11]
     [end as u64, kind, id as u64, 0, 0, 0, 0, 0, 0, 0, 0]
 }
 
+// Options.
 fn options_words(id: u32, x: OptionsSpan) -> [u64; 11]
     ensures { λ r. ⌜ r ≡ optionsWords id x ⌝ }
 {
@@ -97,12 +98,14 @@ fn options_words(id: u32, x: OptionsSpan) -> [u64; 11]
     ]
 }
 
+// A message that is refused: the place and zeros.
 fn place_words(place: usize) -> [u64; 11]
     ensures { λ r. ⌜ r ≡ placeWords place ⌝ }
 {
     [place as u64, 0, 0, 0, 0, 0, 0, 0, 0, 0, 0]
 }
 
+// The words of a message.
 fn read_words(m: Message) -> [u64; 11]
     ensures { λ r. ⌜ r ≡ readWords m ⌝ }
 {
@@ -118,6 +121,7 @@ fn read_words(m: Message) -> [u64; 11]
     }
 }
 
+// The number that reading a message returns.
 fn read_number(m: Message) -> u32
     ensures { λ r. ⌜ r ≡ readNumber m ⌝ }
 {
@@ -130,7 +134,7 @@ fn read_number(m: Message) -> u32
 // Reads the message at the front of some bytes: whatever follows its end belongs to the next one.
 #[no_mangle]
 pub extern "C" fn bep_read(input: &[u8], answer: &mut [u64; 11]) -> u32
-    ensures { λ r. ⌜ (r ≡ readNumber (messageAnswer (readAt messageFormat (now (input .entry)) 0))) × (now (answer .exit) ≡ readWords (messageAnswer (readAt messageFormat (now (input .entry)) 0))) ⌝ }
+    ensures { λ r. ⌜ (r ≡ readNumber (said (now (input .entry)))) × (now (answer .exit) ≡ readWords (said (now (input .entry)))) ⌝ }
 {
     let m = message::read(input);
     *answer = read_words(m);

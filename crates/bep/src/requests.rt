@@ -2,7 +2,7 @@
 ghost use mathlib.Core.List.{[], _∷_};
 ghost use mathlib.Core.Path.{_≡_};
 ghost use lib.ListN.{length};
-ghost use Rattle.want.specs.Blocks.{blockWith};
+ghost use Rattle.want.specs.Listing.{blockWith};
 ghost use Rattle.want.specs.Found.{foundIn};
 ghost use Rattle.want.specs.Wanted.{requestOutcome};
 ghost use Rattle.bep.specs.Tables.{Gave};

@@ -37,6 +37,7 @@ pub extern "C" fn bep_check_table(table: &[u8]) -> u32
     15
 }
 
+// The first record is lower (0), equal (1) or higher (2).
 fn order_word(o: Order) -> u64
     ensures { λ r. ⌜ r ≡ orderWord o ⌝ }
 {

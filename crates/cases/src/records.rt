@@ -23,7 +23,7 @@ fn answer(read: FileRead) {
     match read {
         FileRead::Taken(f) => {
             lines::text(b"name ");
-            lines::number(f.name as u64);
+            lines::number(f.name_length as u64);
             lines::text(b", flags ");
             lines::number(f.flags as u64);
             lines::text(b", modified ");

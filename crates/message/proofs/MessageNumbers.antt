@@ -23,8 +23,8 @@ name-numbers = (omega arith, text-numbers 255)
 hash-numbers : NumbersUpTo 12 hash
 hash-numbers = (omega arith, tt)
 
-blocks-numbers : (gone : Bool) → NumbersUpTo 12 (blocks gone)
-blocks-numbers gone = ((omega arith, (omega arith, tt)), ((omega arith, tt), λ s. hash-numbers))
+blocks-numbers : (deleted : Bool) → NumbersUpTo 12 (blocks deleted)
+blocks-numbers deleted = ((omega arith, (omega arith, tt)), ((omega arith, tt), λ s. hash-numbers))
 
 files-numbers : (limit : ℕ) → NumbersUpTo 12 (files limit)
 files-numbers limit = ((omega arith, tt), (name-numbers, λ n. ((omega arith, tt), λ f. (tt, λ m. (tt, λ v. blocks-numbers (isDeleted f))))))

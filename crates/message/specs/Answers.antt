@@ -3,11 +3,12 @@ use Prim.Native.Nat.{ℕ, _+_, _-_}
 use mathlib.Core.List.{List}
 use lib.ListN.{length}
 use Rattle.xdr.specs.Reading.{Reading, taken, refused}
+use Rattle.xdr.specs.Format.{readAt}
 use Rattle.xdr.specs.Pad.{padded}
 use Rattle.record.specs.File.{File}
 use Rattle.record.specs.KeyValue.{KeyValue}
 use Rattle.message.specs.Header.{typeOf, idOf}
-use Rattle.message.specs.Message.{Kind, isIndex, isRequest, isResponse, isPing, isPong, isIndexUpdate, isOptions, kindOf, Body, Sent}
+use Rattle.message.specs.Message.{Kind, isIndex, isRequest, isResponse, isPing, isPong, isIndexUpdate, isOptions, kindOf, Body, Sent, message}
 use Rattle.message.specs.declared.answer.Span.{Span}
 use Rattle.message.specs.declared.answer.IndexSpan.{IndexSpan}
 use Rattle.message.specs.declared.answer.RequestSpan.{RequestSpan}
@@ -18,6 +19,7 @@ use Rattle.message.specs.declared.answer.IndexRead.the-variants as I
 use Rattle.message.specs.declared.answer.Message.{Message}
 use Rattle.message.specs.declared.answer.Message.the-variants as M
 
+-- so many bytes from a place on
 abbrev pub span : (start length : ℕ) → Span
 span start length = record { start = start; length = length }
 
@@ -25,7 +27,7 @@ span start length = record { start = start; length = length }
 abbrev pub past : ℕ → List ℕ → ℕ
 past at l = at + 4 + padded (length l)
 
--- the bodies, each at byte 4, by what they say and the place after them
+-- the body of an Index or an IndexUpdate, which is at byte 4, by what it says and the place after it
 abbrev pub indexSpan : List ℕ × List File → ℕ → IndexSpan
 indexSpan p next =
     record {
@@ -35,6 +37,7 @@ indexSpan p next =
       end = next;
     }
 
+-- the body of a Request, likewise
 abbrev pub requestSpan : List ℕ × (List ℕ × (ℕ × (ℕ × List ℕ))) → ℕ → RequestSpan
 requestSpan p next =
     record {
@@ -46,24 +49,29 @@ requestSpan p next =
       end = next;
     }
 
+-- the body of a Response, likewise
 abbrev pub responseSpan : List ℕ → ℕ → ResponseSpan
 responseSpan l next = record { «data» = span 8 (length l); end = next }
 
+-- the body of Options, likewise
 abbrev pub optionsSpan : List KeyValue → ℕ → OptionsSpan
 optionsSpan l next = record { options = span 4 (next - 4); count = length l; end = next }
 
+-- a message that is refused
 abbrev pub refusal : (number place : ℕ) → Message
 refusal n p = M.Refused (record { number = n; place = p })
 
--- the body of an Index or an IndexUpdate, and the message that it makes with an ID
+-- what reading the body of an Index or an IndexUpdate answers
 abbrev pub indexAnswer : Reading (List ℕ × List File) → IndexRead
 indexAnswer (taken p next) = I.Taken (indexSpan p next)
 indexAnswer (refused n p) = I.Refused (record { number = n; place = p })
 
+-- the Index with an ID and a body that was read, or the refusal
 abbrev pub indexMessage : ℕ → IndexRead → Message
 indexMessage id (I.Taken x) = M.Index id x
 indexMessage id (I.Refused r) = M.Refused r
 
+-- the IndexUpdate with an ID and a body that was read, or the refusal
 abbrev pub updateMessage : ℕ → IndexRead → Message
 updateMessage id (I.Taken x) = M.IndexUpdate id x
 updateMessage id (I.Refused r) = M.Refused r
@@ -83,6 +91,11 @@ bodyAnswer isIndexUpdate id r = updateMessage id (indexAnswer r)
 bodyAnswer isOptions id (taken l next) = M.Options id (optionsSpan l next)
 bodyAnswer isOptions id (refused n p) = refusal n p
 
+-- what reading a message answers
 abbrev pub messageAnswer : Reading Sent → Message
 messageAnswer (taken m next) = bodyAnswer (kindOf (typeOf (m .0))) (idOf (m .0)) (taken (m .1) next)
 messageAnswer (refused n p) = refusal n p
+
+-- what bytes say that are given as a message: it is read from their start
+abbrev pub said : List ℕ → Message
+said s = messageAnswer (readAt message s 0)

@@ -5,15 +5,19 @@ use lib.Dec.{leb, eqb}
 use Rattle.xdr.specs.Format.{Format, checked}
 use Rattle.xdr.specs.Fields.{word}
 
+-- the version: the top 4 bits
 abbrev pub versionOf : ℕ → ℕ
 versionOf h = h / 268435456
 
+-- the Message ID: the next 12 bits
 abbrev pub idOf : ℕ → ℕ
 idOf h = h / 65536 % 4096
 
+-- the type: the next 8 bits
 abbrev pub typeOf : ℕ → ℕ
 typeOf h = h / 256 % 256
 
+-- the reserved bits: the low 8
 abbrev pub reservedOf : ℕ → ℕ
 reservedOf h = h % 256
 
@@ -21,6 +25,7 @@ reservedOf h = h % 256
 abbrev pub headerOf : (id type : ℕ) → ℕ
 headerOf id type = id * 65536 + type * 256
 
+-- the types: 1 to 7
 abbrev pub isType : ℕ → Bool
 isType t = leb 1 t && leb t 7
 

@@ -11,6 +11,7 @@ use Rattle.record.specs.KeyValue.{KeyValue, options}
 use Rattle.message.specs.Limits.{repositoryLimit, filesLimit, dataLimit, optionsLimit}
 use Rattle.message.specs.Header.{typeOf, header}
 
+-- Repository
 abbrev pub repository : Format (List ℕ)
 repository = text repositoryLimit
 
@@ -30,6 +31,7 @@ response = opaque dataLimit
 pub data Kind : Type 0 where
   isIndex isRequest isResponse isPing isPong isIndexUpdate isOptions : Kind
 
+-- the kind of a type: 1 Index, 2 Request, 3 Response, 4 Ping, 5 Pong, 6 IndexUpdate, 7 Options
 abbrev pub kindOf : ℕ → Kind
 kindOf t =
     cond (eqb t 1) isIndex (cond (eqb t 2) isRequest (cond (eqb t 3) isResponse
@@ -45,6 +47,7 @@ Body isPong = Unit {0}
 Body isIndexUpdate = List ℕ × List File
 Body isOptions = List KeyValue
 
+-- the body of each kind
 abbrev pub body : (k : Kind) → Format (Body k)
 body isIndex = index
 body isRequest = request
@@ -58,5 +61,6 @@ body isOptions = options optionsLimit
 abbrev pub Sent : Type 0
 Sent = (h : ℕ) × Body (kindOf (typeOf h))
 
+-- a message: the header, and the body of the kind that its type names
 abbrev pub message : Format Sent
 message = pair header λ h. body (kindOf (typeOf h))

@@ -15,6 +15,7 @@ pub struct IndexSpan {
     pub end: usize,
 }
 
+// A Request: its strings and its hash by their contents, its numbers, and the place after it.
 pub struct RequestSpan {
     pub repository: Span,
     pub name: Span,
@@ -24,6 +25,7 @@ pub struct RequestSpan {
     pub end: usize,
 }
 
+// A Response: its Data, and the place after it.
 pub struct ResponseSpan {
     pub data: Span,
     pub end: usize,

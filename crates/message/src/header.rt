@@ -7,6 +7,7 @@ ghost use Rattle.message.specs.Header.{versionOf, idOf, typeOf, reserved
 use xdr::Refusal;
 use xdr::Word;
 
+// The version of a header.
 fn version_of(h: u32) -> u32
     ensures { λ r. ⌜ r ≡ versionOf h ⌝ }
 {
@@ -27,6 +28,7 @@ pub fn type_of(h: u32) -> u32
     (h >> 8) & 255
 }
 
+// The reserved bits of a header.
 fn reserved_of(h: u32) -> u32
     ensures { λ r. ⌜ r ≡ reservedOf h ⌝ }
 {

@@ -4,9 +4,9 @@ ghost use Rattle.xdr.specs.Format.{readAt};
 ghost use Prim.Native.Nat.{_≤_};
 ghost use lib.ListN.{length};
 ghost use Rattle.record.specs.KeyValue.{options};
-ghost use Rattle.message.specs.Answers.{indexAnswer, indexMessage, updateMessage, bodyAnswer, messageAnswer};
+ghost use Rattle.message.specs.Answers.{indexAnswer, indexMessage, updateMessage, bodyAnswer, said};
 ghost use Rattle.message.specs.Limits.{optionsLimit};
-ghost use Rattle.message.specs.Message.{isRequest, isResponse, isOptions, index, request, response, message};
+ghost use Rattle.message.specs.Message.{isRequest, isResponse, isOptions, index, request, response};
 use crate::answer::IndexRead;
 use crate::answer::IndexSpan;
 use crate::answer::Message;
@@ -58,6 +58,7 @@ fn read_index(s: &[u8]) -> IndexRead
     })
 }
 
+// The Index with an ID and a body that was read, or the refusal.
 fn index_message(id: u32, read: IndexRead) -> Message
     ensures { λ r. ⌜ r ≡ indexMessage id read ⌝ }
 {
@@ -67,6 +68,7 @@ fn index_message(id: u32, read: IndexRead) -> Message
     }
 }
 
+// The IndexUpdate with an ID and a body that was read, or the refusal.
 fn update_message(id: u32, read: IndexRead) -> Message
     ensures { λ r. ⌜ r ≡ updateMessage id read ⌝ }
 {
@@ -161,7 +163,7 @@ fn read_options(s: &[u8], id: u32) -> Message
 
 // The message at the front of some bytes: whatever follows its end belongs to the next one.
 pub fn read(s: &[u8]) -> Message
-    ensures { λ r. ⌜ r ≡ messageAnswer (readAt message (now (s .entry)) 0) ⌝ }
+    ensures { λ r. ⌜ r ≡ said (now (s .entry)) ⌝ }
 {
     let head = read_header(s);
     let Word::Taken(h, _) = head else {

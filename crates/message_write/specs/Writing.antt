@@ -14,14 +14,16 @@ use Rattle.message.specs.Message.{message}
 use Rattle.message_write.specs.declared.answer.Written.{Written}
 use Rattle.message_write.specs.declared.answer.Written.the-variants as W
 
--- the bodies as they would be written: an array is given encoded, and stands last
+-- the body of an Index or an IndexUpdate as it would be written: the files are given encoded (the options too, which are all of their body)
 abbrev pub indexBytes : (repository files : List ℕ) → List ℕ
 indexBytes repository files = encode (bytes word) repository ++ files
 
+-- the body of a Request as it would be written
 abbrev pub requestBytes : (repository name : List ℕ) (offset size : ℕ) (hash : List ℕ) → List ℕ
 requestBytes repository name offset size hash =
     encode (bytes word) repository ++ (encode (bytes word) name ++ (encode hyper offset ++ (encode word size ++ encode (bytes word) hash)))
 
+-- the body of a Response as it would be written
 abbrev pub responseBytes : List ℕ → List ℕ
 responseBytes l = encode (bytes word) l
 
@@ -52,6 +54,7 @@ writtenBuffer out (refused k p) = out
 abbrev pub fittedAnswer : {A : Type 0} → (room : ℕ) → Reading A → Written
 fittedAnswer room r = writtenAnswer (fitted room [] r)
 
+-- the answer for a body's bytes, read by its format
 unfoldable pub bodyFitted : {A : Type 0} → Format A → List ℕ → (room : ℕ) → Written
 bodyFitted F b room = fittedAnswer room (shifted 4 (read F b))
 

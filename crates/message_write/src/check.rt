@@ -5,7 +5,7 @@ ghost use Rattle.xdr.specs.Reading.{taken};
 ghost use Rattle.xdr.specs.Answers.{bytesAnswer};
 ghost use Rattle.xdr.specs.Fields.{word, opaque, text};
 ghost use Rattle.xdr.specs.Format.{bytes, encode, readAt};
-ghost use Rattle.record.specs.Block.{isSize, hash as hashField};
+ghost use Rattle.record.specs.Block.{hash as hashField};
 ghost use Rattle.record.specs.File.{name as nameField};
 ghost use Rattle.record.specs.KeyValue.{options as optionsField};
 ghost use Rattle.message.specs.Limits.{optionsLimit};
@@ -17,8 +17,6 @@ use xdr::Bytes;
 use xdr::Refusal;
 
 const NAME_LIMIT: u32 = 255;
-
-const SIZE_LIMIT: u32 = 131072;
 
 const REPOSITORY_LIMIT: u32 = 64;
 
@@ -90,16 +88,6 @@ pub fn check_hash(l: &[u8]) -> Bytes
     Bytes::Taken(32, 36)
 }
 
-// Whether the Length of a Request is in its range.
-pub fn is_size(n: u32) -> bool
-    ensures { λ r. ⌜ r ≡ isSize n ⌝ }
-{
-    if n == 0 {
-        return false;
-    }
-    n <= SIZE_LIMIT
-}
-
 // A message of so many bytes, into so much room.
 pub fn fit(n: usize, room: usize) -> Written
     ensures { λ r. ⌜ r ≡ fittedAnswer room (taken n n) ⌝ }
@@ -159,7 +147,7 @@ pub fn check_request(
         return refused_at(second.refusal(), name_at);
     };
     let size_at = name_at + name_size + 8;
-    if !is_size(length) {
+    if !record::is_size(length) {
         return Written::Refused(Refusal {
             number: 10,
             place: size_at,

@@ -2,7 +2,7 @@
 ghost use mathlib.Core.Path.{_≡_};
 ghost use mathlib.Core.List.{[], _++_};
 ghost use Prim.Native.Nat.{_+_, _≤_};
-ghost use lib.ListN.{length, take};
+ghost use lib.ListN.{length};
 ghost use Rattle.xdr.specs.Buffer.{filled};
 ghost use Rattle.xdr.specs.Fields.{word};
 ghost use Rattle.xdr.specs.Format.{nothing, encode};
@@ -73,7 +73,7 @@ fn store_request(
     xdr::put_bytes(out, offset_at + 12, hash);
 }
 
-// Each kind of body behind a header: checked, and put where the check takes it.
+// Each kind of body behind a header: checked, and put where it passes.
 
 fn put_index(out: &mut [u8], head: u32, repository: &[u8], files: &[u8]) -> Written
     ensures { λ r. ⌜ (r ≡ bodyFitted index (indexBytes (now (repository .entry)) (now (files .entry))) (length (now (out .entry)))) × (now (out .exit) ≡ storedBuffer r (now (out .entry)) (encode word head ++ indexBytes (now (repository .entry)) (now (files .entry)))) ⌝ }

@@ -7,11 +7,13 @@ use lib.Dec.{ltb}
 use Rattle.order.specs.declared.compare.Order.{Order}
 use Rattle.order.specs.declared.compare.Order.the-variants.{Less, Equal, Greater}
 
+-- the first is lower
 abbrev pub isLess : Order → Bool
 isLess Less = true
 isLess Equal = false
 isLess Greater = false
 
+-- neither is lower
 abbrev pub isEqual : Order → Bool
 isEqual Less = false
 isEqual Equal = true
@@ -23,6 +25,7 @@ orElse Less o = Less
 orElse Equal o = o
 orElse Greater o = Greater
 
+-- two numbers
 unfoldable pub compareNumbers : ℕ → ℕ → Order
 compareNumbers m n = cond (ltb m n) Less (cond (ltb n m) Greater Equal)
 

@@ -5,6 +5,7 @@ ghost use lib.ListN.{length, drop};
 ghost use Rattle.order.specs.Order.{isLess, isEqual, compareNumbers, compareLists, part as partOf};
 use xdr::Hyper;
 
+// How the first of two compares with the second.
 pub enum Order {
     Less,
     Equal,
@@ -12,6 +13,7 @@ pub enum Order {
 }
 
 impl Order {
+    // Whether the first is lower.
     pub fn is_less(self) -> bool
         ensures { λ r. ⌜ r ≡ isLess self ⌝ }
     {
@@ -22,6 +24,7 @@ impl Order {
         }
     }
 
+    // Whether neither is lower.
     pub fn is_equal(self) -> bool
         ensures { λ r. ⌜ r ≡ isEqual self ⌝ }
     {

@@ -5,7 +5,8 @@ pub mod Numbers
 mod MemoryLaws
 pub mod Merges
 pub mod SampleMerges
-mod ListHistory
+pub mod ListCalls
+pub mod ListHistory
 pub mod Requests
 mod HeldLaws
 pub mod RequestList

@@ -26,8 +26,8 @@ use Rattle.queue.proofs.RequestLaws.{both}
 use Rattle.queue.proofs.QueueLaws.{Orderly, orderly-facts, orderly-made}
 use Rattle.queue.proofs.IssueLaws.{issuing-tells}
 use Rattle.queue.proofs.Moves.{Good, nextRequest, outstanding-appended, good-appended, outstanding-without, good-without, good-emptied, Apart, first-apart}
-use Rattle.promises.specs.History.{Event, issue-was, answer-was, drop-was, issued, settles, settled, kept, standing}
-use Rattle.promises.specs.ListCalls.{ListCall, issue, answer, drop, listAfter, listEvent, listFinal, listHistory}
+use Rattle.promises.specs.History.{Event, issueWas, answerWas, dropWas, issued, settles, settled, kept, standing}
+use Rattle.promises.proofs.ListCalls.{ListCall, issue, answer, drop, listAfter, listEvent, listFinal, listHistory}
 
 -- what is kept of some requests
 
@@ -71,21 +71,21 @@ stays q e g h n =
 
 moved-issue : (held limit : ℕ) (q : RequestQueue) (r n : List ℕ) (o size : ℕ) (h : List ℕ) (room : ℕ) (x : Reading (List ℕ))
     → issuing held limit q (requestBytes r n o size h) size room ≡ x → Good q
-    → Moved q (issue-was size (issuedWith q size (writtenAnswer x) .outcome)) (issuedWith q size (writtenAnswer x) .queue)
+    → Moved q (issueWas size (issuedWith q size (writtenAnswer x) .outcome)) (issuedWith q size (writtenAnswer x) .queue)
 moved-issue held limit q r n o size h room (taken l k) e g =
     let s : Orderly q = orderly-facts q (g .orderly) in
     let a = issuing-tells held limit q r n o size h room l k s e in
-    let w : Event = issue-was size (I.Issued (q .next) k) in
+    let w : Event = issueWas size (I.Issued (q .next) k) in
     let out : outstanding (appended q size) ≡ outstanding q ++ (nextRequest q size ∷ []) = outstanding-appended q size (omega (arith, g .long, a .0, s .high)) in
     record {
       good = good-appended q size g (a .0) (a .1);
       keeps = λ es. ap (kept es) out ∙ kept-append es (outstanding q) (nextRequest q size ∷ [])
           ∙ ap (λ (l : List Request). l ++ kept es (nextRequest q size ∷ [])) (sym (kept-past w es (outstanding q) (λ id. refl)));
     }
-moved-issue held limit q r n o size h room (refused k p) e g = stays q (issue-was size (I.Refused (record { number = k; place = p }))) g (λ id. refl) refl
+moved-issue held limit q r n o size h room (refused k p) e g = stays q (issueWas size (I.Refused (record { number = k; place = p }))) g (λ id. refl) refl
 
 settles-released : (i id : ℕ) (x : ResponseSpan) (r : Request) (a b : Bool)
-    → settles i (answer-was (M.Response id x) (cond a (A.NotAvailable r) (cond b (A.Data r (x .«data»)) (A.WrongSize r)))) ≡ eqb id i
+    → settles i (answerWas (M.Response id x) (cond a (A.NotAvailable r) (cond b (A.Data r (x .«data»)) (A.WrongSize r)))) ≡ eqb id i
 settles-released i id x r true b = refl
 settles-released i id x r false true = refl
 settles-released i id x r false false = refl
@@ -100,7 +100,7 @@ rest-length q r rs g e =
 -- an answer to the oldest
 module _ (q : RequestQueue) (id : ℕ) (x : ResponseSpan) (r : Request) (rs : List Request) (e : outstanding q ≡ r ∷ rs) (g : Good q) where
   abbrev was : Event
-  was = answer-was (M.Response id x) (released r (x .«data»))
+  was = answerWas (M.Response id x) (released r (x .«data»))
 
   moved-oldest : r .id ≡ id → Moved q was (withoutOldest q)
   moved-oldest same =
@@ -123,19 +123,19 @@ module _ (q : RequestQueue) (id : ℕ) (x : ResponseSpan) (r : Request) (rs : Li
   abbrev ruled : Bool → Answered
   ruled t = cond t (record { queue = withoutOldest q; outcome = released r (x .«data») }) (keptWith q (numbered 20))
 
-  moved-ruled : (t : Bool) → eqb (r .id) id ≡ t → Moved q (answer-was (M.Response id x) (ruled t .outcome)) (ruled t .queue)
+  moved-ruled : (t : Bool) → eqb (r .id) id ≡ t → Moved q (answerWas (M.Response id x) (ruled t .outcome)) (ruled t .queue)
   moved-ruled true same = moved-oldest (eqb-true _ _ same)
-  moved-ruled false other = stays q (answer-was (M.Response id x) (A.Refused (numbered 20))) g (λ i. refl) refl
+  moved-ruled false other = stays q (answerWas (M.Response id x) (A.Refused (numbered 20))) g (λ i. refl) refl
 
 moved-response : (q : RequestQueue) (id : ℕ) (x : ResponseSpan) (rs : List Request) → outstanding q ≡ rs → Good q
-    → Moved q (answer-was (M.Response id x) (settledBy q rs id (x .«data») .outcome)) (settledBy q rs id (x .«data») .queue)
-moved-response q id x [] e g = stays q (answer-was (M.Response id x) (A.Refused (numbered 20))) g (λ i. refl) refl
+    → Moved q (answerWas (M.Response id x) (settledBy q rs id (x .«data») .outcome)) (settledBy q rs id (x .«data») .queue)
+moved-response q id x [] e g = stays q (answerWas (M.Response id x) (A.Refused (numbered 20))) g (λ i. refl) refl
 moved-response q id x (r ∷ rs) e g = moved-ruled q id x r rs e g (eqb (r .id) id) refl
 
-refused-answer : (q : RequestQueue) (m : Message) (r : Refusal) → Good q → Moved q (answer-was m (A.Refused r)) q
-refused-answer q m r g = stays q (answer-was m (A.Refused r)) g (λ i. refl) refl
+refused-answer : (q : RequestQueue) (m : Message) (r : Refusal) → Good q → Moved q (answerWas m (A.Refused r)) q
+refused-answer q m r g = stays q (answerWas m (A.Refused r)) g (λ i. refl) refl
 
-moved-answer : (q : RequestQueue) (m : Message) → Good q → Moved q (answer-was m (answeredBy q m .outcome)) (answeredBy q m .queue)
+moved-answer : (q : RequestQueue) (m : Message) → Good q → Moved q (answerWas m (answeredBy q m .outcome)) (answeredBy q m .queue)
 moved-answer q (M.Response id x) g = moved-response q id x (outstanding q) refl g
 moved-answer q (M.Refused r) g = refused-answer q (M.Refused r) r g
 moved-answer q (M.Index id x) g = refused-answer q (M.Index id x) (numbered 18) g
@@ -145,8 +145,8 @@ moved-answer q (M.Pong id end) g = refused-answer q (M.Pong id end) (numbered 18
 moved-answer q (M.IndexUpdate id x) g = refused-answer q (M.IndexUpdate id x) (numbered 18) g
 moved-answer q (M.Options id x) g = refused-answer q (M.Options id x) (numbered 18) g
 
-moved-drop : (q : RequestQueue) → Good q → Moved q (drop-was C.Made) (emptied q)
-moved-drop q g = record { good = good-emptied q g; keeps = λ es. sym (append-nil (kept (drop-was C.Made ∷ es) (outstanding q)) ∙ kept-dropped (drop-was C.Made) es (outstanding q) (λ id. refl)) }
+moved-drop : (q : RequestQueue) → Good q → Moved q (dropWas C.Made) (emptied q)
+moved-drop q g = record { good = good-emptied q g; keeps = λ es. sym (append-nil (kept (dropWas C.Made ∷ es) (outstanding q)) ∙ kept-dropped (dropWas C.Made) es (outstanding q) (λ id. refl)) }
 
 moved : (q : RequestQueue) (c : ListCall) → Good q → Moved q (listEvent q c) (listAfter q c)
 moved q (issue held limit r n o size h room) g = moved-issue held limit q r n o size h room (issuing held limit q (requestBytes r n o size h) size room) refl g

@@ -7,7 +7,7 @@ use mathlib.Core.Bool.{Bool, true, false, _&&_, cond}
 use native.Mathlib.Omega.{arith}
 use lib.ListN.{length}
 use Rattle.record.specs.File.{File}
-use Rattle.table.specs.Table.{isGood, isWithin, records, tableOf}
+use Rattle.table.specs.Table.{isGood, allGood, isWithin, records, tableOf}
 use Rattle.table.specs.Filling.{Outcome, accepted, refused, bufferAfter, tableInto}
 use Rattle.record.proofs.RisingLaws.{both-true}
 use Rattle.table.proofs.TableLaws.{GoodTable, good-table, table-good, records-of}
@@ -18,7 +18,7 @@ use Rattle.merge.proofs.AnswerLaws.{first-bad, second-bad}
 use Rattle.merge.proofs.HighestLaws.{AllOK, Within}
 use Rattle.merge.proofs.MergeLaws.{all-ok, joined-append, merged-one, merged-good, merged-origins, merged-same, outcome-by-origins, merge-accepted}
 use Rattle.promises.specs.Memory.{Memory, Region, bytesFrom, bytesIn, written, isApart}
-use Rattle.promises.specs.Merges.{Slice, State, Event, call, write, begun, start, untouched, handAfter, merging, step, run, Allowed, AllAllowed, areGood, mergedTable, Kept, Throughout, HoldsBytes, SameTables}
+use Rattle.promises.specs.Merges.{Slice, State, Event, call, write, begun, start, untouched, handAfter, merging, step, run, Allowed, AllAllowed, mergedTable, Kept, Throughout, HoldsBytes, SameTables}
 use Rattle.promises.proofs.MemoryLaws.{bytes-written, bytes-apart, written-back, written-filled, holds-bytes}
 
 abbrev _∈_ : Slice → List Slice → Type 0
@@ -53,9 +53,9 @@ stays r (y ∷ ys) x m a = go (isApart (y .region) r) refl (λ k. stays r ys x k
 abbrev Origins : List (List ℕ) → Type 0
 Origins ts = AllOK (joined (map records ts))
 
-good-append : (ts us : List (List ℕ)) → areGood ts ≡ true → areGood us ≡ true → areGood (ts ++ us) ≡ true
+good-append : (ts us : List (List ℕ)) → allGood ts ≡ true → allGood us ≡ true → allGood (ts ++ us) ≡ true
 good-append [] us p q = q
-good-append (t ∷ ts) us p q = let b = both-true (isGood t) (areGood ts) p in rw (b .0) (good-append ts us (b .1) q)
+good-append (t ∷ ts) us p q = let b = both-true (isGood t) (allGood ts) p in rw (b .0) (good-append ts us (b .1) q)
 
 records-append : (ts us : List (List ℕ)) → Origins ts → Origins us → AllOK (joined (map records ts ++ map records us))
 records-append ts us p q f m =
@@ -67,8 +67,8 @@ origins-append ts us p q = subst (λ (l : List (List File)). AllOK (joined l)) (
 -- what is known of a slice at hand: it is a starting slice and no good table, or a good table of its origins' merged records
 
 data Known (m : Memory) (x : Slice) : Type 0 where
-  bad : x .made ≡ false → isGood (bytesIn m (x .region)) ≡ false → areGood (x .origins) ≡ false → Known m x
-  good : areGood (x .origins) ≡ true → Origins (x .origins) → GoodTable (bytesIn m (x .region)) (mergedOf (map records (x .origins))) → Known m x
+  bad : x .made ≡ false → isGood (bytesIn m (x .region)) ≡ false → allGood (x .origins) ≡ false → Known m x
+  good : allGood (x .origins) ≡ true → Origins (x .origins) → GoodTable (bytesIn m (x .region)) (mergedOf (map records (x .origins))) → Known m x
 
 moved : (m n : Memory) (x : Slice) → bytesIn n (x .region) ≡ bytesIn m (x .region) → Known m x → Known n x
 moved m n x e (bad f b g) = bad f (ap isGood e ∙ b) g
@@ -76,7 +76,7 @@ moved m n x e (good g o t) = good g o (subst (λ (l : List ℕ). GoodTable l (me
 
 -- two slices merged
 by-origins : (m : Memory) (x y : Slice) (room : ℕ) → Known m x → Known m y
-    → merging m x y room ≡ cond (areGood (x .origins) && areGood (y .origins)) (tableInto (mergedOf (map records (x .origins ++ y .origins))) room) (refused 15 0)
+    → merging m x y room ≡ cond (allGood (x .origins) && allGood (y .origins)) (tableInto (mergedOf (map records (x .origins ++ y .origins))) room) (refused 15 0)
 by-origins m x y room (bad f b g) k = first-bad (bytesIn m (x .region)) (bytesIn m (y .region)) room b ∙ rw g refl
 by-origins m x y room (good g o t) (bad f b h) =
     second-bad (bytesIn m (x .region)) (bytesIn m (y .region)) room (table-good (bytesIn m (x .region)) (mergedOf (map records (x .origins))) t) b ∙ rw (g, h) refl
@@ -162,15 +162,15 @@ kept s h =
       answers = λ x y i j room. by-origins (s .memory) x y room (h x i) (h y j);
     }
   where
-    result : (x : Slice) → x .made ≡ true → Known (s .memory) x → areGood (x .origins) ≡ true
+    result : (x : Slice) → x .made ≡ true → Known (s .memory) x → allGood (x .origins) ≡ true
     result x e (bad f b g) = let z : _≡_ {A = ℕ} 0 1 = cc in absurd (omega arith)
     result x e (good g o t) = g
 
-    same-test : (x : Slice) → Known (s .memory) x → isGood (bytesIn (s .memory) (x .region)) ≡ areGood (x .origins)
+    same-test : (x : Slice) → Known (s .memory) x → isGood (bytesIn (s .memory) (x .region)) ≡ allGood (x .origins)
     same-test x (bad f b g) = b ∙ sym g
     same-test x (good g o t) = table-good (bytesIn (s .memory) (x .region)) (mergedOf (map records (x .origins))) t ∙ sym g
 
-    same-bytes : (x : Slice) → areGood (x .origins) ≡ true → Known (s .memory) x → bytesIn (s .memory) (x .region) ≡ mergedTable (x .origins)
+    same-bytes : (x : Slice) → allGood (x .origins) ≡ true → Known (s .memory) x → bytesIn (s .memory) (x .region) ≡ mergedTable (x .origins)
     same-bytes x e (bad f b g) = let z : _≡_ {A = ℕ} 0 1 = cc in absurd (omega arith)
     same-bytes x e (good g o t) = t .is
 

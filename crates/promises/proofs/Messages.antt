@@ -22,7 +22,7 @@ use Rattle.record.specs.File.{file}
 use Rattle.message.specs.Limits.{idLimit}
 use Rattle.message.specs.Header.{headerOf, versionOf, reservedOf, idOf, typeOf, header}
 use Rattle.message.specs.Message.{Kind, isIndex, isRequest, isResponse, isPing, isPong, isIndexUpdate, isOptions, kindOf, Body, body, Sent, message}
-use Rattle.message.specs.Answers.{bodyAnswer, messageAnswer}
+use Rattle.message.specs.Answers.{bodyAnswer, messageAnswer, said}
 use Rattle.message_write.specs.Writing.{messageBytes, fitted, writing, writtenBuffer}
 use Rattle.promises.specs.Fields.{fieldBytes}
 
@@ -150,7 +150,7 @@ written-header id type b room l n h = by-id (leb id idLimit) refl
 -- so reading it answers the ID and the kind that were given, with the spans of their fields
 pub written-answers : (id type : ℕ) (b : Body (kindOf type)) (t : List ℕ) (room : ℕ) (l : List ℕ) (n : ℕ) → type ≤ 7
     → writing id type (fieldBytes (kindOf type) b ++ t) room ≡ taken l n
-    → (u : List ℕ) → messageAnswer (readAt message (l ++ u) 0) ≡ bodyAnswer (kindOf type) id (taken b n)
+    → (u : List ℕ) → said (l ++ u) ≡ bodyAnswer (kindOf type) id (taken b n)
 unfolding readAt
 written-answers id type b t room l n h e u =
     let q = written-header id type (fieldBytes (kindOf type) b ++ t) room l n h e in

@@ -8,12 +8,12 @@ use lib.ListN.{length, getD}
 use Rattle.xdr.specs.Number.{IsBytes}
 use Rattle.record.specs.Block.{Block, totalSize}
 use Rattle.record.specs.File.{File}
-use Rattle.table.specs.Table.{isGood, records}
+use Rattle.table.specs.Table.{isGood, allGood, records}
 use Rattle.record.proofs.RisingLaws.{Rising, both-true}
 use Rattle.table.proofs.TableLaws.{good-table}
 use Rattle.merge.specs.Merged.{mergedOf}
 use Rattle.want.specs.Listing.{listsThere}
-use Rattle.want.specs.Wanted.{peerFrom, requestList, allGood, requestOutcome}
+use Rattle.want.specs.Wanted.{peerFrom, requestList, requestOutcome}
 use Rattle.want.specs.declared.list.Wanted.{Wanted}
 use Rattle.want.proofs.RequestLaws.{Asked, Lowest, request-of, request-in, request-order, request-peer}
 use Rattle.promises.proofs.HeldLaws.{unheld-words, words-unheld}

@@ -16,6 +16,7 @@ use Rattle.message.specs.Message.{Sent, message}
 use Rattle.message.specs.declared.answer.Span.{Span}
 use Rattle.message.specs.declared.answer.Message.{Message}
 use Rattle.message.specs.declared.answer.Message.the-variants as M
+use Rattle.message.specs.Answers.{said}
 use Rattle.message_write.specs.Writing.{messageBytes, requestBytes, writing, writtenAnswer, writtenBuffer}
 use Rattle.queue.specs.Requests.{total}
 use Rattle.queue.specs.Queue.{allowance, windowFits, outstanding, isSound, numbered, emptyQueue, opening, issuing, appended, issuedWith, issueReading, issueOf, withoutOldest, released, keptWith, settledBy, answeredBy, answerOf, emptied, dropOf}
@@ -30,9 +31,9 @@ use Rattle.queue.specs.declared.outcome.Answering.the-variants as A
 use Rattle.queue.proofs.QueueLaws.{Sound, sound-facts, sound-made, Orderly, orderly-facts}
 use Rattle.queue.proofs.IssueLaws.{issuing-tells}
 use Rattle.queue.proofs.Moves.{Good, nextRequest, outstanding-appended, total-append, outstanding-without}
-use Rattle.promises.specs.History.{Call, issue, answer, drop, Event, issue-was, answer-was, drop-was, said, after-call, event, final, history, standing, Held}
-use Rattle.promises.specs.ListCalls as list
-use Rattle.promises.specs.ListCalls.{ListCall, listAfter, listEvent, listFinal, listHistory}
+use Rattle.promises.specs.History.{Call, issue, answer, drop, Event, issueWas, answerWas, dropWas, afterCall, event, final, history, standing, Held}
+use Rattle.promises.proofs.ListCalls as list
+use Rattle.promises.proofs.ListCalls.{ListCall, listAfter, listEvent, listFinal, listHistory}
 use Rattle.promises.proofs.ListHistory.{list-run, opened-good}
 
 -- a call as the list sees it
@@ -60,15 +61,15 @@ module _ (q : RequestQueue) (s : isSound q ≡ true) where
   same-drop : dropOf q ≡ record { queue = emptied q; outcome = C.Made }
   same-drop = past-22 q (record { queue = emptied q; outcome = C.Made }) (record { queue = q; outcome = C.Refused (numbered 22) }) s
 
-  same-after : (c : Call) → after-call q c ≡ listAfter q (listCall q c)
+  same-after : (c : Call) → afterCall q c ≡ listAfter q (listCall q c)
   same-after (issue r n o size h room) = ap (λ (x : Issued). x .queue) (same-issue (requestBytes r n o size h) size room)
   same-after (answer m) = ap (λ (x : Answered). x .queue) (same-answer (said m))
   same-after drop = ap (λ (x : Changed). x .queue) same-drop
 
   same-event : (c : Call) → event q c ≡ listEvent q (listCall q c)
-  same-event (issue r n o size h room) = ap (λ (x : Issued). issue-was size (x .outcome)) (same-issue (requestBytes r n o size h) size room)
-  same-event (answer m) = ap (λ (x : Answered). answer-was (said m) (x .outcome)) (same-answer (said m))
-  same-event drop = ap (λ (x : Changed). drop-was (x .outcome)) same-drop
+  same-event (issue r n o size h room) = ap (λ (x : Issued). issueWas size (x .outcome)) (same-issue (requestBytes r n o size h) size room)
+  same-event (answer m) = ap (λ (x : Answered). answerWas (said m) (x .outcome)) (same-answer (said m))
+  same-event drop = ap (λ (x : Changed). dropWas (x .outcome)) same-drop
 
 -- the total stays within the allowance
 
@@ -120,7 +121,7 @@ same [] q g t = record { calls = []; finals = refl; histories = refl; inside = t
 same (c ∷ cs) q g t =
     let l : ListCall = listCall q c in
     let s : isSound q ≡ true = sound-is q g t in
-    let a : after-call q c ≡ listAfter q l = same-after q s c in
+    let a : afterCall q c ≡ listAfter q l = same-after q s c in
     let h : Same (listAfter q l) cs = same cs (listAfter q l) (list-run (l ∷ []) q g .0) (within q c g t) in
     record {
       calls = l ∷ h .calls;

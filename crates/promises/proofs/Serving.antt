@@ -12,7 +12,7 @@ use Rattle.xdr.specs.Pad.{allZero}
 use Rattle.xdr.specs.Format.{read, readAt, encode}
 use Rattle.message.specs.Header.{headerOf, typeOf, idOf}
 use Rattle.message.specs.Message.{Kind, isIndex, isRequest, isResponse, isPing, isPong, isIndexUpdate, isOptions, kindOf, Body, Sent, message}
-use Rattle.message.specs.Answers.{bodyAnswer, messageAnswer}
+use Rattle.message.specs.Answers.{bodyAnswer, messageAnswer, said}
 use Rattle.message.specs.declared.answer.RequestSpan.{RequestSpan}
 use Rattle.message.specs.declared.answer.Message.{Message}
 use Rattle.message.specs.declared.answer.Message.the-variants as M
@@ -20,8 +20,7 @@ use Rattle.message_write.specs.Writing.{messageBytes, responseBytes, fitted, wr
 use Rattle.message_write.proofs.WritingLaws.{by-body}
 use Rattle.order.specs.Order.{isEqual, compareLists}
 use Rattle.table.specs.Table.{isGood, records}
-use Rattle.want.specs.Listing.{listsThere}
-use Rattle.want.specs.Blocks.{blockWith}
+use Rattle.want.specs.Listing.{listsThere, blockWith}
 use Rattle.serve.specs.Ruling.{isOurs, Ruling, replies, rulingOf, replyAnswer, servingAnswer, servingBuffer}
 use Rattle.serve.specs.declared.ruling.Serving.the-variants as S
 use Rattle.serve.proofs.RulingLaws.{table-good, ours-not}
@@ -82,7 +81,7 @@ module _ (id : ℕ) (h : id ≤ 4095) where
       record { answered = ap (λ (x : Reading (List ℕ)). replyAnswer (writtenAnswer x)) w ∙ q .0; buffer = ap (writtenBuffer out) w ∙ q .1 }
 
 -- a Request that is not ours gets the reply under its ID
-pub unserved-replied : (t repository s out : List ℕ) (id : ℕ) (x : RequestSpan) → isGood t ≡ true → messageAnswer (readAt message s 0) ≡ M.Request id x → isOurs t repository s x ≡ false
+pub unserved-replied : (t repository s out : List ℕ) (id : ℕ) (x : RequestSpan) → isGood t ≡ true → said s ≡ M.Request id x → isOurs t repository s x ≡ false
     → Replied id out (servingAnswer (rulingOf t repository s) (length out)) (servingBuffer (rulingOf t repository s) out)
 unserved-replied t repository s out id x g e o =
     let ruling : rulingOf t repository s ≡ replies id = table-good t repository s out g (sym e) refl refl ∙ ours-not t repository s out id x refl o in

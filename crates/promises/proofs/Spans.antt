@@ -16,7 +16,7 @@ use Rattle.xdr.proofs.Parts.{pair-parts}
 use Rattle.xdr.proofs.Corollaries.{read-exactly}
 use Rattle.message.specs.Header.{typeOf, idOf}
 use Rattle.message.specs.Message.{Kind, isIndex, isRequest, isResponse, isPing, isPong, isIndexUpdate, isOptions, kindOf, Body, body, Sent, index, request, response, message}
-use Rattle.message.specs.Answers.{indexSpan, requestSpan, responseSpan, optionsSpan, bodyAnswer, messageAnswer}
+use Rattle.message.specs.Answers.{indexSpan, requestSpan, responseSpan, optionsSpan, bodyAnswer, messageAnswer, said}
 use Rattle.message.specs.declared.answer.RequestSpan.{RequestSpan}
 use Rattle.serve.specs.Ruling.{spanBytes}
 use Rattle.serve.proofs.SpanLaws.{fields}
@@ -98,7 +98,7 @@ body-there {s} {m} {n} e =
 
 -- every message that is read
 pub spans-are-fields : (s : List ℕ) (m : Sent) (n : ℕ) → IsBytes s → read message s ≡ taken m n
-    → Answers s (idOf (m .0)) (kindOf (typeOf (m .0))) (m .1) n (messageAnswer (readAt message s 0))
+    → Answers s (idOf (m .0)) (kindOf (typeOf (m .0))) (m .1) n (said s)
 spans-are-fields s m n b e =
     let k : Kind = kindOf (typeOf (m .0)) in
     subst (λ (r : Reading Sent). Answers s (idOf (m .0)) k (m .1) n (messageAnswer r)) (sym (from-start s ∙ e))

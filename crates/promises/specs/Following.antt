@@ -6,11 +6,11 @@ use lib.ListN.{length}
 use Rattle.xdr.specs.Reading.{refused}
 use Rattle.xdr.specs.Format.{read}
 use Rattle.message.specs.Message.{message}
+use Rattle.message.specs.Answers.{said}
 use Rattle.accept.specs.Accepting.{acceptOutcome}
 use Rattle.serve.specs.Ruling.{rulingOf, servingAnswer, servingBuffer}
 use Rattle.queue.specs.Queue.{answerOf}
 use Rattle.queue.specs.declared.queue.RequestQueue.{RequestQueue}
-use Rattle.promises.specs.History.{said}
 
 -- the bytes are enough to tell: they are taken as a message, or refused with another number than 1
 abbrev pub IsEnough : List ℕ → Type 0

@@ -6,9 +6,7 @@ use mathlib.Core.List.{List, [], _∷_, _++_}
 use mathlib.Core.Path.{_≡_}
 use lib.ListN.{length}
 use lib.Dec.{eqb}
-use Rattle.xdr.specs.Format.{readAt}
-use Rattle.message.specs.Message.{message}
-use Rattle.message.specs.Answers.{messageAnswer}
+use Rattle.message.specs.Answers.{said}
 use Rattle.message.specs.declared.answer.Message.{Message}
 use Rattle.message.specs.declared.answer.Message.the-variants as M
 use Rattle.message_write.specs.Writing.{requestBytes}
@@ -31,40 +29,38 @@ pub data Call : Type 0 where
 
 -- a call with what came of it: of a message, what it says
 pub data Event : Type 0 where
-  issue-was : (size : ℕ) → Issuing → Event
-  answer-was : Message → Answering → Event
-  drop-was : Change → Event
+  issueWas : (size : ℕ) → Issuing → Event
+  answerWas : Message → Answering → Event
+  dropWas : Change → Event
 
--- what a message says
-abbrev pub said : List ℕ → Message
-said s = messageAnswer (readAt message s 0)
+-- the queue that a call hands back
+abbrev pub afterCall : RequestQueue → Call → RequestQueue
+afterCall q (issue r n o size h room) = issueOf q (requestBytes r n o size h) size room .queue
+afterCall q (answer s) = answerOf q (said s) .queue
+afterCall q drop = dropOf q .queue
 
--- the queue that a call hands back, and the event
-abbrev pub after-call : RequestQueue → Call → RequestQueue
-after-call q (issue r n o size h room) = issueOf q (requestBytes r n o size h) size room .queue
-after-call q (answer s) = answerOf q (said s) .queue
-after-call q drop = dropOf q .queue
-
+-- the event that a call is
 abbrev pub event : RequestQueue → Call → Event
-event q (issue r n o size h room) = issue-was size (issueOf q (requestBytes r n o size h) size room .outcome)
-event q (answer s) = answer-was (said s) (answerOf q (said s) .outcome)
-event q drop = drop-was (dropOf q .outcome)
+event q (issue r n o size h room) = issueWas size (issueOf q (requestBytes r n o size h) size room .outcome)
+event q (answer s) = answerWas (said s) (answerOf q (said s) .outcome)
+event q drop = dropWas (dropOf q .outcome)
 
--- the queue after some calls, and their history
+-- the queue after some calls
 abbrev pub final : RequestQueue → List Call → RequestQueue
 final q [] = q
-final q (c ∷ cs) = final (after-call q c) cs
+final q (c ∷ cs) = final (afterCall q c) cs
 
+-- the events that some calls are
 abbrev pub history : RequestQueue → List Call → List Event
 history q [] = []
-history q (c ∷ cs) = event q c ∷ history (after-call q c) cs
+history q (c ∷ cs) = event q c ∷ history (afterCall q c) cs
 
 -- the request that an event issued
 abbrev pub issued : Event → List Request
-issued (issue-was size (I.Issued id n)) = record { id = id; length = size } ∷ []
-issued (issue-was size (I.Refused r)) = []
-issued (answer-was m o) = []
-issued (drop-was o) = []
+issued (issueWas size (I.Issued id n)) = record { id = id; length = size } ∷ []
+issued (issueWas size (I.Refused r)) = []
+issued (answerWas m o) = []
+issued (dropWas o) = []
 
 -- an answer that was taken
 abbrev pub isTaken : Answering → Bool
@@ -86,11 +82,12 @@ responds id (M.Refused r) = false
 
 -- an event settles the request of an ID: the Response to it was taken, or the link was dropped
 abbrev pub settles : (id : ℕ) → Event → Bool
-settles id (issue-was size o) = false
-settles id (answer-was m o) = cond (isTaken o) (responds id m) false
-settles id (drop-was C.Made) = true
-settles id (drop-was (C.Refused r)) = false
+settles id (issueWas size o) = false
+settles id (answerWas m o) = cond (isTaken o) (responds id m) false
+settles id (dropWas C.Made) = true
+settles id (dropWas (C.Refused r)) = false
 
+-- one of some events settles the request of an ID
 abbrev pub settled : (id : ℕ) → List Event → Bool
 settled id [] = false
 settled id (e ∷ es) = settles id e || settled id es
@@ -111,6 +108,6 @@ pub record Held (window : ℕ) (calls : List Call) : Type 0 where
   pub exact : outstanding (final (opening window .queue) calls) ≡ standing (history (opening window .queue) calls)
   -- it is sound
   pub sound : isSound (final (opening window .queue) calls) ≡ true
-  -- both totals are those of the list, and within the window and the allowance
+  -- so their number is within the window, and their bytes within the allowance
   pub counted : length (standing (history (opening window .queue) calls)) ≤ window
   pub summed : total (standing (history (opening window .queue) calls)) ≤ allowance

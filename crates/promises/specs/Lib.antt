@@ -3,7 +3,6 @@ pub mod Vectors
 pub mod Memory
 pub mod Merges
 pub mod History
-pub mod ListCalls
 pub mod RequestList
 pub mod Spans
 pub mod Serving

@@ -8,6 +8,7 @@ use lib.Dec.{leb, eqb}
 abbrev pub Memory : Type 0
 Memory = ℕ → ℕ
 
+-- so many addresses from one on
 pub record Region : Type 0 where
   pub at : ℕ
   pub size : ℕ
@@ -17,6 +18,7 @@ abbrev pub bytesFrom : Memory → (at count : ℕ) → List ℕ
 bytesFrom m at zero = []
 bytesFrom m at (suc n) = m at ∷ bytesFrom m (suc at) n
 
+-- the bytes of a region
 abbrev pub bytesIn : Memory → Region → List ℕ
 bytesIn m r = bytesFrom m (r .at) (r .size)
 

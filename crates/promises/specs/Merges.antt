@@ -4,7 +4,7 @@ use mathlib.Core.List.{List, [], _∷_, _++_, map, List·Memᴰ}
 use mathlib.Core.Path.{_≡_}
 use mathlib.Core.Bool.{Bool, true, false, _&&_, cond}
 use lib.ListN.{length}
-use Rattle.table.specs.Table.{isGood, records, tableOf}
+use Rattle.table.specs.Table.{isGood, allGood, records, tableOf}
 use Rattle.table.specs.Filling.{Outcome, accepted, refused, bufferAfter, tableInto}
 use Rattle.merge.specs.Merged.{mergedOf}
 use Rattle.merge.specs.Answer.{mergeOutcome}
@@ -16,10 +16,12 @@ pub record Slice : Type 0 where
   pub made : Bool
   pub origins : List (List ℕ)
 
+-- the memory, and the slices at hand
 pub record State : Type 0 where
   pub memory : Memory
   pub hand : List Slice
 
+-- what may happen
 pub data Event : Type 0 where
   -- merge is called with two slices at hand, or one twice, and a buffer
   call : (x y : Slice) (buffer : Region) → Event
@@ -30,6 +32,7 @@ pub data Event : Type 0 where
 abbrev pub begun : Memory → Region → Slice
 begun m r = record { region = r; made = false; origins = bytesIn m r ∷ [] }
 
+-- at the start the starting slices are at hand
 abbrev pub start : Memory → List Region → State
 start m rs = record { memory = m; hand = map (begun m) rs }
 
@@ -49,14 +52,14 @@ handAfter (accepted l) x y at hand =
 abbrev pub merging : Memory → (x y : Slice) → (room : ℕ) → Outcome
 merging m x y room = mergeOutcome (bytesIn m (x .region)) (bytesIn m (y .region)) room
 
--- and of the buffer after it; all else is as it was
-abbrev pub afterCall : Outcome → State → (x y : Slice) → (buffer : Region) → State
-afterCall o s x y b = record { memory = written (s .memory) (b .at) (bufferAfter o (bytesIn (s .memory) b)); hand = handAfter o x y (b .at) (s .hand) }
-
+-- what is after an event: a call leaves the buffer as the contract of merge says, and all else as it was
 abbrev pub step : State → Event → State
-step s (call x y b) = afterCall (merging (s .memory) x y (b .size)) s x y b
+step s (call x y b) =
+    let o : Outcome = merging (s .memory) x y (b .size) in
+    record { memory = written (s .memory) (b .at) (bufferAfter o (bytesIn (s .memory) b)); hand = handAfter o x y (b .at) (s .hand) }
 step s (write at l) = record { memory = written (s .memory) at l; hand = untouched (record { at = at; size = length l }) (s .hand) }
 
+-- what is after some events
 abbrev pub run : State → List Event → State
 run s [] = s
 run s (e ∷ es) = run (step s e) es
@@ -66,13 +69,10 @@ abbrev pub Allowed : State → Event → Type 0
 Allowed s (call x y b) = List·Memᴰ x (s .hand) × List·Memᴰ y (s .hand) × (isApart (x .region) b ≡ true) × (isApart (y .region) b ≡ true)
 Allowed s (write at l) = Unit {0}
 
+-- each of some events is allowed when it happens
 abbrev pub AllAllowed : State → List Event → Type 0
 AllAllowed s [] = Unit {0}
 AllAllowed s (e ∷ es) = Allowed s e × AllAllowed (step s e) es
-
-abbrev pub areGood : List (List ℕ) → Bool
-areGood [] = true
-areGood (t ∷ ts) = isGood t && areGood ts
 
 -- the merged table of some tables
 abbrev pub mergedTable : List (List ℕ) → List ℕ
@@ -81,14 +81,14 @@ mergedTable ts = tableOf (mergedOf (map records ts))
 -- what is claimed of all that is at hand
 pub record Kept (s : State) : Type 0 where
   -- the origins of a result are good tables
-  pub results : (x : Slice) → List·Memᴰ x (s .hand) → x .made ≡ true → areGood (x .origins) ≡ true
+  pub results : (x : Slice) → List·Memᴰ x (s .hand) → x .made ≡ true → allGood (x .origins) ≡ true
   -- a slice is a good table exactly if its origins are
-  pub good : (x : Slice) → List·Memᴰ x (s .hand) → isGood (bytesIn (s .memory) (x .region)) ≡ areGood (x .origins)
+  pub good : (x : Slice) → List·Memᴰ x (s .hand) → isGood (bytesIn (s .memory) (x .region)) ≡ allGood (x .origins)
   -- and is then the merged table of its origins, byte for byte
-  pub same : (x : Slice) → List·Memᴰ x (s .hand) → areGood (x .origins) ≡ true → bytesIn (s .memory) (x .region) ≡ mergedTable (x .origins)
+  pub same : (x : Slice) → List·Memᴰ x (s .hand) → allGood (x .origins) ≡ true → bytesIn (s .memory) (x .region) ≡ mergedTable (x .origins)
   -- merging two good ones goes by the merged table of all their origins (19, 14, the length reported), merging others is refused with 15
   pub answers : (x y : Slice) → List·Memᴰ x (s .hand) → List·Memᴰ y (s .hand) → (room : ℕ)
-      → merging (s .memory) x y room ≡ cond (areGood (x .origins) && areGood (y .origins)) (tableInto (mergedOf (map records (x .origins ++ y .origins))) room) (refused 15 0)
+      → merging (s .memory) x y room ≡ cond (allGood (x .origins) && allGood (y .origins)) (tableInto (mergedOf (map records (x .origins ++ y .origins))) room) (refused 15 0)
 
 -- before each event and after the last
 abbrev pub Throughout : State → List Event → Type 0

@@ -15,10 +15,12 @@ pub data Vector : Type 0 where
   reads : List ℕ → Reading Sent → Vector
   newer : (modified other : ℕ) → Vector
 
+-- what a case says
 abbrev pub Holds : Vector → Type 0
 Holds (reads bytes gives) = read message bytes ≡ gives
 Holds (newer modified other) = (f g : File) → f .modified ≡ modified → g .modified ≡ other → compareFiles f g ≡ Greater
 
+-- K1 to K10
 unfoldable pub vectors : List Vector
 vectors =
     reads (0x00 ∷ 0x00 ∷ 0x04 ∷ 0x00 ∷ []) (taken (headerOf 0 4, tt) 4)

@@ -10,7 +10,7 @@ use lib.Seq.{take-suc-set, take-append-le}
 use lib.Dec.{leb, ltb, eqb}
 use borrow.Author.Tests.{leb-true, le-leb, eqb-true, eq-eqb, ltb-true, ltb-false}
 use Rattle.record.specs.Block.{isSize}
-use Rattle.queue.specs.Requests.{blank, after, total, firstId, follows, inOrder}
+use Rattle.queue.specs.Requests.{blank, after, total, firstId, standsBefore, inOrder}
 use Rattle.queue.specs.Queue.{outstanding, isOrderly, appended, withoutOldest, emptied}
 use Rattle.queue.specs.declared.request.Request.{Request}
 use Rattle.queue.specs.declared.queue.RequestQueue.{RequestQueue}
@@ -43,7 +43,7 @@ inOrder-append : (rs : List Request) (r : Request) → inOrder rs (r .id) ≡ tr
     → inOrder (rs ++ (r ∷ [])) (after (r .id)) ≡ true
 inOrder-append [] r o i l = rw (le-leb _ _ i, eq-eqb (after (r .id)) (after (r .id)) refl, l)
 inOrder-append (x ∷ rs) r o i l =
-    let h = both (follows x (firstId rs (r .id))) (inOrder rs (r .id)) o in
+    let h = both (standsBefore x (firstId rs (r .id))) (inOrder rs (r .id)) o in
     rw (firstId-append rs r (after (r .id)), h .0, inOrder-append rs r (h .1) i l)
 
 after-below : (a : ℕ) (b : Bool) → ltb a 4095 ≡ b → cond b (a + 1) 0 ≤ 4095
@@ -94,7 +94,7 @@ good-without q r rs g e =
         high = s .high;
         held = omega arith;
         next-id = s .next-id;
-        ordered = rw out (both (follows r (firstId rs (q .next))) (inOrder rs (q .next)) o .1);
+        ordered = rw out (both (standsBefore r (firstId rs (q .next))) (inOrder rs (q .next)) o .1);
       });
       long = shifted-long (q .entries) blank (g .long);
     }
@@ -122,7 +122,7 @@ pub apart : (a k p next : ℕ) (rs : List Request) → a ≤ 4095 → 1 ≤ k �
 unfolding Apart
 apart a k p next [] ab kb lb o pb f = tt
 apart a k p next (r ∷ rs) ab kb lb o pb f =
-    let h = both (follows r (firstId rs next)) (inOrder rs next) o in
+    let h = both (standsBefore r (firstId rs next)) (inOrder rs next) o in
     let i = both (leb (r .id) 4095) (eqb (after (r .id)) (firstId rs next) && isSize (r .length)) (h .0) in
     let j = both (eqb (after (r .id)) (firstId rs next)) (isSize (r .length)) (i .1) in
     let ib : r .id ≤ 4095 = leb-true _ _ (i .0) in
@@ -134,7 +134,7 @@ apart a k p next (r ∷ rs) ab kb lb o pb f =
 
 pub first-apart : (r : Request) (rs : List Request) (next : ℕ) → inOrder (r ∷ rs) next ≡ true → length rs ≤ 15 → Apart (r .id) rs
 first-apart r rs next o l =
-    let h = both (follows r (firstId rs next)) (inOrder rs next) o in
+    let h = both (standsBefore r (firstId rs next)) (inOrder rs next) o in
     let i = both (leb (r .id) 4095) (eqb (after (r .id)) (firstId rs next) && isSize (r .length)) (h .0) in
     let j = both (eqb (after (r .id)) (firstId rs next)) (isSize (r .length)) (i .1) in
     let ib : r .id ≤ 4095 = leb-true _ _ (i .0) in

@@ -8,7 +8,7 @@ use lib.ListN.{length, take, drop, getD}
 use lib.Seq.{slice, slice-cons}
 use lib.Dec.{leb, eqb}
 use borrow.Author.Tests.{leb-true}
-use Rattle.queue.specs.Requests.{blank, after, total, firstId, follows, inOrder}
+use Rattle.queue.specs.Requests.{blank, after, total, firstId, standsBefore, inOrder}
 use Rattle.queue.specs.declared.request.Request.{Request}
 
 pub both : (a b : Bool) → (a && b) ≡ true → (a ≡ true) × (b ≡ true)
@@ -19,7 +19,7 @@ both false b p = let z : _≡_ {A = ℕ} 0 1 = cc in absurd (omega arith)
 pub inOrder-drop : (k : ℕ) (rs : List Request) (next : ℕ) → inOrder (drop k rs) next ≡ false → inOrder rs next ≡ false
 inOrder-drop zero rs next p = p
 inOrder-drop (suc k) [] next p = p
-inOrder-drop (suc k) (r ∷ rs) next p = rw (inOrder-drop k rs next p) (and-false (follows r (firstId rs next)))
+inOrder-drop (suc k) (r ∷ rs) next p = rw (inOrder-drop k rs next p) (and-false (standsBefore r (firstId rs next)))
 
 -- what is known of the requests passed
 pub record Passed (rs : List Request) (next follower sum : ℕ) : Type 0 where
@@ -30,7 +30,7 @@ pub record Passed (rs : List Request) (next follower sum : ℕ) : Type 0 where
 pub passed-none : (rs : List Request) (next : ℕ) → rs ≡ [] → Passed rs next next 0
 passed-none rs next e = rw e (record { ordered = refl; first = refl; summed = refl })
 
-passed-cons : (r : Request) (rs : List Request) (next follower sum : ℕ) → Passed rs next follower sum → follows r follower ≡ true
+passed-cons : (r : Request) (rs : List Request) (next follower sum : ℕ) → Passed rs next follower sum → standsBefore r follower ≡ true
     → Passed (r ∷ rs) next (r .id) (sum + r .length)
 passed-cons r rs next follower sum p e = record {
   ordered = rw (← p .first, e, p .ordered);
@@ -38,7 +38,7 @@ passed-cons r rs next follower sum p e = record {
   summed = rw (p .summed) (omega arith);
 }
 
-pub entry-length : (r : Request) (follower : ℕ) → follows r follower ≡ true → r .length ≤ 131072
+pub entry-length : (r : Request) (follower : ℕ) → standsBefore r follower ≡ true → r .length ≤ 131072
 entry-length r follower e =
     leb-true (r .length) 131072
     (both (leb 1 (r .length)) _ (both (eqb (after (r .id)) follower) _ (both (leb (r .id) 4095) _ e .1) .1) .1)
@@ -52,16 +52,16 @@ module _ (es : List Request) (n i next follower sum : ℕ) (fits : n ≤ length 
       let e : suc (i - 1) ≡ i = omega arith in
       slice-cons (i - 1) n es blank (omega arith) fits ∙ ap (λ (k : ℕ). At ∷ slice k n es) e
 
-  pub passed-more : Passed (slice i n es) next follower sum → follows At follower ≡ true
+  pub passed-more : Passed (slice i n es) next follower sum → standsBefore At follower ≡ true
       → Passed (slice (i - 1) n es) next (At .id) (sum + At .length)
   passed-more p e =
       subst (λ (l : List Request). Passed l next (At .id) (sum + At .length)) (sym split)
       (passed-cons At (slice i n es) next follower sum p e)
 
-  pub passed-not : Passed (slice i n es) next follower sum → follows At follower ≡ false → inOrder (take n es) next ≡ false
+  pub passed-not : Passed (slice i n es) next follower sum → standsBefore At follower ≡ false → inOrder (take n es) next ≡ false
   passed-not p e =
       inOrder-drop (i - 1) (take n es) next
-      (ap (λ (l : List Request). inOrder l next) split ∙ ap (λ (f : ℕ). follows At f && inOrder (slice i n es) next) (sym (p .first)) ∙ rw e)
+      (ap (λ (l : List Request). inOrder l next) split ∙ ap (λ (f : ℕ). standsBefore At f && inOrder (slice i n es) next) (sym (p .first)) ∙ rw e)
 
 -- the first of some entries, as many as there are of them
 pub counted-first : (n : ℕ) (es : List Request) → take n es ≡ take (length (take n es)) es

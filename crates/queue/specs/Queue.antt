@@ -7,6 +7,7 @@ use lib.Dec.{leb, eqb}
 use Rattle.xdr.specs.Reading.{Reading, taken, refused}
 use Rattle.xdr.specs.Format.{read}
 use Rattle.xdr.specs.declared.answer.Refusal.{Refusal}
+use Rattle.message.specs.Limits.{idLimit}
 use Rattle.message.specs.Message.{message}
 use Rattle.message.specs.declared.answer.Span.{Span}
 use Rattle.message.specs.declared.answer.Message.{Message}
@@ -31,36 +32,41 @@ use Rattle.queue.specs.declared.outcome.Answering.the-variants as A
 abbrev pub allowance : ℕ
 allowance = 524288
 
+-- the largest window, which is as many entries as a queue has
+abbrev pub windowLimit : ℕ
+windowLimit = 16
+
+-- the window of a queue that is opened without a stated one
+abbrev pub defaultWindow : ℕ
+defaultWindow = 16
+
 -- a window is 1 to 16
 abbrev pub windowFits : ℕ → Bool
-windowFits w = leb 1 w && leb w 16
+windowFits w = leb 1 w && leb w windowLimit
 
+-- the outstanding requests, the oldest first
 abbrev pub outstanding : RequestQueue → List Request
 outstanding q = take (q .count) (q .entries)
 
 -- a window of 1 to 16, no more requests than that, and a next ID of 0 to 4095
 abbrev pub shapeFits : RequestQueue → Bool
-shapeFits q = windowFits (q .window) && (leb (q .count) (q .window) && leb (q .next) 4095)
+shapeFits q = windowFits (q .window) && (leb (q .count) (q .window) && leb (q .next) idLimit)
 
 -- sound but for the allowance
 unfoldable pub isOrderly : RequestQueue → Bool
 isOrderly q = shapeFits q && inOrder (outstanding q) (q .next)
 
-abbrev pub orderlyBytes : RequestQueue → Tally
-orderlyBytes q = cond (isOrderly q) (Bytes (total (outstanding q))) Unsound
-
+-- a sound queue (document 01: a sound desk)
 unfoldable pub isSound : RequestQueue → Bool
 isSound q = isOrderly q && leb (total (outstanding q)) allowance
-
-abbrev pub soundBytes : RequestQueue → Tally
-soundBytes q = cond (isSound q) (Bytes (total (outstanding q))) Unsound
 
 -- a refusal at place 0
 abbrev pub numbered : ℕ → Refusal
 numbered k = record { number = k; place = 0 }
 
+-- a queue with a window and no requests, whose next ID is 0
 abbrev pub emptyQueue : (window : ℕ) → RequestQueue
-emptyQueue window = record { window = window; next = 0; count = 0; entries = replicate 16 blank }
+emptyQueue window = record { window = window; next = 0; count = 0; entries = replicate windowLimit blank }
 
 -- opening with a window: 22, and an empty queue of window 0, where it is not 1 to 16
 abbrev pub opening : (window : ℕ) → Changed
@@ -73,12 +79,7 @@ opening window =
 abbrev pub faultWithin : (held limit : ℕ) → RequestQueue → (size : ℕ) → ℕ
 faultWithin held limit q size = cond (eqb (q .count) (q .window)) 16 (cond (leb (held + size) limit) 0 17)
 
--- the fault of a Request's fields, which its reading tells, or else another
-abbrev pub fieldsFirst : {A : Type 0} → Reading A → (fault : ℕ) → Refusal
-fieldsFirst (refused k p) fault = record { number = k; place = p }
-fieldsFirst (taken v n) fault = numbered fault
-
--- the Request as it is written, by that fault: its fields, then 16 and 17, then the room (14)
+-- what issuing writes: a fault of the fields comes first, then 16 or 17, then 14
 abbrev pub writtenBy : {A : Type 0} → (fault : ℕ) → Reading A → Reading (List ℕ) → Reading (List ℕ)
 writtenBy zero r w = w
 writtenBy (suc k) (refused m p) w = refused m p
@@ -104,10 +105,11 @@ abbrev pub issuedWith : RequestQueue → (size : ℕ) → Written → Issued
 issuedWith q size (W.Filled n) = record { queue = appended q size; outcome = I.Issued (q .next) n }
 issuedWith q size (W.Refused r) = record { queue = q; outcome = I.Refused r }
 
--- a sound queue (22), and then the rest
+-- issuing: the queue is sound (22), then the fields, 16, 17, 14
 abbrev pub issueReading : RequestQueue → (body : List ℕ) → (size room : ℕ) → Reading (List ℕ)
 issueReading q body size room = cond (isSound q) (issuing (total (outstanding q)) allowance q body size room) (refused 22 0)
 
+-- issuing: the queue handed back, and what came of it
 abbrev pub issueOf : RequestQueue → (body : List ℕ) → (size room : ℕ) → Issued
 issueOf q body size room = issuedWith q size (writtenAnswer (issueReading q body size room))
 
@@ -119,6 +121,7 @@ withoutOldest q = record { window = q .window; next = q .next; count = q .count 
 abbrev pub released : Request → Span → Answering
 released r d = cond (eqb (d .length) 0) (A.NotAvailable r) (cond (eqb (d .length) (r .length)) (A.Data r d) (A.WrongSize r))
 
+-- a refused answer: the queue is handed back as it was
 abbrev pub keptWith : RequestQueue → Refusal → Answered
 keptWith q r = record { queue = q; outcome = A.Refused r }
 
@@ -138,12 +141,27 @@ answeredBy q (M.Pong id end) = keptWith q (numbered 18)
 answeredBy q (M.IndexUpdate id x) = keptWith q (numbered 18)
 answeredBy q (M.Options id x) = keptWith q (numbered 18)
 
+-- an answer: the queue is sound (22), then reading, 18, 20
 abbrev pub answerOf : RequestQueue → Message → Answered
 answerOf q m = cond (isSound q) (answeredBy q m) (keptWith q (numbered 22))
 
 -- dropping the link releases everything; the next ID goes on
 abbrev pub emptied : RequestQueue → RequestQueue
-emptied q = record { window = q .window; next = q .next; count = 0; entries = replicate 16 blank }
+emptied q = record { window = q .window; next = q .next; count = 0; entries = replicate windowLimit blank }
 
+-- dropping the link: the queue is sound (22)
 abbrev pub dropOf : RequestQueue → Changed
 dropOf q = cond (isSound q) (record { queue = emptied q; outcome = C.Made }) (record { queue = q; outcome = C.Refused (numbered 22) })
+
+-- for the steps of the calls: the bytes outstanding of a queue that is sound but for the allowance, or that it is not
+abbrev pub orderlyBytes : RequestQueue → Tally
+orderlyBytes q = cond (isOrderly q) (Bytes (total (outstanding q))) Unsound
+
+-- and: the bytes outstanding of a sound queue, or that it is none
+abbrev pub soundBytes : RequestQueue → Tally
+soundBytes q = cond (isSound q) (Bytes (total (outstanding q))) Unsound
+
+-- and: the fault of a Request's fields, which its reading tells, or else another
+abbrev pub fieldsFirst : {A : Type 0} → Reading A → (fault : ℕ) → Refusal
+fieldsFirst (refused k p) fault = record { number = k; place = p }
+fieldsFirst (taken v n) fault = numbered fault

@@ -4,6 +4,7 @@ use mathlib.Core.List.{List, [], _∷_}
 use mathlib.Core.Bool.{Bool, true, cond, _&&_}
 use lib.Dec.{ltb, leb, eqb}
 use Rattle.record.specs.Block.{isSize}
+use Rattle.message.specs.Limits.{idLimit}
 use Rattle.queue.specs.declared.request.Request.{Request}
 
 -- what an entry holds that no request is in
@@ -12,7 +13,7 @@ blank = record { id = 0; length = 0 }
 
 -- the ID after another: 0 follows 4095
 abbrev pub after : ℕ → ℕ
-after id = cond (ltb id 4095) (id + 1) 0
+after id = cond (ltb id idLimit) (id + 1) 0
 
 -- the sum of the Lengths
 abbrev pub total : List Request → ℕ
@@ -24,11 +25,11 @@ abbrev pub firstId : List Request → (next : ℕ) → ℕ
 firstId [] next = next
 firstId (r ∷ rs) next = r .id
 
--- a request whose ID is 0 to 4095, with this ID after it, and whose Length is 1 to 131,072
-abbrev pub follows : Request → (next : ℕ) → Bool
-follows r next = leb (r .id) 4095 && (eqb (after (r .id)) next && isSize (r .length))
+-- a request stands before one with the ID `next`: its own ID is 0 to 4095, with that ID after it, and its Length 1 to 131,072
+abbrev pub standsBefore : Request → (next : ℕ) → Bool
+standsBefore r next = leb (r .id) idLimit && (eqb (after (r .id)) next && isSize (r .length))
 
 -- IDs rising by one up to the next ID, all from 0 to 4095, and Lengths each within 1 to 131,072
 abbrev pub inOrder : List Request → (next : ℕ) → Bool
 inOrder [] next = true
-inOrder (r ∷ rs) next = follows r (firstId rs next) && inOrder rs next
+inOrder (r ∷ rs) next = standsBefore r (firstId rs next) && inOrder rs next

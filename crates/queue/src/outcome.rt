@@ -10,6 +10,7 @@ pub enum Change {
     Refused(Refusal),
 }
 
+// The queue after an opening or a drop.
 pub struct Changed {
     pub queue: RequestQueue,
     pub outcome: Change,
@@ -21,6 +22,7 @@ pub enum Issuing {
     Refused(Refusal),
 }
 
+// The queue after an issue.
 pub struct Issued {
     pub queue: RequestQueue,
     pub outcome: Issuing,
@@ -34,6 +36,7 @@ pub enum Answering {
     Refused(Refusal),
 }
 
+// The queue after an answer.
 pub struct Answered {
     pub queue: RequestQueue,
     pub outcome: Answering,

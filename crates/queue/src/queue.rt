@@ -3,18 +3,19 @@ ghost use Prim.Native.Nat.{_≤_, _<_};
 ghost use mathlib.Core.Path.{_≡_};
 ghost use mathlib.Core.Bool.{true};
 ghost use lib.ListN.{length};
-ghost use Rattle.xdr.specs.Format.{read, readAt};
+ghost use Rattle.xdr.specs.Format.{read};
 ghost use Rattle.message.specs.Message as sent;
-ghost use Rattle.message.specs.Answers.{messageAnswer};
+ghost use Rattle.message.specs.Answers.{said};
 ghost use Rattle.message_write.specs.Writing.{requestBytes, messageBytes, writtenBuffer};
 ghost use Rattle.queue.specs.Requests.{total};
-ghost use Rattle.queue.specs.Queue.{windowFits, outstanding, shapeFits, orderlyBytes, soundBytes, isSound, opening, faultWithin, fieldsFirst, issuedWith, issueReading, issueOf, withoutOldest, released, settledBy, answerOf, dropOf};
+ghost use Rattle.queue.specs.Queue.{defaultWindow, windowFits, outstanding, shapeFits, orderlyBytes, soundBytes, isSound, opening, faultWithin, fieldsFirst, issuedWith, issueReading, issueOf, released, settledBy, answerOf, dropOf};
 use crate::outcome::Answered;
 use crate::outcome::Answering;
 use crate::outcome::Change;
 use crate::outcome::Changed;
 use crate::outcome::Issued;
 use crate::outcome::Issuing;
+use crate::request::LAST_ID;
 use crate::request::Request;
 use crate::request::following;
 use crate::request::shifted;
@@ -24,9 +25,8 @@ use message::Span;
 use message_write::Written;
 use xdr::Refusal;
 
-const LAST_ID: u32 = 4095;
-
-// The requests are the first `count` entries, the oldest first; the others are blank.
+// The requests are the first `count` entries, the oldest first; the others don't count; calls from an opening leave them
+// blank.
 pub struct RequestQueue {
     pub window: u32,
     pub next: u32,
@@ -34,21 +34,23 @@ pub struct RequestQueue {
     pub entries: [Request; 16],
 }
 
-// The bytes outstanding, where the rest is sound.
-pub enum Tally {
+// The bytes outstanding of a queue that passed the check, or that it didn't.
+enum Tally {
     Unsound,
     Bytes(u32),
 }
 
+// Whether a window is 1 to 16.
 fn window_fits(window: u32) -> bool
     ensures { λ r. ⌜ r ≡ windowFits window ⌝ }
 {
     if window < 1 {
         return false;
     }
-    window <= RequestQueue::WINDOW
+    window <= RequestQueue::WINDOW_LIMIT
 }
 
+// A refusal at place 0.
 fn refusal(number: u32) -> Refusal
     ensures { λ r. ⌜ r ≡ record { number = number; place = 0 } ⌝ }
 {
@@ -93,9 +95,13 @@ fn fields_first(
 }
 
 impl RequestQueue {
-    // The largest window, which is the default too.
+    // The default window.
     pub const WINDOW: u32 = 16;
 
+    // The largest window, which is as many entries as a queue has.
+    pub const WINDOW_LIMIT: u32 = 16;
+
+    // The byte allowance.
     pub const ALLOWANCE: u32 = 524288;
 
     // An empty queue with a stated window.
@@ -127,7 +133,7 @@ impl RequestQueue {
 
     // An empty queue with the default window.
     pub fn open() -> Changed
-        ensures { λ r. ⌜ r ≡ opening 16 ⌝ }
+        ensures { λ r. ⌜ r ≡ opening defaultWindow ⌝ }
     {
         RequestQueue::open_with(RequestQueue::WINDOW)
     }
@@ -167,6 +173,7 @@ impl RequestQueue {
         Tally::Bytes(sum)
     }
 
+    // The bytes outstanding of a sound queue, or that it is none.
     fn sound_bytes(self) -> Tally
         ensures { λ r. ⌜ r ≡ soundBytes self ⌝ }
     {
@@ -179,7 +186,7 @@ impl RequestQueue {
         Tally::Bytes(sum)
     }
 
-    // Whether such a queue can come about by calls from an accepted opening.
+    // Whether the queue is sound (document 01: a sound desk). Entries past the count don't matter.
     pub fn is_sound(self) -> bool
         ensures { λ r. ⌜ r ≡ isSound self ⌝ }
     {
@@ -310,7 +317,7 @@ impl RequestQueue {
 
     // Releases the oldest request by the Response to it.
     pub fn answer(self, message: &[u8]) -> Answered
-        ensures { λ r. ⌜ r ≡ answerOf self (messageAnswer (readAt sent.message (now (message .entry)) 0)) ⌝ }
+        ensures { λ r. ⌜ r ≡ answerOf self (said (now (message .entry))) ⌝ }
     {
         if !self.is_sound() {
             return Answered {

@@ -2,14 +2,16 @@
 ghost use mathlib.Core.Path.{_≡_};
 ghost use mathlib.Core.List.{_++_, [], _∷_};
 ghost use lib.ListN.{drop};
-ghost use Rattle.queue.specs.Requests.{after, blank, follows};
+ghost use Rattle.queue.specs.Requests.{after, blank, standsBefore};
 
+// An outstanding request: its ID and its Length.
 pub struct Request {
     pub id: u32,
     pub length: u32,
 }
 
-const LAST_ID: u32 = 4095;
+// The highest Message ID.
+pub const LAST_ID: u32 = 4095;
 
 // The ID that follows: 0 after 4095.
 pub fn following(id: u32) -> u32
@@ -20,7 +22,7 @@ pub fn following(id: u32) -> u32
 
 // Whether a request can stand before one with the ID `next`.
 pub fn stands_before(e: Request, next: u32) -> bool
-    ensures { λ r. ⌜ r ≡ follows e next ⌝ }
+    ensures { λ r. ⌜ r ≡ standsBefore e next ⌝ }
 {
     if LAST_ID < e.id {
         return false;
@@ -28,7 +30,7 @@ pub fn stands_before(e: Request, next: u32) -> bool
     if following(e.id) != next {
         return false;
     }
-    message_write::check::is_size(e.length)
+    record::is_size(e.length)
 }
 
 // The requests moved down by one, over the first.

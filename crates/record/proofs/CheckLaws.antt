@@ -65,20 +65,20 @@ name-at {t} {at} {f} {m} h =
     }
 
 abbrev name-length : FileRead → ℕ
-name-length (F.Taken v) = v .name
+name-length (F.Taken v) = v .«name_length»
 name-length (F.Refused r) = 0
 
 -- the file at a place, and its name, by the answer for the part that begins there
 pub record NextFile (t : List ℕ) (at : ℕ) (v : FileSpan) : Type 0 where
   pub value : File
   pub reads : Reads file t at (taken value (at + v .next))
-  pub name : NameAt t value (at + 4) (at + 4 + v .name)
+  pub name : NameAt t value (at + 4) (at + 4 + v .«name_length»)
 
 pub next-file : (t : List ℕ) (at : ℕ) {w : FileRead} {v : FileSpan} → w ≡ fileAnswer (readAt file (take (length t - at) (drop at t)) 0) → w ≡ F.Taken v → NextFile t at v
 next-file t at {w} {v} e g =
     let p = part-of fileAnswer file t at e in
     let q = file-taken p g in
-    let long : length (q .0 .name) ≡ v .name = sym (ap name-length (sym g ∙ p ∙ ap fileAnswer (q .1 .is))) in
+    let long : length (q .0 .name) ≡ v .«name_length» = sym (ap name-length (sym g ∙ p ∙ ap fileAnswer (q .1 .is))) in
     let r = part-read (q .1) in
     record { value = q .0; reads = r; name = subst (λ (n : ℕ). NameAt t (q .0) (at + 4) (at + 4 + n)) long (name-at r) }
 

@@ -23,6 +23,7 @@ abbrev pub arrayAnswer : {A : Type 0} → Reading (List A) → Array
 arrayAnswer (taken l next) = L.Taken (length l) next
 arrayAnswer (refused k p) = L.Refused (record { number = k; place = p })
 
+-- the refusal of an array's answer: number 0 where there is none
 abbrev pub arrayRefusal : Array → Refusal
 arrayRefusal (L.Taken n next) = record { number = 0; place = 0 }
 arrayRefusal (L.Refused r) = r
@@ -36,7 +37,7 @@ blockAnswer r = wordAnswer (mapped (λ b. b .size) r)
 abbrev pub fileAnswer : Reading File → FileRead
 fileAnswer (taken f next) =
     F.Taken (record {
-      name = length (f .name);
+      «name_length» = length (f .name);
       flags = f .flags;
       modified = f .modified;
       version = f .version;
@@ -46,6 +47,7 @@ fileAnswer (taken f next) =
     })
 fileAnswer (refused k p) = F.Refused (record { number = k; place = p })
 
+-- the refusal of a file's answer: number 0 where there is none
 abbrev pub fileRefusal : FileRead → Refusal
 fileRefusal (F.Taken f) = record { number = 0; place = 0 }
 fileRefusal (F.Refused r) = r
@@ -53,9 +55,10 @@ fileRefusal (F.Refused r) = r
 -- an option at the front of a part: the lengths of its Key and of its Value, the place where the Value's bytes start and the place after the option
 abbrev pub optionAnswer : Reading KeyValue → OptionRead
 optionAnswer (taken o next) =
-    O.Taken (record { key = length (o .key); start = padded (length (o .key)) + 8; value = length (o .value); next = next })
+    O.Taken (record { «key_length» = length (o .key); «value_start» = padded (length (o .key)) + 8; «value_length» = length (o .value); next = next })
 optionAnswer (refused k p) = O.Refused (record { number = k; place = p })
 
+-- the refusal of an option's answer: number 0 where there is none
 abbrev pub optionRefusal : OptionRead → Refusal
 optionRefusal (O.Taken o) = record { number = 0; place = 0 }
 optionRefusal (O.Refused r) = r

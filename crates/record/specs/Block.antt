@@ -8,9 +8,9 @@ use lib.ListN.{length, drop}
 use Rattle.xdr.specs.Number.{bigEndian}
 use Rattle.xdr.specs.Format.{Format, bytes, array, pair, checked, via}
 use Rattle.xdr.specs.Fields.{word, upTo}
-use Rattle.record.specs.Limits.{blocksLimit, sizeLimit, hashLength}
+use Rattle.record.specs.Limits.{blocksLimit, sizeLimit, hashLength, blockBytes}
 
--- (`size` is the Length)
+-- a block as a value: `size` is the Length
 pub record Block : Type 0 where
   pub size : ℕ
   pub hash : List ℕ
@@ -27,9 +27,11 @@ size = checked 10 isSize word
 abbrev pub hash : Format (List ℕ)
 hash = bytes (checked 9 (λ n. eqb n hashLength) word)
 
+-- the block with a Length and a hash
 abbrev pub toBlock : ℕ × List ℕ → Block
 toBlock p = record { size = p .0; hash = p .1 }
 
+-- the Length and the hash of a block
 abbrev pub fromBlock : Block → ℕ × List ℕ
 fromBlock b = (b .size, b .hash)
 
@@ -37,13 +39,13 @@ fromBlock b = (b .size, b .hash)
 abbrev pub block : Format Block
 block = via toBlock fromBlock (λ p. refl) (λ b. refl) (pair size λ n. hash)
 
--- the number of a file's blocks: none where the file is gone, that is deleted
+-- the number of a file's blocks: none where it is deleted
 abbrev pub blockCount : Bool → Format ℕ
-blockCount gone = checked 12 (λ n. cond gone (eqb n 0) true) (upTo blocksLimit)
+blockCount deleted = checked 12 (λ n. cond deleted (eqb n 0) true) (upTo blocksLimit)
 
--- the blocks of a file that is gone or not
+-- the blocks of a file, deleted or not
 abbrev pub blocks : Bool → Format (List Block)
-blocks gone = array (blockCount gone) block
+blocks deleted = array (blockCount deleted) block
 
 -- the sum of their Lengths: the offset of the block after them
 abbrev pub totalSize : List Block → ℕ
@@ -56,4 +58,4 @@ IsHead h = (isSize (h / 4294967296) ≡ true) × (h % 4294967296 ≡ hashLength)
 
 -- and: so many blocks from a place on are there, and each begins as it has to
 abbrev pub SoundBlocks : List ℕ → (first n : ℕ) → Type 0
-SoundBlocks s first n = (first + n * 40 ≤ length s) × ((i : ℕ) → i < n → IsHead (bigEndian 8 (drop (first + i * 40) s)))
+SoundBlocks s first n = (first + n * blockBytes ≤ length s) × ((i : ℕ) → i < n → IsHead (bigEndian 8 (drop (first + i * blockBytes) s)))

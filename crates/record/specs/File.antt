@@ -7,7 +7,7 @@ use lib.ListN.{length}
 use lib.Dec.{leb, ltb, eqb}
 use Rattle.xdr.specs.Format.{Format, array, pair, checked, via, encode}
 use Rattle.xdr.specs.Fields.{word, hyper, upTo, text}
-use Rattle.record.specs.Limits.{nameLimit}
+use Rattle.record.specs.Limits.{nameLimit, flagsBound}
 use Rattle.record.specs.Block.{Block, blocks}
 
 -- `modified` is the number that the 64 bits are without a sign: Modified.antt has the sign
@@ -36,11 +36,13 @@ name = checked 8 (λ l. leb 1 (length l)) (text nameLimit)
 
 -- Flags: the top 18 bits are zero
 abbrev pub flags : Format ℕ
-flags = checked 11 (λ f. ltb f 16384) word
+flags = checked 11 (λ f. ltb f flagsBound) word
 
+-- the file with these fields
 abbrev pub toFile : List ℕ × (ℕ × (ℕ × (ℕ × List Block))) → File
 toFile p = record { name = p .0; flags = p .1 .0; modified = p .1 .1 .0; version = p .1 .1 .1 .0; blocks = p .1 .1 .1 .1 }
 
+-- the fields of a file
 abbrev pub fromFile : File → List ℕ × (ℕ × (ℕ × (ℕ × List Block)))
 fromFile f = (f .name, (f .flags, (f .modified, (f .version, f .blocks))))
 

@@ -5,6 +5,10 @@ use Prim.Native.Nat.{ℕ}
 abbrev pub nameLimit : ℕ
 nameLimit = 255
 
+-- Flags are below this: their top 18 bits are zero
+abbrev pub flagsBound : ℕ
+flagsBound = 16384
+
 -- blocks of a file
 abbrev pub blocksLimit : ℕ
 blocksLimit = 1024

@@ -6,7 +6,6 @@ use lib.ListN.{length}
 use lib.Dec.{leb}
 use Rattle.xdr.specs.Pad.{padded}
 use Rattle.record.specs.Outline.{wordAt}
-use Rattle.record.specs.declared.option_outline.OptionFields.{OptionFields}
 use Rattle.record.specs.declared.option_outline.OptionOutline.{OptionOutline}
 use Rattle.record.specs.declared.option_outline.OptionOutline.the-variants as O
 use Rattle.record.specs.declared.option_outline.StringOutline.{StringOutline}
@@ -20,21 +19,11 @@ pastString s at = at + 4 + padded (wordAt s at)
 unfoldable pub stringOf : List ℕ → ℕ → StringOutline
 stringOf s at = cond (leb (pastString s at) (length s)) (S.Whole (wordAt s at) (pastString s at)) S.Short
 
--- the fields of an option whose Key and Value stand at these places
-abbrev pub optionFields : List ℕ → (key value : ℕ) → OptionFields
-optionFields s key value =
-    record {
-      key = key + 4;
-      «key_length» = wordAt s key;
-      value = value + 4;
-      «value_length» = wordAt s value;
-      past = pastString s value;
-    }
-
--- fields that end within the bytes
-abbrev pub whole : List ℕ → OptionFields → OptionOutline
-whole s f = cond (leb (f .past) (length s)) (O.Whole f) O.Short
-
--- the option at a place
+-- the option at a place, where it ends within the bytes: its Key, and its Value behind it
 unfoldable pub optionOf : List ℕ → ℕ → OptionOutline
-optionOf s at = whole s (optionFields s at (pastString s at))
+optionOf s at =
+    let value : ℕ = pastString s at in
+    let past : ℕ = pastString s value in
+    cond (leb past (length s))
+    (O.Whole (record { key = at + 4; «key_length» = wordAt s at; value = value + 4; «value_length» = wordAt s value; past = past }))
+    O.Short

@@ -45,6 +45,7 @@ fieldsFrom s name stop rest =
 abbrev pub outlined : List ℕ → Fields → Outline
 outlined s f = cond (leb (f .past) (length s)) (O.Whole f) O.Short
 
+-- the record whose name goes from one place to another, and whose Flags stand at a third
 unfoldable pub outlineFrom : List ℕ → (name stop rest : ℕ) → Outline
 outlineFrom s name stop rest = outlined s (fieldsFrom s name stop rest)
 
@@ -75,6 +76,7 @@ blockPlace first i = first + blocksSize i
 unfoldable pub blockOf : List ℕ → (first i : ℕ) → BlockOutline
 blockOf s first i = cond (leb (blockPlace first i + blockBytes) (length s)) (B.Whole (wordAt s (blockPlace first i)) (blockPlace first i + 8)) B.Short
 
+-- the Length of a block, or 0 where it isn't there
 abbrev pub sizeOf : BlockOutline → ℕ
 sizeOf (B.Whole n at) = n
 sizeOf B.Short = 0

@@ -7,7 +7,7 @@ ghost use lib.ListN.{length};
 ghost use Rattle.xdr.specs.Answers.{wordAnswer, bytesAnswer};
 ghost use Rattle.xdr.specs.Format.{readAt};
 ghost use Rattle.record.specs.Answers.{blockAnswer, arrayAnswer};
-ghost use Rattle.record.specs.Block.{size, hash, block, blockCount, blocks, IsHead, SoundBlocks};
+ghost use Rattle.record.specs.Block.{isSize, size, hash, block, blockCount, blocks, IsHead, SoundBlocks};
 use crate::array::Array;
 use crate::array::read_count;
 use xdr::Bytes;
@@ -19,6 +19,16 @@ const SIZE_LIMIT: u32 = 131072;
 
 const BLOCKS_LIMIT: u32 = 1024;
 
+// Whether the Length of a block or of a Request is in its range.
+pub fn is_size(n: u32) -> bool
+    ensures { λ r. ⌜ r ≡ isSize n ⌝ }
+{
+    if n == 0 {
+        return false;
+    }
+    n <= SIZE_LIMIT
+}
+
 // The Length of a block or of a Request at a place.
 pub fn read_size(s: &[u8], at: usize) -> Word
     ensures { λ r. ⌜ r ≡ wordAnswer (readAt size (now (s .entry)) at) ⌝ }
@@ -27,13 +37,7 @@ pub fn read_size(s: &[u8], at: usize) -> Word
     let Word::Taken(n, next) = answer else {
         return Word::Refused(answer.refusal());
     };
-    if n == 0 {
-        return Word::Refused(Refusal {
-            number: 10,
-            place: at,
-        });
-    }
-    if SIZE_LIMIT < n {
+    if !is_size(n) {
         return Word::Refused(Refusal {
             number: 10,
             place: at,
@@ -81,24 +85,24 @@ pub fn read_block(s: &[u8]) -> Word
 }
 
 // Whether a file may have so many blocks: a deleted one has none.
-fn may_have(gone: bool, count: u32) -> bool
-    ensures { λ r. ⌜ r ≡ cond gone (eqb count 0) true ⌝ }
+fn may_have(deleted: bool, count: u32) -> bool
+    ensures { λ r. ⌜ r ≡ cond deleted (eqb count 0) true ⌝ }
 {
-    if gone {
+    if deleted {
         return count == 0;
     }
     true
 }
 
 // The block count at the front of a part.
-fn read_block_count(s: &[u8], gone: bool) -> Word
-    ensures { λ r. ⌜ r ≡ wordAnswer (readAt (blockCount gone) (now (s .entry)) 0) ⌝ }
+fn read_block_count(s: &[u8], deleted: bool) -> Word
+    ensures { λ r. ⌜ r ≡ wordAnswer (readAt (blockCount deleted) (now (s .entry)) 0) ⌝ }
 {
     let answer = read_count(s, 0, BLOCKS_LIMIT);
     let Word::Taken(count, first) = answer else {
         return Word::Refused(answer.refusal());
     };
-    if !may_have(gone, count) {
+    if !may_have(deleted, count) {
         return Word::Refused(Refusal {
             number: 12,
             place: 0,
@@ -142,11 +146,11 @@ fn sound_blocks(s: &[u8], first: usize, count: u32) -> u32
     i
 }
 
-// The blocks at the front of a part, of a file that is gone, that is deleted, or not.
-pub fn read_blocks(s: &[u8], gone: bool) -> Array
-    ensures { λ r. ⌜ r ≡ arrayAnswer (readAt (blocks gone) (now (s .entry)) 0) ⌝ }
+// The blocks at the front of a part, of a file, deleted or not.
+pub fn read_blocks(s: &[u8], deleted: bool) -> Array
+    ensures { λ r. ⌜ r ≡ arrayAnswer (readAt (blocks deleted) (now (s .entry)) 0) ⌝ }
 {
-    let answer = read_block_count(s, gone);
+    let answer = read_block_count(s, deleted);
     let Word::Taken(count, first) = answer else {
         return Array::Refused(answer.refusal());
     };

@@ -13,10 +13,12 @@ use xdr::Word;
 
 const NAME_LIMIT: u32 = 255;
 
+const FLAGS_BOUND: u32 = 16384;
+
 // The fields of a file: of its name, which begins at byte 4, the length, of its blocks the number and the place of the first,
 // and the place after the file.
 pub struct FileSpan {
-    pub name: usize,
+    pub name_length: usize,
     pub flags: u32,
     pub modified: u64,
     pub version: u32,
@@ -92,7 +94,7 @@ pub fn read_flags(s: &[u8], at: usize) -> Word
     let Word::Taken(f, next) = answer else {
         return Word::Refused(answer.refusal());
     };
-    if 16384 <= f {
+    if FLAGS_BOUND <= f {
         return Word::Refused(Refusal {
             number: 11,
             place: at,
@@ -130,7 +132,7 @@ pub fn read_file(s: &[u8]) -> FileRead
         });
     };
     FileRead::Taken(FileSpan {
-        name: name_length,
+        name_length,
         flags: flags_word,
         modified: modified_bits,
         version: version_word,

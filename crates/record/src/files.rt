@@ -37,7 +37,7 @@ fn read_run(s: &[u8], limit: u32, rising: bool) -> Array
             });
         };
         let name = next + 4;
-        let stop = name + span.name;
+        let stop = name + span.name_length;
         if rising {
             let order = compare_bytes(&s[from..to], &s[name..stop]);
             if !order.is_less() {

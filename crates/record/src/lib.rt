@@ -8,6 +8,7 @@ pub mod option_outline;
 pub mod outline;
 
 pub use array::Array;
+pub use block::is_size;
 pub use block::read_block;
 pub use block::read_blocks;
 pub use block::read_hash;

@@ -16,9 +16,9 @@ const VALUE_LIMIT: u32 = 255;
 // An option: the length of its Key, which begins at byte 4, the place where its Value's bytes start and their number, and the place after
 // the option.
 pub struct OptionSpan {
-    pub key: usize,
-    pub start: usize,
-    pub value: usize,
+    pub key_length: usize,
+    pub value_start: usize,
+    pub value_length: usize,
     pub next: usize,
 }
 
@@ -56,9 +56,9 @@ pub fn read_option(s: &[u8]) -> OptionRead
         return OptionRead::Refused(value.refusal());
     };
     OptionRead::Taken(OptionSpan {
-        key: key_length,
-        start: value_at + 4,
-        value: value_length,
+        key_length,
+        value_start: value_at + 4,
+        value_length,
         next,
     })
 }

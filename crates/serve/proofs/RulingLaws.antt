@@ -6,15 +6,13 @@ use mathlib.Core.Bool.{Bool, true, false, cond}
 use native.Mathlib.Omega.{arith}
 use lib.ListN.{length, take, drop}
 use Rattle.xdr.specs.Number.{IsBytes}
-use Rattle.xdr.specs.Format.{readAt}
 use Rattle.record.specs.Block.{Block}
 use Rattle.record.specs.File.{File}
 use Rattle.record.specs.Outline.{outlineOf, fieldsOf}
 use Rattle.record.specs.declared.outline.Fields.{Fields}
 use Rattle.record.specs.declared.outline.Outline.{Outline}
 use Rattle.record.specs.declared.outline.Outline.the-variants as O
-use Rattle.message.specs.Message.{message}
-use Rattle.message.specs.Answers.{messageAnswer}
+use Rattle.message.specs.Answers.{said}
 use Rattle.message.specs.declared.answer.RequestSpan.{RequestSpan}
 use Rattle.message.specs.declared.answer.Message.{Message}
 use Rattle.order.specs.Order.{isEqual, compareLists, part}
@@ -23,8 +21,8 @@ use Rattle.table.specs.Table.{isGood, records}
 use Rattle.table.proofs.TableLaws.{good-table}
 use Rattle.table.proofs.WalkLaws.{At, at-start, standing}
 use Rattle.order.proofs.PartLaws.{part-beyond, part-cut}
-use Rattle.want.specs.Listing.{listed, hasThere, listsThere}
-use Rattle.want.specs.Blocks.{blockWith, blocksFrom, listedCount}
+use Rattle.want.specs.Listing.{listed, hasThere, listsThere, blockWith}
+use Rattle.want.specs.Blocks.{blocksFrom, listedCount}
 use Rattle.want.specs.Places.{listsAt}
 use Rattle.want.proofs.ListingLaws.{Heads, heads, none-here, listed-blocks}
 use Rattle.want.proofs.ThereLaws.{lists-by}
@@ -123,7 +121,7 @@ module _ (t repository m out : List ℕ) where
   unfolding rulingOf
   table-bad e = rw e refl
 
-  pub table-good : {a : Message} {b c : Asking} → isGood t ≡ true → a ≡ messageAnswer (readAt message m 0) → b ≡ askingOf a → b ≡ c → rulingOf t repository m ≡ rulingBy t repository m c
+  pub table-good : {a : Message} {b c : Asking} → isGood t ≡ true → a ≡ said m → b ≡ askingOf a → b ≡ c → rulingOf t repository m ≡ rulingBy t repository m c
   unfolding rulingOf
   table-good e f g h = rw e (ap (rulingBy t repository m) (ap askingOf (sym f) ∙ sym g ∙ h))
 

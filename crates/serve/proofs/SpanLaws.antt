@@ -13,7 +13,7 @@ use Rattle.xdr.proofs.Parts.{pair-parts}
 use Rattle.record.proofs.OutlineLaws.{word-read, hyper-read}
 use Rattle.message.specs.Header.{typeOf, idOf}
 use Rattle.message.specs.Message.{Kind, isIndex, isRequest, isResponse, isPing, isPong, isIndexUpdate, isOptions, kindOf, Body, body, Sent, request, message}
-use Rattle.message.specs.Answers.{requestSpan, bodyAnswer, messageAnswer}
+use Rattle.message.specs.Answers.{requestSpan, bodyAnswer, messageAnswer, said}
 use Rattle.message.specs.declared.answer.RequestSpan.{RequestSpan}
 use Rattle.message.specs.declared.answer.Message.{Message}
 use Rattle.message.specs.declared.answer.Message.the-variants as M
@@ -78,7 +78,7 @@ by-kind s isIndexUpdate b id next i x h e = no-request _ refl e
 by-kind s isOptions b id next i x h e = no-request _ refl e
 
 -- so the ruling goes by the fields of the Request
-pub request-fields : (s : List ℕ) (i : ℕ) (x : RequestSpan) → messageAnswer (readAt message s 0) ≡ M.Request i x → Fields s x
+pub request-fields : (s : List ℕ) (i : ℕ) (x : RequestSpan) → said s ≡ M.Request i x → Fields s x
 request-fields s i x e = go (readAt message s 0) refl e
   where
     go : (r : Reading Sent) → readAt message s 0 ≡ r → messageAnswer r ≡ M.Request i x → Fields s x

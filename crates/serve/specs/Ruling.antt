@@ -4,9 +4,7 @@ use Prim.Native.Nat.{ℕ}
 use mathlib.Core.List.{List, []}
 use mathlib.Core.Bool.{Bool, cond, _&&_}
 use lib.ListN.{length, take, drop}
-use Rattle.xdr.specs.Format.{readAt}
-use Rattle.message.specs.Message.{message}
-use Rattle.message.specs.Answers.{messageAnswer}
+use Rattle.message.specs.Answers.{said}
 use Rattle.message.specs.declared.answer.Span.{Span}
 use Rattle.message.specs.declared.answer.RequestSpan.{RequestSpan}
 use Rattle.message.specs.declared.answer.Message.{Message}
@@ -16,8 +14,7 @@ use Rattle.message_write.specs.declared.answer.Written.{Written}
 use Rattle.message_write.specs.declared.answer.Written.the-variants as W
 use Rattle.order.specs.Order.{isEqual, compareLists}
 use Rattle.table.specs.Table.{isGood, records}
-use Rattle.want.specs.Listing.{listsThere}
-use Rattle.want.specs.Blocks.{blockWith}
+use Rattle.want.specs.Listing.{listsThere, blockWith}
 use Rattle.serve.specs.declared.ruling.Asking.{Asking}
 use Rattle.serve.specs.declared.ruling.Asking.the-variants as A
 use Rattle.serve.specs.declared.ruling.Serving.{Serving}
@@ -39,6 +36,7 @@ pub data Ruling : Type 0 where
   replies : (id : ℕ) → Ruling
   refuses : (number place : ℕ) → Ruling
 
+-- no Request, but a refusal at place 0
 abbrev pub otherOf : (number : ℕ) → Asking
 otherOf number = A.Other (record { number = number; place = 0 })
 
@@ -60,13 +58,14 @@ rulingBy t repository m (A.Other r) = refuses (r .number) (r .place)
 
 -- the table is good (15) first
 unfoldable pub rulingOf : (t repository m : List ℕ) → Ruling
-rulingOf t repository m = cond (isGood t) (rulingBy t repository m (askingOf (messageAnswer (readAt message m 0)))) (refuses 15 0)
+rulingOf t repository m = cond (isGood t) (rulingBy t repository m (askingOf (said m))) (refuses 15 0)
 
--- what is answered: of a reply how many bytes it took, or 14
+-- what is answered of a reply: how many bytes it took, or 14
 abbrev pub replyAnswer : Written → Serving
 replyAnswer (W.Filled n) = S.Replied n
 replyAnswer (W.Refused r) = S.Refused r
 
+-- what is answered
 abbrev pub servingAnswer : Ruling → (room : ℕ) → Serving
 servingAnswer (serves name offset length) room = S.Served name offset length
 servingAnswer (replies id) room = replyAnswer (writtenAnswer (writing id 3 (responseBytes []) room))

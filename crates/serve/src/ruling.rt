@@ -5,8 +5,7 @@ ghost use mathlib.Core.List.{[]};
 ghost use lib.ListN.{length};
 ghost use Rattle.message_write.specs.Writing.{writing, responseBytes, writtenAnswer, writtenBuffer};
 ghost use Rattle.table.specs.Table.{isGood, records};
-ghost use Rattle.want.specs.Listing.{listsThere};
-ghost use Rattle.want.specs.Blocks.{blockWith};
+ghost use Rattle.want.specs.Listing.{listsThere, blockWith};
 ghost use Rattle.serve.specs.Ruling.{spanBytes, isOurs as isOursOf, refuses, rulingOf, replyAnswer, servingAnswer, servingBuffer, otherOf, askingOf};
 use message::Message;
 use message::RequestSpan;
@@ -28,6 +27,7 @@ enum Asking {
     Other(Refusal),
 }
 
+// No Request, but a refusal at place 0.
 fn other(number: u32) -> Asking
     ensures { λ r. ⌜ r ≡ otherOf number ⌝ }
 {
@@ -87,6 +87,7 @@ fn is_ours(table: &[u8], repository: &[u8], message: &[u8], x: RequestSpan) -> b
     )
 }
 
+// A refusal at place 0.
 fn refused(number: u32) -> Serving
     ensures { λ r. ⌜ r ≡ servingAnswer (refuses number 0) 0 ⌝ }
 {

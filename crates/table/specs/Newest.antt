@@ -17,6 +17,7 @@ bit b = cond b 1 0
 abbrev pub keyOf : (modified version flags : ℕ) → (bytes : List ℕ) → List ℕ
 keyOf modified version flags bytes = raised modified ∷ version ∷ bit (not (isInvalid flags)) ∷ bit (isDeleted flags) ∷ bytes
 
+-- a record's key in the newest-record order
 abbrev pub key : File → List ℕ
 key f = keyOf (f .modified) (f .version) (f .flags) (fromFlags f)
 
@@ -24,9 +25,10 @@ key f = keyOf (f .modified) (f .version) (f .flags) (fromFlags f)
 unfoldable pub compareFiles : File → File → Order
 compareFiles f g = compareLists (key f) (key g)
 
--- the same of two records whose fields are at places of some bytes
+-- the key of a record whose fields are at places of some bytes
 abbrev pub keyAt : List ℕ → Fields → List ℕ
 keyAt s f = keyOf (f .modified) (f .version) (f .flags) (part s (f .rest) (f .past))
 
+-- two records by their fields, each in its own bytes: Greater where the first is the newer one
 unfoldable pub compareAt : List ℕ → Fields → List ℕ → Fields → Order
 compareAt s f t g = compareLists (keyAt s f) (keyAt t g)

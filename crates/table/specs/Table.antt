@@ -1,7 +1,7 @@
 -- Good tables, and the records of a table.
 use Prim.Native.Nat.{ℕ}
-use mathlib.Core.List.{List, []}
-use mathlib.Core.Bool.{Bool, false, _&&_}
+use mathlib.Core.List.{List, [], _∷_}
+use mathlib.Core.Bool.{Bool, true, false, _&&_}
 use lib.ListN.{length}
 use lib.Dec.{leb, eqb}
 use Rattle.xdr.specs.Reading.{Reading, taken, refused}
@@ -26,6 +26,11 @@ goodReading size (refused k p) = false
 -- a good table
 unfoldable pub isGood : List ℕ → Bool
 isGood t = goodReading (length t) (read table t)
+
+-- each of some tables is good
+abbrev pub allGood : List (List ℕ) → Bool
+allGood [] = true
+allGood (t ∷ ts) = isGood t && allGood ts
 
 -- the records of a reading
 abbrev pub recordsRead : Reading (List File) → List File

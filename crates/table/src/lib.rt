@@ -1,4 +1,4 @@
-// Tables of records: the order of names and bytes, which of two records is the newer, good tables.
+// Tables of records: which of two records is the newer, good tables, and what a call answers that fills a buffer.
 pub mod filling;
 pub mod good;
 pub mod newest;

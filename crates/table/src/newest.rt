@@ -19,6 +19,7 @@ fn raised(modified: u64) -> u64
     modified - 9223372036854775808
 }
 
+// 1 for yes, 0 for no.
 fn number_of(b: bool) -> u64
     ensures { λ r. ⌜ r ≡ bit b ⌝ }
 {

@@ -13,7 +13,7 @@ use Rattle.walker.specs.declared.Step.{Step}
 use Rattle.walker.specs.declared.Step.the-variants.{Record, End, Refused}
 use Rattle.walker.specs.declared.Walker.{Walker}
 
--- no good table, or no place of it (15)
+-- 15: no good table, or a place that starts no record and isn't the end
 abbrev pub bad : Step
 bad = Refused (record { number = 15; place = 0 })
 
@@ -32,9 +32,10 @@ nextPlace (Record f) at = f .past
 nextPlace End at = at
 nextPlace (Refused r) at = at
 
--- what a walker's step gives, and what the walker is after it: the same table, and the place past the record
+-- what a walker's step gives
 abbrev pub given : Walker → Step
 given w = stepAt (now (w .table)) (w .at)
 
+-- the walker after a step: the same table, and the place past the record, or the same place
 abbrev pub stepped : Walker → Walker
 stepped w = record { table = w .table; at = nextPlace (given w) (w .at) }

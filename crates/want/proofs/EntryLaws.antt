@@ -20,8 +20,8 @@ use Rattle.record.specs.declared.outline.Outline.the-variants as O
 use Rattle.order.specs.Order.{part}
 use Rattle.table.specs.Table.{isGood, records}
 use Rattle.merge.specs.Merged.{mergedOf}
-use Rattle.want.specs.Listing.{isHeld}
-use Rattle.want.specs.Blocks.{blockWith, blockHere, listedCount}
+use Rattle.want.specs.Listing.{isHeld, blockWith}
+use Rattle.want.specs.Blocks.{blockHere, listedCount}
 use Rattle.want.specs.Wanted.{wantedBlock, wantedFiles, wantedBytes, listBytes}
 use Rattle.want.specs.Places.{tableAt, placeAt, lowestFrom, Five, listOf, wantedHere, wantedFrom}
 use Rattle.want.specs.declared.list.Wanted.{Wanted}

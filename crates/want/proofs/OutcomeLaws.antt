@@ -6,10 +6,10 @@ use mathlib.Core.Bool.{Bool, true, false, _&&_}
 use borrow.Author.Tests.{le-leb, lt-leb}
 use lib.ListN.{length}
 use Rattle.xdr.specs.Number.{IsBytes}
-use Rattle.table.specs.Table.{isGood}
+use Rattle.table.specs.Table.{isGood, allGood}
 use Rattle.table.specs.Filling.{accepted, refused}
 use Rattle.record.proofs.RisingLaws.{both-true}
-use Rattle.want.specs.Wanted.{listBytes, allGood, requestOutcome}
+use Rattle.want.specs.Wanted.{listBytes, requestOutcome}
 use Rattle.want.specs.Places.{tableAt, Five, listOf}
 use Rattle.want.proofs.SideLaws.{by-five}
 use Rattle.want.proofs.EntryLaws.{bytes-length}

@@ -15,11 +15,15 @@ isCurrent flags = not (isInvalid flags) && not (isDeleted flags)
 abbrev pub listed : File → List Block
 listed f = cond (isCurrent (f .flags)) (f .blocks) []
 
+-- the block with a Length and a hash
+abbrev pub blockWith : (size : ℕ) → (hash : List ℕ) → Block
+blockWith size hash = record { size = size; hash = hash }
+
 -- the same Length and hash
 abbrev pub isSame : Block → Block → Bool
 isSame b c = eqb (b .size) (c .size) && isEqual (compareLists (b .hash) (c .hash))
 
--- one of some blocks has them
+-- one of some blocks has this Length and hash
 abbrev pub hasBlock : List Block → Block → Bool
 hasBlock [] b = false
 hasBlock (c ∷ l) b = isSame c b || hasBlock l b
@@ -29,7 +33,7 @@ abbrev pub isHeld : List File → Block → Bool
 isHeld [] b = false
 isHeld (f ∷ fs) b = hasBlock (listed f) b || isHeld fs b
 
--- of blocks, the first of which is at offset `from`, one at an offset has them
+-- one of some blocks, the first at offset `from`, stands at this offset with this Length and hash
 abbrev pub hasThere : (from : ℕ) → List Block → (offset : ℕ) → Block → Bool
 hasThere from [] offset b = false
 hasThere from (c ∷ l) offset b = (eqb from offset && isSame c b) || hasThere (from + c .size) l offset b

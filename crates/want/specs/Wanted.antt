@@ -3,14 +3,14 @@ use Prim.Native.Nat.{ℕ, _+_, _<_}
 use mathlib.Core.List.{List, [], _∷_, _++_, map, List·Memᴰ}
 use mathlib.Core.Path.{_≡_}
 use mathlib.Core.Logic.{_⊎_}
-use mathlib.Core.Bool.{Bool, true, cond, _&&_}
+use mathlib.Core.Bool.{cond}
 use lib.ListN.{length}
 use lib.Dec.{leb}
 use Rattle.xdr.specs.Format.{encode, encodeAll}
 use Rattle.xdr.specs.Fields.{word, hyper}
 use Rattle.record.specs.Block.{Block}
 use Rattle.record.specs.File.{File}
-use Rattle.table.specs.Table.{isGood, records}
+use Rattle.table.specs.Table.{allGood, records}
 use Rattle.table.specs.Filling.{Outcome, accepted, refused}
 use Rattle.merge.specs.Merged.{mergedOf}
 use Rattle.want.specs.Listing.{listed, isHeld, listsThere}
@@ -26,17 +26,17 @@ abbrev pub wantedBlock : (local : List File) → (peer : ℕ → Block → ℕ) 
 wantedBlock local peer file block offset b =
     cond (isHeld local b) [] (record { file = file; block = block; offset = offset; size = b .size; peer = peer offset b } ∷ [])
 
--- of a file's blocks, from a number and an offset on; `peer` is whom to ask for each
+-- the entries for a file's blocks, from a number and an offset on; `peer` is whom to ask for each
 abbrev pub wantedBlocks : (local : List File) → (peer : ℕ → Block → ℕ) → (file block offset : ℕ) → List Block → List Wanted
 wantedBlocks local peer file block offset [] = []
 wantedBlocks local peer file block offset (b ∷ l) = wantedBlock local peer file block offset b ++ wantedBlocks local peer file (block + 1) (offset + b .size) l
 
--- of files, counted from a number
+-- the entries for files, counted from a number
 abbrev pub wantedFiles : (local : List File) → (peers : List (List File)) → (file : ℕ) → List File → List Wanted
 wantedFiles local peers file [] = []
 wantedFiles local peers file (f ∷ fs) = wantedBlocks local (peerFrom 1 peers (f .name)) file 0 0 (listed f) ++ wantedFiles local peers (file + 1) fs
 
--- of the highest records over all tables
+-- the request list: the entries for the highest records over all tables
 unfoldable pub requestList : (local : List File) → (peers : List (List File)) → List Wanted
 requestList local peers = wantedFiles local peers 0 (mergedOf (local ∷ peers))
 
@@ -44,6 +44,7 @@ requestList local peers = wantedFiles local peers 0 (mergedOf (local ∷ peers))
 abbrev pub Earlier : Wanted → Wanted → Type 0
 Earlier v w = (v .file < w .file) ⊎ ((v .file ≡ w .file) × (v .block < w .block))
 
+-- each entry is earlier than all after it
 abbrev pub InOrder : List Wanted → Type 0
 InOrder [] = Unit {0}
 InOrder (w ∷ ws) = ((v : Wanted) → List·Memᴰ v ws → Earlier w v) × InOrder ws
@@ -52,16 +53,14 @@ InOrder (w ∷ ws) = ((v : Wanted) → List·Memᴰ v ws → Earlier w v) × InO
 abbrev pub wantedBytes : Wanted → List ℕ
 wantedBytes w = encode word (w .file) ++ encode word (w .block) ++ encode hyper (w .offset) ++ encode word (w .size) ++ encode word (w .peer)
 
+-- the bytes of a list, entry after entry
 abbrev pub listBytes : List Wanted → List ℕ
 listBytes l = encodeAll wantedBytes l
 
-abbrev pub allGood : List (List ℕ) → Bool
-allGood [] = true
-allGood (t ∷ ts) = isGood t && allGood ts
-
--- each table is good, in turn (15), and the buffer has room for the list (14)
+-- the list into a buffer that has room for it, or 14
 abbrev pub listInto : List ℕ → (room : ℕ) → Outcome
 listInto l room = cond (leb (length l) room) (accepted l) (refused 14 0)
 
+-- the request list: each table is good, in turn (15), then the room (14)
 unfoldable pub requestOutcome : (local : List ℕ) → (peers : List (List ℕ)) → (room : ℕ) → Outcome
 requestOutcome local peers room = cond (allGood (local ∷ peers)) (listInto (listBytes (requestList (records local) (map records peers))) room) (refused 15 0)

@@ -6,11 +6,11 @@ ghost use Prim.Native.Nat.{_+_, _≤_};
 ghost use lib.ListN.{length};
 ghost use Rattle.xdr.specs.Buffer.{over, filled};
 ghost use Rattle.record.specs.Outline.{blocksSize, blockPlace};
-ghost use Rattle.table.specs.Table.{isGood, records};
+ghost use Rattle.table.specs.Table.{isGood, allGood, records};
 ghost use Rattle.table.specs.Filling.{fillingAnswer, bufferAfter};
 ghost use Rattle.want.specs.Listing.{isHeld};
 ghost use Rattle.want.specs.Blocks.{blockHere, blocksFrom};
-ghost use Rattle.want.specs.Wanted.{wantedBytes, listBytes, allGood, requestOutcome};
+ghost use Rattle.want.specs.Wanted.{wantedBytes, listBytes, requestOutcome};
 ghost use Rattle.want.specs.Places.{tableAt, wantedHere, wantedFrom, wantedCount, Five, listOf};
 use crate::block::block_hash;
 use crate::block::block_size;
@@ -58,7 +58,7 @@ fn count_blocks(local: &[u8], t: &[u8], first: usize, blocks: u32) -> usize
     n
 }
 
-// How long the list is: a block takes more than one byte of the five tables.
+// How many entries the list has: fewer than the five tables have bytes (5 x 65,536), so 24 times as many don't overflow.
 fn count(tables: [&[u8]; 5]) -> usize
     requires { ⌜ Five (map now tables) ⌝ }
     ensures { λ r. ⌜ (r ≡ length (listOf (map now (tables .entry)))) × (r ≤ 327680) ⌝ }

@@ -3,7 +3,7 @@ ghost use mathlib.Core.Path.{_≡_};
 ghost use mathlib.Core.List.{[], _∷_, map};
 ghost use Prim.Native.Nat.{_<_};
 ghost use Rattle.merge.specs.Next.{nextOf};
-ghost use Rattle.want.specs.Blocks.{blockWith};
+ghost use Rattle.want.specs.Listing.{blockWith};
 ghost use Rattle.want.specs.Places.{isFirst, tableAt, placeAt, lowerOf, lowestFrom, pastName, listsAt, peerAt};
 use crate::block::has_there;
 use crate::block::listed;

@@ -2,8 +2,7 @@
 ghost use mathlib.Core.Path.{_≡_};
 ghost use mathlib.Core.Bool.{true};
 ghost use Rattle.table.specs.Table.{isGood, records};
-ghost use Rattle.want.specs.Blocks.{blockWith};
-ghost use Rattle.want.specs.Listing.{isHeld};
+ghost use Rattle.want.specs.Listing.{isHeld, blockWith};
 ghost use Rattle.want.specs.Found.{foundFrom, foundIn};
 use crate::block::is_block;
 use crate::block::listed;
@@ -17,7 +16,7 @@ pub enum Found {
     Refused(Refusal),
 }
 
-// The first record of a good table, and its first block, that has a Length and a hash.
+// The numbers, from 0, of the first valid, undeleted record of a good table with a block of this Length and hash, and of its first such block.
 fn search(table: &[u8], size: u32, hash: &[u8]) -> Found
     requires { ⌜ isGood (now table) ≡ true ⌝ }
     ensures { λ r. ⌜ r ≡ foundFrom 0 (records (now (table .entry))) (blockWith size (now (hash .entry))) ⌝ }

@@ -6,6 +6,7 @@ mod print;
 use table::Filling;
 
 fn main() {
+    // one byte more than a table may have
     let mut local = [0u8; 65537];
     let mut peer1 = [0u8; 65537];
     let mut peer2 = [0u8; 65537];

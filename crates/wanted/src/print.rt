@@ -28,6 +28,7 @@ fn hyper(label: &[u8], list: &[u8], at: usize) {
 }
 
 fn entry(list: &[u8], i: usize) {
+    // so that the product can't overflow; a list has at most 2,730
     if i < 100000 {
         let at = i * ENTRY_BYTES;
         word(b"file ", list, at);

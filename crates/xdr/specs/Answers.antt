@@ -16,6 +16,7 @@ abbrev pub wordAnswer : Reading ℕ → Word
 wordAnswer (taken n next) = W.Taken n next
 wordAnswer (refused k p) = W.Refused (record { number = k; place = p })
 
+-- the refusal of a word's answer: number 0 where there is none
 abbrev pub wordRefusal : Word → Refusal
 wordRefusal (W.Taken n next) = record { number = 0; place = 0 }
 wordRefusal (W.Refused r) = r
@@ -25,6 +26,7 @@ abbrev pub hyperAnswer : Reading ℕ → Hyper
 hyperAnswer (taken n next) = H.Taken n next
 hyperAnswer (refused k p) = H.Refused (record { number = k; place = p })
 
+-- the refusal of the answer for 64 bits: number 0 where there is none
 abbrev pub hyperRefusal : Hyper → Refusal
 hyperRefusal (H.Taken n next) = record { number = 0; place = 0 }
 hyperRefusal (H.Refused r) = r
@@ -34,6 +36,7 @@ abbrev pub bytesAnswer : Reading (List ℕ) → Bytes
 bytesAnswer (taken l next) = B.Taken (length l) next
 bytesAnswer (refused k p) = B.Refused (record { number = k; place = p })
 
+-- the refusal of a string's or an opaque's answer: number 0 where there is none
 abbrev pub bytesRefusal : Bytes → Refusal
 bytesRefusal (B.Taken n next) = record { number = 0; place = 0 }
 bytesRefusal (B.Refused r) = r

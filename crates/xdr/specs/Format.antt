@@ -33,6 +33,7 @@ contents n s =
     (cond (allZero (take (padded n - n) (drop n s))) (taken (take n s) (padded n)) (refused 6 0))
     (refused 1 0)
 
+-- reading the front of some bytes by a format
 unfoldable pub read : {A : Type 0} → Format A → List ℕ → Reading A
 read nothing s = taken tt 0
 read (number k) s = cond (leb k (length s)) (taken (bigEndian k s) k) (refused 1 0)
@@ -46,10 +47,12 @@ read (via to from _ _ F) s = mapped to (read F s)
 unfoldable pub readAt : {A : Type 0} → Format A → List ℕ → ℕ → Reading A
 readAt F s at = shifted at (read F (drop at s))
 
+-- some values, each encoded, one after another
 abbrev pub encodeAll : {A : Type 0} → (A → List ℕ) → List A → List ℕ
 encodeAll e [] = []
 encodeAll e (a ∷ l) = e a ++ encodeAll e l
 
+-- the bytes that a value is in a format
 unfoldable pub encode : {A : Type 0} → Format A → A → List ℕ
 encode nothing u = []
 encode (number k) n = digits k n
@@ -59,6 +62,7 @@ encode (pair F G) p = encode F (p .0) ++ encode (G (p .0)) (p .1)
 encode (checked k test F) a = encode F a
 encode (via to from _ _ F) b = encode F (from b)
 
+-- each value of a list has P
 abbrev pub AllOf : {A : Type 0} → (A → Type 0) → List A → Type 0
 AllOf P [] = Unit {0}
 AllOf P (a ∷ l) = P a × AllOf P l

@@ -14,5 +14,6 @@ abbrev pub zerosUpTo : List ℕ → ℕ
 zerosUpTo [] = 0
 zerosUpTo (b ∷ l) = cond (eqb b 0) (suc (zerosUpTo l)) 0
 
+-- all bytes are zero
 unfoldable pub allZero : List ℕ → Bool
 allZero l = eqb (zerosUpTo l) (length l)

@@ -1,7 +1,7 @@
 // Numbers in bytes, the highest byte first.
 ghost use mathlib.Core.Path.{_≡_};
 ghost use Prim.Native.Nat.{_+_, _*_, _/_, _%_, _≤_};
-ghost use lib.ListN.{length, drop, getD};
+ghost use lib.ListN.{length, drop};
 ghost use Rattle.xdr.specs.Number.{bigEndian, lowFirst};
 
 // The number that four bytes are, the highest first.

@@ -2,7 +2,7 @@
 ghost use mathlib.Core.Path.{_≡_};
 ghost use Prim.Native.Nat.{_+_, _≤_, _<_};
 ghost use lib.ListN.{length, replicate};
-ghost use Rattle.xdr.specs.Buffer.{filled, over, put, putCount, opaqueBytes};
+ghost use Rattle.xdr.specs.Buffer.{filled, put, putCount, opaqueBytes};
 ghost use Rattle.xdr.specs.Fields.{word, hyper};
 ghost use Rattle.xdr.specs.Format.{bytes, encode};
 ghost use Rattle.xdr.specs.Pad.{padded};
@@ -140,7 +140,7 @@ fn store_bytes(out: &mut [u8], src: &[u8])
     clear(&mut out[end..past]);
 }
 
-// An opaque: its length, its contents and its pad.
+// An opaque: its length, its contents and its pad. None is put where no word holds the length.
 pub fn put_bytes(out: &mut [u8], at: usize, src: &[u8]) -> usize
     ensures { λ r. ⌜ (r ≡ putCount (now (out .entry)) at (opaqueBytes (now (src .entry)))) × (now (out .exit) ≡ put (now (out .entry)) at (opaqueBytes (now (src .entry)))) ⌝ }
 {

@@ -6,13 +6,13 @@ use native.Mathlib.Omega.{arith}
 use lib.ListN.{replicate}
 use borrow.Author.Needs.{needs}
 use Rattle.queue.specs.Requests.{blank}
-use Rattle.bep.specs.Queues.{upTo, entryAt}
-use Rattle.bep.proofs.PackLaws.{upTo-more}
+use Rattle.bep.specs.Queues.{tabulated, entryAt}
+use Rattle.bep.proofs.PackLaws.{tabulated-more}
 use Rattle.bep.proofs.outstanding.unpacked.Statement.{statement}
 use Rattle.bep.proofs.outstanding.unpacked.Tie as tie
 
 abbrev Inv-loop : tie.InvT-loop
-Inv-loop words entries₀ i₀ entries i = (i ≤ 16) × (entries ≡ upTo (entryAt words) i ++ replicate (16 - i) blank)
+Inv-loop words entries₀ i₀ entries i = (i ≤ 16) × (entries ≡ tabulated (entryAt words) i ++ replicate (16 - i) blank)
 
 abbrev μ-loop : tie.MeasureT-loop
 μ-loop words entries₀ i₀ entries i = 16 - i
@@ -59,7 +59,7 @@ loop-less c = search needs
 loop-again : tie.Need-loop-again Inv-loop μ-loop
 loop-again c =
     let l = c .before .before .before .loop in
-    (omega arith, rw (l .inv .1) (upTo-more (entryAt (c .before .before .before .before .args .words .now)) blank 16 (l .i) (omega arith)))
+    (omega arith, rw (l .inv .1) (tabulated-more (entryAt (c .before .before .before .before .args .words .now)) blank 16 (l .i) (omega arith)))
 
 element-copy-out-t23 : tie.Need-element-copy-out-t23 Inv-loop μ-loop
 element-copy-out-t23 c = search needs

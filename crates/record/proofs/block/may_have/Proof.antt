@@ -1,3 +1,4 @@
+-- `record::block::may_have` meets its contract, by its test.
 use borrow.Author.Needs.{needs}
 use Rattle.record.proofs.block.may_have.Statement.{statement}
 use Rattle.record.proofs.block.may_have.Tie as tie

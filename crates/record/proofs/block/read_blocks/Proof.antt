@@ -18,10 +18,10 @@ use Rattle.record.proofs.block.read_blocks.Statement.{statement}
 use Rattle.record.proofs.block.read_blocks.Tie as tie
 
 abbrev Inv-loop : tie.InvT-loop
-Inv-loop s gone count first i₀ next₀ i next = Progress block s first i next × (i ≤ count)
+Inv-loop s deleted count first i₀ next₀ i next = Progress block s first i next × (i ≤ count)
 
 abbrev μ-loop : tie.MeasureT-loop
-μ-loop s gone count first i₀ next₀ i next = count - i
+μ-loop s deleted count first i₀ next₀ i next = count - i
 
 -- from the loop to the place after the count was read
 abbrev counted : tie.At-loop Inv-loop μ-loop → tie.After-known-told Inv-loop μ-loop
@@ -31,13 +31,13 @@ counted c = c .before .before
 abbrev s : tie.After-known-told Inv-loop μ-loop → List ℕ
 s c = now (c .before .before .before .before .before .args .s)
 
-abbrev gone : tie.After-known-told Inv-loop μ-loop → Bool
-gone c = c .before .before .before .before .before .args .gone
+abbrev deleted : tie.After-known-told Inv-loop μ-loop → Bool
+deleted c = c .before .before .before .before .before .args .deleted
 
 abbrev count : tie.After-known-told Inv-loop μ-loop → ℕ
 count c = c .before .answer .given .0 .0
 
-count-read : (c : tie.After-known-told Inv-loop μ-loop) → Reads (blockCount (gone c)) (s c) 0 (taken (count c) (c .before .answer .given .0 .1 .0))
+count-read : (c : tie.After-known-told Inv-loop μ-loop) → Reads (blockCount (deleted c)) (s c) 0 (taken (count c) (c .before .answer .given .0 .1 .0))
 count-read c = word-taken (c .before .before .before .read-block-count .ensures) (c .before .answer .given .1)
 
 -- the next block, refused

@@ -1,8 +1,9 @@
 -- `record::block::read_size` meets its contract: the word's steps, and then its test.
+use mathlib.Core.Path.{sym, _∙_}
+use borrow.Author.Tests.{not-true, not-false}
 use Rattle.xdr.specs.Answers.{wordAnswer}
 use Rattle.xdr.proofs.Answered.{word-taken, word-refused}
 use Rattle.xdr.proofs.Steps.{answered, checked-refused, checked-failed, checked-passed}
-use Rattle.record.proofs.SizeRule.{size-fits, size-zero, size-large}
 use borrow.Author.Needs.{needs}
 use Rattle.record.proofs.block.read_size.Statement.{statement}
 use Rattle.record.proofs.block.read_size.Tie as tie
@@ -22,14 +23,14 @@ refusal-requires c κs = search needs
 returns : tie.Need-returns
 returns c = answered wordAnswer (checked-refused (word-refused (c .before .before .before .read-word .ensures) (c .before .enum-told .given .1) (c .refusal .ensures)))
 
+is-size-requires : tie.Need-is-size-requires
+is-size-requires c κs = search needs
+
 returns-2 : tie.Need-returns-2
-returns-2 c = answered wordAnswer (checked-failed (word-taken (c .before .before .before .before .read-word .ensures) (c .before .before .answer .given .1)) (size-zero _ (c .if1 .taken)))
+returns-2 c = answered wordAnswer (checked-failed (word-taken (c .before .before .before .before .before .read-word .ensures) (c .before .before .before .answer .given .1)) (sym (c .before .is-size .ensures) ∙ not-true _ (c .if1 .taken)))
 
 returns-3 : tie.Need-returns-3
-returns-3 c = answered wordAnswer (checked-failed (word-taken (c .before .before .before .before .before .read-word .ensures) (c .before .before .before .answer .given .1)) (size-large _ (c .if2 .taken)))
-
-returns-4 : tie.Need-returns-4
-returns-4 c = answered wordAnswer (checked-passed (word-taken (c .before .before .before .before .before .read-word .ensures) (c .before .before .before .answer .given .1)) (size-fits _ (c .before .if1 .left) (c .if2 .left)))
+returns-3 c = answered wordAnswer (checked-passed (word-taken (c .before .before .before .before .before .read-word .ensures) (c .before .before .before .answer .given .1)) (sym (c .before .is-size .ensures) ∙ not-false _ (c .if1 .left)))
 
 pub read-size-spec : {M : Type 1} → statement M
 read-size-spec =
@@ -40,6 +41,6 @@ read-size-spec =
     enum-told
     refusal-requires
     returns
+    is-size-requires
     returns-2
-    returns-3
-    returns-4)
+    returns-3)

@@ -1,3 +1,4 @@
+-- `record::file::is_deleted` meets its contract: a mask of one bit tests it.
 use Rattle.record.proofs.FlagBits.{masked-deleted}
 use Rattle.record.proofs.file.is_deleted.Statement.{statement}
 use Rattle.record.proofs.file.is_deleted.Tie as tie

@@ -1,3 +1,4 @@
+-- `record::file::is_invalid` meets its contract: a mask of one bit tests it.
 use Rattle.record.proofs.FlagBits.{masked-invalid}
 use Rattle.record.proofs.file.is_invalid.Statement.{statement}
 use Rattle.record.proofs.file.is_invalid.Tie as tie

@@ -1,3 +1,4 @@
+-- `record::file::mode` meets its contract: a mask of low bits is a remainder.
 use lib.Bits.{and-mask}
 use Rattle.record.proofs.file.mode.Statement.{statement}
 use Rattle.record.proofs.file.mode.Tie as tie

@@ -73,7 +73,7 @@ blocks-answer c =
     let k = to-version c in
     let at = k .before .version .given .0 .1 .0 in
     part-of arrayAnswer (blocks (c .before .is-deleted .result)) (whole k) at (c .read-blocks .ensures)
-    ∙ ap (λ (gone : Bool). arrayAnswer (readAt (blocks gone) (drop at (whole k)) 0)) (c .before .is-deleted .ensures)
+    ∙ ap (λ (deleted : Bool). arrayAnswer (readAt (blocks deleted) (drop at (whole k)) 0)) (c .before .is-deleted .ensures)
 
 -- the blocks, refused
 blocks-refused : (c : tie.After-refusal5)
@@ -93,8 +93,8 @@ blocks-read c = let q = array-taken (blocks-answer (c .before .before .before)) 
 
 -- an answer with the lengths of what was read
 same-span : {n x f m v b y p q next : ℕ} → x ≡ n → y ≡ b → p ≡ q
-    → F.Taken (record { name = n; flags = f; modified = m; version = v; blocks = b; first = p; next = next })
-    ≡ F.Taken (record { name = x; flags = f; modified = m; version = v; blocks = y; first = q; next = next })
+    → F.Taken (record { «name_length» = n; flags = f; modified = m; version = v; blocks = b; first = p; next = next })
+    ≡ F.Taken (record { «name_length» = x; flags = f; modified = m; version = v; blocks = y; first = q; next = next })
 same-span d e f = rw (d, e, f) refl
 
 read-name-requires : tie.Need-read-name-requires

@@ -24,7 +24,8 @@ key-read c = bytes-taken (c .before .before .before .read-text .ensures) (c .bef
 
 -- an answer with the lengths of what was read
 same-span : {k x p q v y next : ℕ} → x ≡ k → p ≡ q → y ≡ v
-    → O.Taken (record { key = k; start = p; value = v; next = next }) ≡ O.Taken (record { key = x; start = q; value = y; next = next })
+    → O.Taken (record { «key_length» = k; «value_start» = p; «value_length» = v; next = next })
+    ≡ O.Taken (record { «key_length» = x; «value_start» = q; «value_length» = y; next = next })
 same-span d e f = rw (d, e, f) refl
 
 read-text-requires : tie.Need-read-text-requires

@@ -2,7 +2,7 @@
 use Prim.Native.Nat.{_-_}
 use denote.Ref.{now}
 use lib.ListN.{length}
-use Rattle.want.specs.Blocks.{blockWith}
+use Rattle.want.specs.Listing.{blockWith}
 use Rattle.serve.proofs.RulingLaws.{Looking, look-starts, look-ends, look-less, look-found, look-on}
 use borrow.Author.Needs.{needs}
 use Rattle.serve.proofs.ruling.lists.Statement.{statement}

@@ -1,5 +1,8 @@
--- `walker::Walker::step` meets its contract: a walk of its MIR, by hand. The borrow is opened, which gives the walker's cell and what the walker owns; `step_at` is called on the table and the place, and `next_place` on the step found; the place is stored in the cell beside the table, and the borrow is closed at the new walker.
--- A `Walker` is Copy, so what it owns is had twice: of one copy what table owns goes to `step_at`, and the other is put back with the new place. A `Step` is plain data, so what it owns is made anew for each use.
+-- `walker::Walker::step` meets its contract: a walk of its MIR, by hand. The borrow is opened, which gives the walker's cell and what the
+-- walker owns; `step_at` is called on the table and the place, and `next_place` on the step found; the place is stored in the cell beside
+-- the table, and the borrow is closed at the new walker.
+-- A `Walker` is Copy, so what it owns is had twice: of one copy what table owns goes to `step_at`, and the other is put back with the new
+-- place. A `Step` is plain data, so what it owns is made anew for each use.
 -- All that the proof knows of `step_at` and of `next_place` is that each meets its contract.
 use mathlib.Core.Path.{_≡_, refl, ap, _∙_}
 use Prim.Native.Nat.{ℕ, _<_, _^_}

@@ -3,7 +3,7 @@ use Prim.Native.Nat.{_-_}
 use native.Mathlib.Omega.{arith}
 use borrow.Author.Needs.{needs}
 use denote.Ref.{now}
-use Rattle.want.specs.Blocks.{blockWith}
+use Rattle.want.specs.Listing.{blockWith}
 use Rattle.want.proofs.ThereLaws.{Looking, look-starts, look-passed, look-ends, look-finds, look-goes-on}
 use Rattle.want.proofs.block.has_there.Statement.{statement}
 use Rattle.want.proofs.block.has_there.Tie as tie

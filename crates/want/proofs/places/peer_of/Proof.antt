@@ -4,7 +4,7 @@ use mathlib.Core.List.{map}
 use mathlib.Core.Path.{refl}
 use native.Mathlib.Omega.{arith}
 use denote.Ref.{now}
-use Rattle.want.specs.Blocks.{blockWith}
+use Rattle.want.specs.Listing.{blockWith}
 use Rattle.want.proofs.PlaceLaws.{element, Asking, asking-starts, asking-found, asking-goes-on, asking-ends}
 use borrow.Author.Needs.{needs}
 use Rattle.want.proofs.places.peer_of.Statement.{statement}

@@ -2,7 +2,7 @@
 use mathlib.Core.Path.{sym, _∙_}
 use borrow.Author.Tests.{not-true, not-false}
 use denote.Ref.{now}
-use Rattle.want.specs.Blocks.{blockWith}
+use Rattle.want.specs.Listing.{blockWith}
 use Rattle.want.proofs.SearchLaws.{found-bad, found-good}
 use borrow.Author.Needs.{needs}
 use Rattle.want.proofs.search.find_local.Statement.{statement}

@@ -1,7 +1,7 @@
 -- `want::search::is_held` meets its contract.
 use denote.Ref.{now}
 use Rattle.table.specs.Table.{records}
-use Rattle.want.specs.Blocks.{blockWith}
+use Rattle.want.specs.Listing.{blockWith}
 use Rattle.want.proofs.SearchLaws.{held-by}
 use borrow.Author.Needs.{needs}
 use Rattle.want.proofs.search.is_held.Statement.{statement}

@@ -3,7 +3,7 @@ use Prim.Native.Nat.{_-_}
 use native.Mathlib.Omega.{arith}
 use denote.Ref.{now}
 use lib.ListN.{length}
-use Rattle.want.specs.Blocks.{blockWith}
+use Rattle.want.specs.Listing.{blockWith}
 use Rattle.want.proofs.SearchLaws.{Searched, Searching, search-starts, search-ends, search-opens, block-there, search-found, search-passes, grows, inside, search-closes}
 use borrow.Author.Needs.{needs}
 use Rattle.want.proofs.search.search.Statement.{statement}

@@ -1,3 +1,4 @@
+-- `xdr::pad::zeros_up_to` meets its contract. The loop's invariant: what is asked of the whole is what is asked of the rest.
 use Prim.Native.Nat.{_+_, _-_}
 use mathlib.Core.Path.{_≡_, sym, _∙_}
 use borrow.Author.Needs.{needs}

@@ -1,4 +1,4 @@
--- `xdr::read_bytes` meets its contract: each return is a step of reading an opaque.
+-- `xdr::read::read_bytes` meets its contract: each return is a step of reading an opaque.
 use Prim.Native.Nat.{ℕ, _+_, _-_, _≤_}
 use mathlib.Core.List.{List}
 use mathlib.Core.Path.{_≡_, refl, sym, ap, _∙_}

@@ -1,4 +1,4 @@
--- `xdr::read_text` meets its contract: the opaque's steps, and then the test of its contents.
+-- `xdr::read::read_text` meets its contract: the opaque's steps, and then the test of its contents.
 use Prim.Native.Nat.{ℕ, _+_, _-_}
 use mathlib.Core.Path.{_≡_, sym, ap, _∙_}
 use native.Mathlib.Omega.{arith}

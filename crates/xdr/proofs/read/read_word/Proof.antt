@@ -1,4 +1,4 @@
--- `xdr::read_word` meets its contract: each return is a step of reading a number.
+-- `xdr::read::read_word` meets its contract: each return is a step of reading a number.
 use Prim.Native.Nat.{ℕ, _+_}
 use mathlib.Core.Path.{ap, _∙_}
 use native.Mathlib.Omega.{arith}

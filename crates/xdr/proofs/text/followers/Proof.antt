@@ -1,4 +1,4 @@
--- `xdr::followers` meets its contract: in each arm the tests of the definition are known.
+-- `xdr::text::followers` meets its contract: in each arm the tests of the definition are known.
 use native.Mathlib.Omega.{arith}
 use borrow.Author.Tests.{le-leb, lt-leb}
 use Rattle.xdr.proofs.text.followers.Statement.{statement}

@@ -1,4 +1,4 @@
--- `xdr::follows` meets its contract: in each arm the tests of the definition are known.
+-- `xdr::text::follows` meets its contract: in each arm the tests of the definition are known.
 use native.Mathlib.Omega.{arith}
 use borrow.Author.Tests.{le-leb, lt-leb}
 use Rattle.xdr.proofs.text.follows.Statement.{statement}

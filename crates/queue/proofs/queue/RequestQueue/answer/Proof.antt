@@ -1,9 +1,7 @@
 -- `queue::queue::RequestQueue::answer` meets its contract, by the variant that the message is.
 use mathlib.Core.Path.{sym, ap, _∙_}
 use denote.Ref.{now}
-use Rattle.xdr.specs.Format.{readAt}
-use Rattle.message.specs.Message.{message}
-use Rattle.message.specs.Answers.{messageAnswer}
+use Rattle.message.specs.Answers.{said}
 use borrow.Author.Tests.{not-true, not-false}
 use Rattle.queue.specs.Queue.{keptWith, answeredBy}
 use Rattle.queue.proofs.AnswerLaws.{answer-unsound, answer-sound, answer-other}
@@ -18,7 +16,7 @@ refusal-requires : tie.Need-refusal-requires
 refusal-requires c κs = search needs
 
 returns : tie.Need-returns
-returns c = let q = c .before .before .before .before .args .self in let m = messageAnswer (readAt message (now (c .before .before .before .before .args .message)) 0) in ap (keptWith q) (c .refusal .ensures) ∙ answer-unsound q m (sym (c .before .before .is-sound .ensures) ∙ not-true _ (c .before .if1 .taken))
+returns c = let q = c .before .before .before .before .args .self in let m = said (now (c .before .before .before .before .args .message)) in ap (keptWith q) (c .refusal .ensures) ∙ answer-unsound q m (sym (c .before .before .is-sound .ensures) ∙ not-true _ (c .before .if1 .taken))
 
 read-requires : tie.Need-read-requires
 read-requires c κs = search needs
@@ -36,13 +34,13 @@ refusal-requires-2 : tie.Need-refusal-requires-2
 refusal-requires-2 c κs = search needs
 
 returns-2 : tie.Need-returns-2
-returns-2 c = let q = c .before .before .before .before .before .before .before .before .args .self in let m = messageAnswer (readAt message (now (c .before .before .before .before .before .before .before .before .args .message)) 0) in c .settle .ensures ∙ ap (answeredBy q) (sym (c .before .before .id .given .1) ∙ c .before .before .before .before .read .ensures) ∙ answer-sound q m (sym (c .before .before .before .before .before .before .is-sound .ensures) ∙ not-false _ (c .before .before .before .before .before .if1 .left))
+returns-2 c = let q = c .before .before .before .before .before .before .before .before .args .self in let m = said (now (c .before .before .before .before .before .before .before .before .args .message)) in c .settle .ensures ∙ ap (answeredBy q) (sym (c .before .before .id .given .1) ∙ c .before .before .before .before .read .ensures) ∙ answer-sound q m (sym (c .before .before .before .before .before .before .is-sound .ensures) ∙ not-false _ (c .before .before .before .before .before .if1 .left))
 
 returns-3 : tie.Need-returns-3
-returns-3 c = let q = c .before .before .before .before .before .before .before .args .self in let m = messageAnswer (readAt message (now (c .before .before .before .before .before .before .before .args .message)) 0) in ap (answeredBy q) (sym (c .before .r .given .1) ∙ c .before .before .before .read .ensures) ∙ answer-sound q m (sym (c .before .before .before .before .before .is-sound .ensures) ∙ not-false _ (c .before .before .before .before .if1 .left))
+returns-3 c = let q = c .before .before .before .before .before .before .before .args .self in let m = said (now (c .before .before .before .before .before .before .before .args .message)) in ap (answeredBy q) (sym (c .before .r .given .1) ∙ c .before .before .before .read .ensures) ∙ answer-sound q m (sym (c .before .before .before .before .before .is-sound .ensures) ∙ not-false _ (c .before .before .before .before .if1 .left))
 
 returns-4 : tie.Need-returns-4
-returns-4 c = let q = c .before .before .before .before .before .before .args .self in let m = messageAnswer (readAt message (now (c .before .before .before .before .before .before .args .message)) 0) in ap (keptWith q) (c .refusal2 .ensures) ∙ answer-other q (c .before .before .read .result) (c .before .match .keys3) ∙ ap (answeredBy q) (c .before .before .read .ensures) ∙ answer-sound q m (sym (c .before .before .before .before .is-sound .ensures) ∙ not-false _ (c .before .before .before .if1 .left))
+returns-4 c = let q = c .before .before .before .before .before .before .args .self in let m = said (now (c .before .before .before .before .before .before .args .message)) in ap (keptWith q) (c .refusal2 .ensures) ∙ answer-other q (c .before .before .read .result) (c .before .match .keys3) ∙ ap (answeredBy q) (c .before .before .read .ensures) ∙ answer-sound q m (sym (c .before .before .before .before .is-sound .ensures) ∙ not-false _ (c .before .before .before .if1 .left))
 
 pub answer-spec : {M : Type 1} → statement M
 answer-spec =

@@ -6,7 +6,7 @@ use native.Mathlib.Omega.{arith}
 use lib.ListN.{length, getD}
 use lib.Seq.{slice, slice-empty}
 use borrow.Author.Tests.{not-true, not-false}
-use Rattle.queue.specs.Requests.{blank, follows}
+use Rattle.queue.specs.Requests.{blank, standsBefore}
 use Rattle.queue.specs.declared.request.Request.{Request}
 use Rattle.queue.proofs.OwnedArray.{unmapped}
 use Rattle.queue.proofs.RequestLaws.{Passed, passed-none, passed-more, passed-not, entry-length}
@@ -61,7 +61,7 @@ returns-2 c =
 abbrev here : tie.After-struct-known Inv-loop μ-loop → Request
 here c = getD (c .before .before .before .before .before .before .before .before .args .t1 .entries) (c .before .before .before .before .before .loop .i - 1) blank
 
-fit : (c : tie.After-struct-known Inv-loop μ-loop) → follows (here c) (c .before .before .before .before .before .loop .next) ≡ true
+fit : (c : tie.After-struct-known Inv-loop μ-loop) → standsBefore (here c) (c .before .before .before .before .before .loop .next) ≡ true
 fit c = sym (c .before .before .stands-before .ensures) ∙ not-false _ (c .before .if2 .left)
 
 long : (c : tie.After-struct-known Inv-loop μ-loop) → here c .length ≤ 131072

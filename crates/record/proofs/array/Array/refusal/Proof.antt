@@ -1,3 +1,4 @@
+-- `record::array::Array::refusal` meets its contract: by the variant that the answer is.
 use mathlib.Core.Path.{sym, ap}
 use Rattle.record.specs.Answers.{arrayRefusal}
 use borrow.Author.Needs.{needs}

@@ -1,3 +1,4 @@
+-- `record::file::FileRead::refusal` meets its contract: by the variant that the answer is.
 use mathlib.Core.Path.{sym, ap}
 use Rattle.record.specs.Answers.{fileRefusal}
 use borrow.Author.Needs.{needs}

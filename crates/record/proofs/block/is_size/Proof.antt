@@ -1,8 +1,8 @@
--- `message_write::check::is_size` meets its contract.
+-- `record::block::is_size` meets its contract, by its two tests.
 use native.Mathlib.Omega.{arith}
 use borrow.Author.Tests.{le-leb, lt-leb}
-use Rattle.message_write.proofs.check.is_size.Statement.{statement}
-use Rattle.message_write.proofs.check.is_size.Tie as tie
+use Rattle.record.proofs.block.is_size.Statement.{statement}
+use Rattle.record.proofs.block.is_size.Tie as tie
 
 returns : tie.Need-returns
 returns c = simp (lt-leb 1 (c .before .args .n) (omega arith))
