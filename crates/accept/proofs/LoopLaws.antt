@@ -9,8 +9,9 @@ use Rattle.xdr.specs.Number.{IsBytes}
 use Rattle.record.specs.File.{File}
 use Rattle.table.specs.Limits.{recordsLimit, bytesLimit}
 use Rattle.table.specs.Table.{isGood, records, tableOf}
-use Rattle.table.proofs.TableLaws.{bytesOf, table-length, good-table}
-use Rattle.table.proofs.WalkLaws.{At, at-start, at-last}
+use Rattle.table.proofs.TableLaws.{table-length, good-table}
+use Rattle.table.specs.Standing.{bytesOf, At}
+use Rattle.table.proofs.WalkLaws.{at-start, at-last}
 use Rattle.table.proofs.PassLaws.{Counted, counted-none}
 use Rattle.merge.specs.declared.next.Step.{Step}
 use Rattle.merge.specs.declared.next.Next.{Next}

@@ -24,7 +24,8 @@ use Rattle.table.specs.Limits.{recordsLimit}
 use Rattle.order.specs.Order.{isEqual, compareLists, part}
 use Rattle.table.specs.Table.{table, isGood, records, tableOf}
 use Rattle.table.specs.Filling.{refused, tableInto}
-use Rattle.table.proofs.TableLaws.{AllValid, valid-parts, array-records}
+use Rattle.table.specs.Standing.{AllValid}
+use Rattle.table.proofs.TableLaws.{valid-parts, array-records}
 use Rattle.accept.specs.Resulting.{resulting}
 use Rattle.accept.specs.Accepting.{unrepeated, listed, ofKind, ofReading, acceptOutcome}
 use Rattle.accept.specs.Found.{foundIn, foundRefusal}

@@ -22,7 +22,8 @@ use Rattle.table.specs.Filling.{Outcome, accepted, refused, tableInto}
 use Rattle.order.specs.declared.compare.Order.{Order}
 use Rattle.order.specs.declared.compare.Order.the-variants.{Less, Equal, Greater}
 use Rattle.record.proofs.RisingLaws.{Rising, both-true}
-use Rattle.table.proofs.TableLaws.{AllValid, GoodTable, good-table, table-good}
+use Rattle.table.specs.Standing.{AllValid}
+use Rattle.table.proofs.TableLaws.{GoodTable, good-table, table-good}
 use Rattle.accept.specs.Resulting.{isNamed, unmentioned, placed, insert, byName, resulting}
 use Rattle.accept.specs.Accepting.{unrepeated, firstRecord, listed, ofKind, ofReading, acceptOutcome}
 use Rattle.accept.proofs.InsertLaws.{insert-rising}

@@ -9,7 +9,7 @@ use Rattle.record.specs.File.{File, file}
 use Rattle.table.specs.Limits.{recordsLimit}
 use Rattle.table.specs.Table.{records, tableOf}
 use Rattle.table.specs.Filling.{Outcome, refused}
-use Rattle.table.proofs.WalkLaws.{At}
+use Rattle.table.specs.Standing.{At}
 use Rattle.accept.specs.Resulting.{isNamed, byName}
 use Rattle.accept.specs.Accepting.{unrepeated}
 use Rattle.accept.specs.declared.accepting.Sorting.{Sorting}

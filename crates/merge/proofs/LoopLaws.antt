@@ -9,7 +9,8 @@ use Rattle.record.specs.File.{File}
 use Rattle.table.specs.Limits.{bytesLimit}
 use Rattle.table.specs.Table.{isGood, records}
 use Rattle.table.proofs.TableLaws.{good-table}
-use Rattle.table.proofs.WalkLaws.{At, at-start}
+use Rattle.table.specs.Standing.{At}
+use Rattle.table.proofs.WalkLaws.{at-start}
 use Rattle.table.proofs.PassLaws.{Counted, counted-none}
 use Rattle.merge.specs.Answer.{mergedRecords}
 use Rattle.merge.specs.Next.{nextOf}

@@ -16,7 +16,8 @@ use Rattle.table.specs.Limits.{recordsLimit, bytesLimit}
 use Rattle.table.specs.Table.{isGood, isWithin, records, tableOf}
 use Rattle.table.specs.Filling.{accepted, refused, tableInto}
 use Rattle.record.proofs.RisingLaws.{Rising, rising-is, both-true}
-use Rattle.table.proofs.TableLaws.{AllValid, GoodTable, good-table}
+use Rattle.table.specs.Standing.{AllValid}
+use Rattle.table.proofs.TableLaws.{GoodTable, good-table}
 use Rattle.merge.specs.Merged.{mergedOf}
 use Rattle.merge.specs.Highest.{joined, Topped, Highest}
 use Rattle.merge.specs.Answer.{mergedRecords, mergeOutcome}

@@ -13,7 +13,7 @@ use Rattle.record.specs.File.{File, file}
 use Rattle.order.specs.Order.{part}
 use Rattle.table.specs.Limits.{recordsLimit}
 use Rattle.table.specs.Table.{tableOf}
-use Rattle.table.proofs.TableLaws.{bytesOf}
+use Rattle.table.specs.Standing.{bytesOf}
 use Rattle.merge.specs.Next.{stepBytes}
 use Rattle.merge.specs.Notes.{noteOf, noted, notedAll, Measured}
 use Rattle.merge.specs.declared.next.Step.{Step}

@@ -16,7 +16,8 @@ use Rattle.table.specs.Table.{isWithin, tableOf}
 use Rattle.table.specs.Filling.{refused, fillingAnswer, bufferAfter, tableInto}
 use Rattle.table.specs.declared.filling.Filling.{Filling}
 use Rattle.table.specs.declared.filling.Filling.the-variants as F
-use Rattle.table.proofs.TableLaws.{bytesOf, table-length}
+use Rattle.table.specs.Standing.{bytesOf}
+use Rattle.table.proofs.TableLaws.{table-length}
 use Rattle.table.proofs.FillingLaws.{is-refused, is-filled, within-measured, into-large, into-tight, into-room, table-filled}
 use Rattle.merge.specs.Notes.{notedAll, putNotes, Measured, tableAnswer, tableAfter}
 use Rattle.merge.proofs.NoteLaws.{put-length, notes-room}

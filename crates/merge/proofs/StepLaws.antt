@@ -11,7 +11,8 @@ use Rattle.order.specs.Order.{compareLists, part}
 use Rattle.table.specs.Newest.{compareFiles}
 use Rattle.order.specs.declared.compare.Order.{Order}
 use Rattle.order.specs.declared.compare.Order.the-variants.{Less, Equal, Greater}
-use Rattle.table.proofs.WalkLaws.{At, at-end, Standing, standing, compared-there}
+use Rattle.table.specs.Standing.{At}
+use Rattle.table.proofs.WalkLaws.{at-end, Standing, standing, compared-there}
 use Rattle.merge.specs.Merged.{higherBy}
 use Rattle.merge.specs.Next.{fromLeft, fromRight, chosen, nextOf, stepBytes}
 use Rattle.merge.specs.declared.next.Step.{Step}

@@ -21,7 +21,8 @@ use Rattle.table.specs.Table.{isGood, isWithin, records, tableOf}
 use Rattle.table.specs.Filling.{Outcome, accepted, refused, tableInto}
 use Rattle.order.proofs.OrderLaws.{equal-same}
 use Rattle.record.proofs.RisingLaws.{both-true}
-use Rattle.table.proofs.TableLaws.{AllValid, good-table, array-records}
+use Rattle.table.specs.Standing.{AllValid}
+use Rattle.table.proofs.TableLaws.{good-table, array-records}
 use Rattle.accept.specs.Resulting.{isNamed, resulting}
 use Rattle.accept.specs.Accepting.{unrepeated, firstRecord, listed, ofKind, ofReading, acceptOutcome}
 use Rattle.accept.specs.Sorted.{Distinct}

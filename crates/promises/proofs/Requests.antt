@@ -43,9 +43,7 @@ listCall q (answer s) = list.answer (said s)
 listCall q drop = list.drop
 
 sound-is : (q : RequestQueue) → Good q → total (outstanding q) ≤ allowance → isSound q ≡ true
-sound-is q g t =
-    let s : Orderly q = orderly-facts q (g .orderly) in
-    sound-made q (record { low = s .low; high = s .high; held = s .held; next-id = s .next-id; ordered = s .ordered; within = t })
+sound-is q g t = sound-made q (record { orderly = orderly-facts q (g .orderly); within = t })
 
 -- 22 has passed
 past-22 : {A : Type 0} (q : RequestQueue) (a b : A) → isSound q ≡ true → cond (isSound q) a b ≡ a
@@ -210,7 +208,7 @@ issued-again q r n o size h room v k s below bytes e fit =
     let f : Sound q = sound-facts q s in
     let ne : eqb (q .count) (q .window) ≡ false = ne-eqb (q .count) (q .window) (λ x. omega arith) in
     same-issue q s (requestBytes r n o size h) size room
-    ∙ simp (ne, le-leb (total (outstanding q) + size) allowance bytes, le-leb (q .next) 4095 (f .next-id), e, le-leb k room fit)
+    ∙ simp (ne, le-leb (total (outstanding q) + size) allowance bytes, le-leb (q .next) 4095 (f .orderly .next-id), e, le-leb k room fit)
 
 -- a refused call changes nothing
 

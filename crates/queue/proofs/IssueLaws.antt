@@ -22,7 +22,7 @@ use Rattle.queue.specs.Queue.{allowance, outstanding, isSound, numbered,
 use Rattle.queue.specs.declared.queue.RequestQueue.{RequestQueue}
 use Rattle.queue.specs.declared.outcome.Issued.{Issued}
 use Rattle.queue.specs.declared.outcome.Issuing.the-variants as I
-use Rattle.queue.proofs.QueueLaws.{Sound, sound-facts, Orderly}
+use Rattle.queue.proofs.QueueLaws.{sound-facts, Orderly}
 
 writing-is : (id : ℕ) (b : List ℕ) (room : ℕ) → id ≤ 4095 → writing id 2 b room ≡ fitted room (messageBytes id 2 b) (read message (messageBytes id 2 b))
 unfolding writing
@@ -104,7 +104,7 @@ passes false false e = absurd (omega arith)
 
 pub unfull : (held limit : ℕ) (q : RequestQueue) (size : ℕ) → isSound q ≡ true → 0 ≡ faultWithin held limit q size → (q .count < 16) × (q .next ≤ 4095)
 unfull held limit q size s e =
-    let f : Sound q = sound-facts q s in
+    let f : Orderly q = sound-facts q s .orderly in
     let ne : q .count ≡ q .window → ⊥ = eqb-false _ _ (passes (eqb (q .count) (q .window)) (leb (held + size) limit) e .0) in
     (omega arith, f .next-id)
 

@@ -73,37 +73,6 @@ sound-tells q n e = bytes-of (isSound q) (total (outstanding q)) n e
 pub unsound-tells : (q : RequestQueue) → Unsound ≡ soundBytes q → isSound q ≡ false
 unsound-tells q e = unsound-of (isSound q) (total (outstanding q)) e
 
--- the facts of a sound queue
-pub record Sound (q : RequestQueue) : Type 0 where
-  pub low : 1 ≤ q .window
-  pub high : q .window ≤ 16
-  pub held : q .count ≤ q .window
-  pub next-id : q .next ≤ 4095
-  pub ordered : inOrder (outstanding q) (q .next) ≡ true
-  pub within : total (outstanding q) ≤ allowance
-
-pub sound-facts : (q : RequestQueue) → isSound q ≡ true → Sound q
-unfolding isSound isOrderly
-sound-facts q s =
-    let a = both (isOrderly q) (leb (total (outstanding q)) allowance) s in
-    let b = both (shapeFits q) (inOrder (outstanding q) (q .next)) (a .0) in
-    let w = both (windowFits (q .window)) (leb (q .count) (q .window) && leb (q .next) 4095) (b .0) in
-    let v = both (leb 1 (q .window)) (leb (q .window) 16) (w .0) in
-    let n = both (leb (q .count) (q .window)) (leb (q .next) 4095) (w .1) in
-    record {
-      low = leb-true _ _ (v .0);
-      high = leb-true _ _ (v .1);
-      held = leb-true _ _ (n .0);
-      next-id = leb-true _ _ (n .1);
-      ordered = b .1;
-      within = leb-true _ _ (a .1);
-    }
-
-pub sound-made : (q : RequestQueue) → Sound q → isSound q ≡ true
-unfolding isSound isOrderly
-sound-made q s =
-    rw (le-leb _ _ (s .low), le-leb _ _ (s .high), le-leb _ _ (s .held), le-leb _ _ (s .next-id), s .ordered, le-leb _ _ (s .within))
-
 -- the facts of an orderly queue
 pub record Orderly (q : RequestQueue) : Type 0 where
   pub low : 1 ≤ q .window
@@ -130,6 +99,21 @@ orderly-facts q o =
 pub orderly-made : (q : RequestQueue) → Orderly q → isOrderly q ≡ true
 unfolding isOrderly
 orderly-made q s = rw (le-leb _ _ (s .low), le-leb _ _ (s .high), le-leb _ _ (s .held), le-leb _ _ (s .next-id), s .ordered)
+
+-- the facts of a sound queue: it is orderly, and its bytes are within the allowance
+pub record Sound (q : RequestQueue) : Type 0 where
+  pub orderly : Orderly q
+  pub within : total (outstanding q) ≤ allowance
+
+pub sound-facts : (q : RequestQueue) → isSound q ≡ true → Sound q
+unfolding isSound
+sound-facts q s =
+    let a = both (isOrderly q) (leb (total (outstanding q)) allowance) s in
+    record { orderly = orderly-facts q (a .0); within = leb-true _ _ (a .1) }
+
+pub sound-made : (q : RequestQueue) → Sound q → isSound q ≡ true
+unfolding isSound
+sound-made q s = rw (orderly-made q (s .orderly), le-leb _ _ (s .within)) refl
 
 -- the oldest of the outstanding requests
 pub oldest : (q : RequestQueue) → length (q .entries) ≡ 16 → q .count ≤ 16 → 0 < q .count

@@ -15,7 +15,8 @@ use Rattle.table.specs.Table.{isWithin, tableOf}
 use Rattle.table.specs.Filling.{Outcome, accepted, refused, fillingAnswer, bufferAfter, tableInto}
 use Rattle.table.specs.declared.filling.Filling.{Filling}
 use Rattle.table.specs.declared.filling.Filling.the-variants as F
-use Rattle.table.proofs.TableLaws.{bytesOf, table-bytes, table-length, word-bytes}
+use Rattle.table.specs.Standing.{bytesOf}
+use Rattle.table.proofs.TableLaws.{table-bytes, table-length, word-bytes}
 
 module _ {x : Outcome} (out : List ℕ) where
   pub is-refused : {k p : ℕ} {r : Filling} → x ≡ refused k p → r ≡ fillingAnswer (refused k p) → (r ≡ fillingAnswer x) × (out ≡ bufferAfter x out)

@@ -17,15 +17,9 @@ use Rattle.xdr.proofs.Corollaries.{read-whole}
 use Rattle.record.specs.File.{File, file}
 use Rattle.record.specs.Rising.{isRising, fillRising, isRisingArray}
 use Rattle.table.specs.Limits.{recordsLimit, bytesLimit}
+use Rattle.table.specs.Standing.{bytesOf, AllValid}
 use Rattle.table.specs.Table.{table, goodReading, isGood, recordsRead, records, tableOf}
 use Rattle.record.proofs.RisingLaws.{and-true, both-true, Rising, rising-is, rising-test}
-
--- the bytes of records, one after another
-abbrev pub bytesOf : List File → List ℕ
-bytesOf fs = encodeAll (λ f. encode file f) fs
-
-abbrev pub AllValid : List File → Type 0
-AllValid fs = AllOf (λ f. Valid file f) fs
 
 -- the count, and then the records
 pub table-bytes : (fs : List File) → tableOf fs ≡ encode word (length fs) ++ bytesOf fs

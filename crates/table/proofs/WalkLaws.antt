@@ -17,13 +17,8 @@ use Rattle.record.proofs.OutlineLaws.{outline-cut}
 use Rattle.order.specs.Order.{part}
 use Rattle.table.specs.Newest.{key, keyAt, compareFiles, compareAt}
 use Rattle.table.specs.Table.{tableOf}
-use Rattle.table.proofs.TableLaws.{bytesOf, AllValid, GoodTable, table-bytes, table-length, word-bytes}
-
--- from a place on, the bytes are those of the records
-pub record At (t : List ℕ) (at : ℕ) (fs : List File) : Type 0 where
-  pub here : drop at t ≡ bytesOf fs
-  pub inside : at ≤ length t
-  pub valid : AllValid fs
+use Rattle.table.specs.Standing.{bytesOf, AllValid, At}
+use Rattle.table.proofs.TableLaws.{GoodTable, table-bytes, table-length, word-bytes}
 
 -- the records of an array begin after the count
 pub array-start : {t : List ℕ} {fs : List File} → t ≡ tableOf fs → AllValid fs → At t 4 fs

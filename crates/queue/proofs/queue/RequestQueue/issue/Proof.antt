@@ -42,7 +42,7 @@ fault-within-requires : tie.Need-fault-within-requires
 fault-within-requires c κs = search needs
 
 fields-first-requires : tie.Need-fields-first-requires
-fields-first-requires c κs = sound-facts (c .before .before .before .before .before .before .before .before .before .before .args .self) (sound (c .before .before)) .next-id
+fields-first-requires c κs = sound-facts (c .before .before .before .before .before .before .before .before .before .before .args .self) (sound (c .before .before)) .orderly .next-id
 
 returns-2 : tie.Need-returns-2
 returns-2 c = let a = c .before .before .before .before .before .before .before .before .before .before .before .args in issue-faulty (a .self) (requestBytes (now (a .repository)) (now (a .name)) (a .offset) (a .size) (now (a .hash))) (a .size) (now (a .out)) _ _ (sound (c .before .before .before)) (fault (c .before .before .before) (c .before .before .fault-within .ensures)) (c .before .if1 .taken) (c .fields-first .ensures)

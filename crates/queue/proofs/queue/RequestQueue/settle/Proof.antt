@@ -8,7 +8,7 @@ use lib.Seq.{slice}
 use Rattle.queue.specs.Requests.{blank}
 use Rattle.queue.specs.Queue.{outstanding, keptWith}
 use Rattle.queue.proofs.OwnedArray.{unmapped}
-use Rattle.queue.proofs.QueueLaws.{Sound, sound-facts, oldest, none}
+use Rattle.queue.proofs.QueueLaws.{sound-facts, Orderly, oldest, none}
 use Rattle.queue.proofs.AnswerLaws.{settled-none, settled-other, settled-oldest}
 use borrow.Author.Needs.{needs}
 use Rattle.queue.proofs.queue.RequestQueue.settle.Statement.{statement}
@@ -24,7 +24,7 @@ first : (c : tie.Else1)
     → outstanding (c .before .args .t1) ≡ getD (c .before .args .t1 .entries) 0 blank ∷ slice 1 (c .before .args .t1 .count) (c .before .args .t1 .entries)
 first c =
     let q = c .before .args .t1 in
-    let s : Sound q = sound-facts q (c .before .pre) in
+    let s : Orderly q = sound-facts q (c .before .pre) .orderly in
     oldest q (long c) (omega arith) (some c)
 
 refusal-requires : tie.Need-refusal-requires
