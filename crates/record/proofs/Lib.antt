@@ -5,6 +5,7 @@ pub mod HeadLaws
 pub mod Answered
 pub mod Arrays
 pub mod OutlineLaws
+pub mod StringLaws
 pub mod OptionLaws
 pub mod BlockLaws
 pub mod FileLaws

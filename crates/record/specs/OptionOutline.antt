@@ -4,20 +4,10 @@ use mathlib.Core.List.{List}
 use mathlib.Core.Bool.{cond}
 use lib.ListN.{length}
 use lib.Dec.{leb}
-use Rattle.xdr.specs.Pad.{padded}
 use Rattle.record.specs.Outline.{wordAt}
+use Rattle.record.specs.StringOutline.{pastString}
 use Rattle.record.specs.declared.option_outline.OptionOutline.{OptionOutline}
 use Rattle.record.specs.declared.option_outline.OptionOutline.the-variants as O
-use Rattle.record.specs.declared.option_outline.StringOutline.{StringOutline}
-use Rattle.record.specs.declared.option_outline.StringOutline.the-variants as S
-
--- where a string at a place ends, its pad included
-abbrev pub pastString : List ℕ → ℕ → ℕ
-pastString s at = at + 4 + padded (wordAt s at)
-
--- the length of its contents and where it ends, where that is within the bytes
-unfoldable pub stringOf : List ℕ → ℕ → StringOutline
-stringOf s at = cond (leb (pastString s at) (length s)) (S.Whole (wordAt s at) (pastString s at)) S.Short
 
 -- the option at a place, where it ends within the bytes: its Key, and its Value behind it
 unfoldable pub optionOf : List ℕ → ℕ → OptionOutline

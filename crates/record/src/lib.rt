@@ -6,6 +6,7 @@ pub mod files;
 pub mod option;
 pub mod option_outline;
 pub mod outline;
+mod string_outline;
 
 pub use array::Array;
 pub use block::is_size;

@@ -1,13 +1,8 @@
 // The fields of an option at a place, by bounds checks alone: for options that were read before.
 ghost use mathlib.Core.Path.{_≡_};
-ghost use Rattle.record.specs.OptionOutline.{stringOf, optionOf};
-use xdr::Word;
-
-// The length of a string's contents, which begin 4 bytes after its place, and the place after its pad, where they are within the bytes.
-pub enum StringOutline {
-    Whole(usize, usize),
-    Short,
-}
+ghost use Rattle.record.specs.OptionOutline.{optionOf};
+use crate::string_outline::StringOutline;
+use crate::string_outline::string_at;
 
 // The fields of an option, by their places in the whole: where its Key and its Value start, how many bytes each has, and the place past
 // the option.
@@ -23,21 +18,6 @@ pub struct OptionFields {
 pub enum OptionOutline {
     Whole(OptionFields),
     Short,
-}
-
-// The string at a place.
-fn string_at(s: &[u8], at: usize) -> StringOutline
-    ensures { λ r. ⌜ r ≡ stringOf (now (s .entry)) at ⌝ }
-{
-    let Word::Taken(len, start) = xdr::read_word(s, at) else {
-        return StringOutline::Short;
-    };
-    let n = len as usize;
-    let size = (n + 3) / 4 * 4;
-    if s.len() - start < size {
-        return StringOutline::Short;
-    }
-    StringOutline::Whole(n, start + size)
 }
 
 // The option at a place.

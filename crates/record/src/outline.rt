@@ -1,6 +1,8 @@
 // The fixed fields of a record at a place, and its blocks by number, by bounds checks alone: for records that were read before.
 ghost use mathlib.Core.Path.{_≡_};
 ghost use Rattle.record.specs.Outline.{outlineFrom, outlineOf, blockOf, offsetOf};
+use crate::string_outline::StringOutline;
+use crate::string_outline::string_at;
 use xdr::Hyper;
 use xdr::Word;
 
@@ -69,15 +71,11 @@ fn outline_from(s: &[u8], name: usize, stop: usize, rest: usize) -> Outline
 pub fn outline_at(s: &[u8], at: usize) -> Outline
     ensures { λ r. ⌜ r ≡ outlineOf (now (s .entry)) at ⌝ }
 {
-    let Word::Taken(len, name) = xdr::read_word(s, at) else {
+    let StringOutline::Whole(n, rest) = string_at(s, at) else {
         return Outline::Short;
     };
-    let n = len as usize;
-    let size = (n + 3) / 4 * 4;
-    if s.len() - name < size {
-        return Outline::Short;
-    }
-    outline_from(s, name, name + n, name + size)
+    let name = at + 4;
+    outline_from(s, name, name + n, rest)
 }
 
 // Block i, the first being at a place.

@@ -2,7 +2,8 @@
 use mathlib.Core.Path.{sym, _∙_}
 use native.Mathlib.Omega.{arith}
 use denote.Ref.{now}
-use Rattle.record.proofs.OptionLaws.{StringThere, string-there, string-missing, option-cut, option-short, option-whole}
+use Rattle.record.proofs.StringLaws.{StringThere, string-there, string-missing}
+use Rattle.record.proofs.OptionLaws.{option-cut, option-short, option-whole}
 use borrow.Author.Needs.{needs}
 use Rattle.record.proofs.option_outline.option_at.Statement.{statement}
 use Rattle.record.proofs.option_outline.option_at.Tie as tie

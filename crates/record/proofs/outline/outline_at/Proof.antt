@@ -1,9 +1,12 @@
 -- `record::outline::outline_at` meets its contract: each return is one of the laws of an outline.
-use mathlib.Core.Path.{refl, _∙_}
+use Prim.Native.Nat.{ℕ, _+_}
+use mathlib.Core.Path.{_≡_, refl, sym, ap, _∙_}
 use native.Mathlib.Omega.{arith}
 use denote.Ref.{now}
-use Rattle.record.specs.Outline.{wordAt}
-use Rattle.record.proofs.OutlineLaws.{There, word-there, word-missing, outline-cut, outline-is}
+use Rattle.xdr.specs.Pad.{padded}
+use Rattle.record.specs.Outline.{wordAt, outlineFrom}
+use Rattle.record.proofs.StringLaws.{StringThere, string-there, string-missing}
+use Rattle.record.proofs.OutlineLaws.{outline-cut, outline-is}
 use borrow.Author.Needs.{needs}
 use Rattle.record.proofs.outline.outline_at.Statement.{statement}
 use Rattle.record.proofs.outline.outline_at.Tie as tie
@@ -11,15 +14,15 @@ use Rattle.record.proofs.outline.outline_at.Tie as tie
 abbrev start : tie.After-known-told → tie.Start
 start c = c .before .before .before .before .before
 
--- the length of the name
-length-there : (c : tie.After-known-told) → There 4 wordAt (now (start c .args .s)) (start c .args .at) (c .before .len .given .0 .0) (c .before .len .given .0 .1 .0)
-length-there c = word-there (c .before .before .before .read-word .ensures) (c .before .len .given .1)
+-- the name
+name-there : (c : tie.After-known-told) → StringThere (now (start c .args .s)) (start c .args .at) (c .before .n .given .0 .0) (c .before .n .given .0 .1 .0)
+name-there c = string-there _ _ (sym (c .before .n .given .1) ∙ c .before .before .before .string-at .ensures)
 
-read-word-requires : tie.Need-read-word-requires
-read-word-requires c κs = search needs
+string-at-requires : tie.Need-string-at-requires
+string-at-requires c κs = search needs
 
-enum-known-len : tie.Need-enum-known-len
-enum-known-len c = search needs
+enum-known-n : tie.Need-enum-known-n
+enum-known-n c = search needs
 
 enum-told : tie.Need-enum-told
 enum-told c = search needs
@@ -27,56 +30,35 @@ enum-told c = search needs
 returns : tie.Need-returns
 returns c =
     let a = c .before .before .before .before .args in
-    let h = word-missing (c .before .before .read-word .ensures) (c .enum-told .given .1) .cut in
-    outline-cut (now (a .s)) (a .at) (wordAt (now (a .s)) (a .at)) refl (omega (arith, h))
+    outline-cut (now (a .s)) (a .at) (wordAt (now (a .s)) (a .at)) refl (string-missing _ _ (sym (c .enum-told .given .1) ∙ c .before .before .string-at .ensures))
 
-cast-n : tie.Need-cast-n
-cast-n c = search needs
-
-add-size : tie.Need-add-size
-add-size c = search needs
-
-mul-size : tie.Need-mul-size
-mul-size c = search needs
-
-sub-if1 : tie.Need-sub-if1
-sub-if1 c = length-there c .room
-
-returns-2 : tie.Need-returns-2
-returns-2 c =
-    let a = start (c .before) .args in
-    let l = length-there (c .before) in
-    outline-cut (now (a .s)) (a .at) (c .before .before .len .given .0 .0) (l .is) (omega (arith, l .ends, l .room))
+add-name : tie.Need-add-name
+add-name c = let k = name-there c in omega (arith, k .ends, k .room)
 
 add-outline-from : tie.Need-add-outline-from
-add-outline-from c = search needs
-
-add-outline-from-2 : tie.Need-add-outline-from-2
-add-outline-from-2 c = search needs
+add-outline-from c = let k = name-there c in omega (arith, k .is, k .ends, k .room)
 
 outline-from-requires : tie.Need-outline-from-requires
 outline-from-requires c κs = search needs
 
-returns-3 : tie.Need-returns-3
-returns-3 c =
-    let a = start (c .before .before) .args in
-    let l = length-there (c .before .before) in
-    c .outline-from .ensures ∙ outline-is (now (a .s)) (a .at) (c .before .before .before .len .given .0 .0) (c .before .before .before .len .given .0 .1 .0) (l .is) (l .ends)
+returns-2 : tie.Need-returns-2
+returns-2 c =
+    let a = start (c .before) .args in
+    let n = c .before .before .n .given .0 .0 in
+    let k = name-there (c .before) in
+    c .outline-from .ensures
+    ∙ ap (outlineFrom (now (a .s)) (a .at + 4) (a .at + 4 + n)) (k .ends ∙ ap (λ (m : ℕ). a .at + 4 + padded m) (sym (k .is)))
+    ∙ outline-is (now (a .s)) (a .at) n (a .at + 4) (k .is) refl
 
 pub outline-at-spec : {M : Type 1} → statement M
 outline-at-spec =
     tie.close
     (tie.spec
-    read-word-requires
-    enum-known-len
+    string-at-requires
+    enum-known-n
     enum-told
     returns
-    cast-n
-    add-size
-    mul-size
-    sub-if1
-    returns-2
+    add-name
     add-outline-from
-    add-outline-from-2
     outline-from-requires
-    returns-3)
+    returns-2)

@@ -1,13 +1,13 @@
--- `record::option_outline::string_at` meets its contract: each return is one of the laws of an outline.
+-- `record::string_outline::string_at` meets its contract: each return is one of the laws of an outline.
 use mathlib.Core.Path.{refl}
 use native.Mathlib.Omega.{arith}
 use denote.Ref.{now}
 use Rattle.record.specs.Outline.{wordAt}
 use Rattle.record.proofs.OutlineLaws.{There, word-there, word-missing}
-use Rattle.record.proofs.OptionLaws.{string-short, string-whole}
+use Rattle.record.proofs.StringLaws.{string-short, string-whole}
 use borrow.Author.Needs.{needs}
-use Rattle.record.proofs.option_outline.string_at.Statement.{statement}
-use Rattle.record.proofs.option_outline.string_at.Tie as tie
+use Rattle.record.proofs.string_outline.string_at.Statement.{statement}
+use Rattle.record.proofs.string_outline.string_at.Tie as tie
 
 abbrev start : tie.After-known-told → tie.Start
 start c = c .before .before .before .before .before
