@@ -7,3 +7,4 @@ pub mod Fields
 pub mod Buffer
 pub mod Filling
 pub mod Answers
+pub mod Steps

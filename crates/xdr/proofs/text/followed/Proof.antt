@@ -7,7 +7,7 @@ use native.Mathlib.Omega.{arith}
 use borrow.Author.Tests.{not-true, not-false}
 use lib.ListN.{drop}
 use denote.Ref.{now}
-use Rattle.xdr.specs.Text.{followedBy}
+use Rattle.xdr.specs.Steps.{followedBy}
 use Rattle.xdr.proofs.TextRule.{first-missing, first-there}
 use borrow.Author.Needs.{needs}
 use Rattle.xdr.proofs.text.followed.Statement.{statement}

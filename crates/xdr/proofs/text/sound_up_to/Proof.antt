@@ -8,7 +8,8 @@ use borrow.Author.Needs.{needs}
 use borrow.Author.Tests.{not-true, not-false}
 use lib.ListN.{length, drop, length-drop}
 use denote.Ref.{now}
-use Rattle.xdr.specs.Text.{followedBy, soundFrom, soundUpTo}
+use Rattle.xdr.specs.Text.{soundFrom, soundUpTo}
+use Rattle.xdr.specs.Steps.{followedBy}
 use Rattle.xdr.proofs.TextRule.{lead-broken, sequence-whole, sequence-cut, followed-within, end-whole}
 use Rattle.xdr.proofs.text.sound_up_to.Statement.{statement}
 use Rattle.xdr.proofs.text.sound_up_to.Tie as tie

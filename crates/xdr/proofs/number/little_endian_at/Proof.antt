@@ -1,10 +1,10 @@
--- `xdr::number::low_first_at` meets its contract.
+-- `xdr::number::little_endian_at` meets its contract.
 use mathlib.Core.Path.{sym, _∙_}
 use denote.Ref.{now}
 use Rattle.xdr.proofs.NumberLaws.{low-bytes}
 use borrow.Author.Needs.{needs}
-use Rattle.xdr.proofs.number.low_first_at.Statement.{statement}
-use Rattle.xdr.proofs.number.low_first_at.Tie as tie
+use Rattle.xdr.proofs.number.little_endian_at.Statement.{statement}
+use Rattle.xdr.proofs.number.little_endian_at.Tie as tie
 
 add-joined : tie.Need-add-joined
 add-joined c = search needs
@@ -35,8 +35,8 @@ returns c =
     let a = c .before .before .before .before .before .before .args in
     c .joined .ensures ∙ sym (low-bytes (now (a .s)) (a .at))
 
-pub low-first-at-spec : {M : Type 1} → statement M
-low-first-at-spec =
+pub little-endian-at-spec : {M : Type 1} → statement M
+little-endian-at-spec =
     tie.close
     (tie.spec
     add-joined
