@@ -15,7 +15,8 @@ use Rattle.xdr.proofs.PadLaws.{zeros-zero}
 use Rattle.xdr.proofs.Steps.{Reads, number-whole, checked-passed, via-taken, both-read, bytes-read}
 use Rattle.xdr.proofs.Runs.{Progress, progress-none, progress-more}
 use Rattle.record.specs.Limits.{sizeLimit}
-use Rattle.record.specs.Block.{Block, isSize, toBlock, block, IsHead, SoundBlocks}
+use Rattle.record.specs.Block.{Block, isSize, toBlock, block}
+use Rattle.record.specs.Steps.{IsHead, SoundBlocks}
 use Rattle.record.proofs.SizeRule.{size-fits}
 
 -- what is left of a head when 1 and 32 are taken off its two numbers

@@ -15,8 +15,7 @@ use Rattle.xdr.proofs.Strings.{string-ends, string-within}
 use Rattle.xdr.proofs.Parts.{via-parts, pair-parts}
 use Rattle.record.specs.Limits.{keyLimit, valueLimit}
 use Rattle.record.specs.KeyValue.{KeyValue, keyValue}
-use Rattle.record.specs.Outline.{wordAt}
-use Rattle.record.specs.StringOutline.{pastString}
+use Rattle.record.specs.Outline.{wordAt, pastString}
 use Rattle.record.specs.OptionOutline.{optionOf}
 use Rattle.record.specs.declared.option_outline.OptionOutline.the-variants as O
 use Rattle.record.proofs.OutlineLaws.{word-read}

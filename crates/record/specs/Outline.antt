@@ -22,6 +22,10 @@ wordAt s at = bigEndian 4 (drop at s)
 unfoldable pub hyperAt : List ℕ → ℕ → ℕ
 hyperAt s at = wordAt s at * 4294967296 + wordAt s (at + 4)
 
+-- where a string at a place ends, its pad included
+abbrev pub pastString : List ℕ → ℕ → ℕ
+pastString s at = at + 4 + padded (wordAt s at)
+
 -- the bytes of so many blocks
 abbrev pub blocksSize : ℕ → ℕ
 blocksSize n = n * blockBytes
@@ -51,7 +55,7 @@ outlineFrom s name stop rest = outlined s (fieldsFrom s name stop rest)
 
 -- the record at a place
 unfoldable pub outlineOf : List ℕ → ℕ → Outline
-outlineOf s at = outlineFrom s (at + 4) (at + 4 + wordAt s at) (at + 4 + padded (wordAt s at))
+outlineOf s at = outlineFrom s (at + 4) (at + 4 + wordAt s at) (pastString s at)
 
 -- a file's fields and their places, where it begins at a place
 abbrev pub fieldsOf : ℕ → File → Fields

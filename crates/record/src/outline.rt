@@ -1,12 +1,11 @@
 // The fixed fields of a record at a place, and its blocks by number, by bounds checks alone: for records that were read before.
 ghost use mathlib.Core.Path.{_≡_};
 ghost use Rattle.record.specs.Outline.{outlineFrom, outlineOf, blockOf, offsetOf};
+use crate::limits::BLOCK_BYTES;
 use crate::string_outline::StringOutline;
 use crate::string_outline::string_at;
 use xdr::Hyper;
 use xdr::Word;
-
-const BLOCK_BYTES: usize = 40;
 
 // The fields of a record, by their places in the whole: its name is at name..stop, its bytes from Flags to the end at rest..past, and
 // its blocks begin at first.

@@ -1,6 +1,6 @@
 // A string at a place, by bounds checks alone: for strings that were read before.
 ghost use mathlib.Core.Path.{_≡_};
-ghost use Rattle.record.specs.StringOutline.{stringOf};
+ghost use Rattle.record.specs.Steps.{stringOf};
 use xdr::Word;
 
 // The length of a string's contents, which begin 4 bytes after its place, and the place after its pad, where they are within the bytes.

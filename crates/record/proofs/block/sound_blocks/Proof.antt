@@ -11,7 +11,7 @@ use Rattle.xdr.specs.Number.{bigEndian}
 use Rattle.xdr.proofs.Answered.{hyper-taken}
 use Rattle.xdr.proofs.NumberLaws.{number-first}
 use Rattle.xdr.proofs.Parts.{number-value}
-use Rattle.record.specs.Block.{IsHead, SoundBlocks}
+use Rattle.record.specs.Steps.{IsHead, SoundBlocks}
 use Rattle.record.proofs.HeadLaws.{sound-none, sound-more}
 use Rattle.record.proofs.block.sound_blocks.Statement.{statement}
 use Rattle.record.proofs.block.sound_blocks.Tie as tie

@@ -2,7 +2,7 @@
 use mathlib.Core.Path.{refl, sym, ap, _∙_}
 use denote.Ref.{now}
 use lib.ListN.{length}
-use Rattle.record.specs.Rising.{endsAt}
+use Rattle.record.specs.Steps.{endsAt}
 use borrow.Author.Needs.{needs}
 use Rattle.record.proofs.files.is_rising_array.Statement.{statement}
 use Rattle.record.proofs.files.is_rising_array.Tie as tie
