@@ -1,6 +1,7 @@
 // The header and the seven messages of BEP v1.0: read from a slice.
 pub mod answer;
 pub mod header;
+pub mod limits;
 pub mod reading;
 
 pub use answer::IndexSpan;
@@ -10,4 +11,9 @@ pub use answer::RequestSpan;
 pub use answer::ResponseSpan;
 pub use answer::Span;
 pub use header::header_of;
+pub use limits::DATA_LIMIT;
+pub use limits::FILES_LIMIT;
+pub use limits::ID_LIMIT;
+pub use limits::OPTIONS_LIMIT;
+pub use limits::REPOSITORY_LIMIT;
 pub use reading::read;
