@@ -16,7 +16,7 @@ pub enum Filling {
 pub fn refused(number: u32) -> Filling
     ensures { λ r. ⌜ r ≡ fillingAnswer (refuses number 0) ⌝ }
 {
-    Filling::Refused(Refusal { number, place: 0 })
+    Filling::Refused(Refusal::at_start(number))
 }
 
 // So many bytes, into so much room.
