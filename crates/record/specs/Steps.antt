@@ -6,8 +6,12 @@ use mathlib.Core.Bool.{Bool, true, false, cond}
 use lib.ListN.{length, drop}
 use lib.Dec.{leb, eqb}
 use Rattle.xdr.specs.Number.{bigEndian}
+use Rattle.xdr.specs.Format.{readAt}
 use Rattle.record.specs.Limits.{hashLength, blockBytes}
 use Rattle.record.specs.Block.{isSize}
+use Rattle.record.specs.File.{files}
+use Rattle.record.specs.Rising.{isRisingArray}
+use Rattle.record.specs.Answers.{arrayAnswer}
 use Rattle.record.specs.Outline.{wordAt, pastString}
 use Rattle.record.specs.declared.array.Array.{Array}
 use Rattle.record.specs.declared.array.Array.the-variants as L
@@ -26,6 +30,10 @@ SoundBlocks s first n = (first + n * blockBytes ≤ length s) × ((i : ℕ) → 
 abbrev pub endsAt : ℕ → Array → Bool
 endsAt size (L.Taken count next) = eqb next size
 endsAt size (L.Refused r) = false
+
+-- what reading an array of files answers; where their names are to rise, whether it ends with the bytes tells that they do
+abbrev pub RunRead : (limit : ℕ) → (rising : Bool) → List ℕ → Array → Type 0
+RunRead limit rising s r = (rising ≡ false → r ≡ arrayAnswer (readAt (files limit) s 0)) × (rising ≡ true → endsAt (length s) r ≡ isRisingArray limit s)
 
 -- a string at a place: the length of its contents and where it ends, where that is within the bytes
 unfoldable pub stringOf : List ℕ → ℕ → StringOutline

@@ -1,5 +1,5 @@
 -- `order::long::same_up_to` meets its contract. The loop's invariant is the contract itself.
-use Prim.Native.Nat.{ℕ, _+_, _-_, _≤_}
+use Prim.Native.Nat.{ℕ, _+_, _-_}
 use mathlib.Core.List.{List}
 use mathlib.Core.Path.{_≡_, refl, sym, ap, _∙_}
 use native.Mathlib.Omega.{arith}
@@ -7,13 +7,13 @@ use borrow.Author.Tests.{not-false}
 use borrow.Author.Needs.{needs}
 use denote.Ref.{now}
 use lib.ListN.{length, take, drop}
-use Rattle.order.specs.Order.{compareLists}
+use Rattle.order.specs.Steps.{SameUpTo}
 use Rattle.order.proofs.SameLaws.{is-same, past-same}
 use Rattle.order.proofs.long.same_up_to.Statement.{statement}
 use Rattle.order.proofs.long.same_up_to.Tie as tie
 
 abbrev Inv-loop : tie.InvT-loop
-Inv-loop a b i₀ i = (i ≤ length a) × (i ≤ length b) × (compareLists a b ≡ compareLists (drop i a) (drop i b))
+Inv-loop a b i₀ i = SameUpTo a b i
 
 abbrev μ-loop : tie.MeasureT-loop
 μ-loop a b i₀ i = length a - i
