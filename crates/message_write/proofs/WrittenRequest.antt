@@ -4,6 +4,7 @@ use mathlib.Core.List.{List, [], append-nil}
 use mathlib.Core.Path.{_≡_, refl, sym, ap, _∙_}
 use mathlib.Core.Bool.{true}
 use native.Mathlib.Omega.{arith}
+use borrow.Author.Tests.{le-leb}
 use lib.ListN.{length}
 use Rattle.xdr.specs.Reading.{Reading, taken, refused, shifted}
 use Rattle.xdr.specs.Format.{read, readAt, encode}
@@ -11,8 +12,10 @@ use Rattle.xdr.proofs.Steps.{Reads, shifted-zero}
 use Rattle.xdr.proofs.Parts.{pair-parts, test-passed}
 use Rattle.xdr.proofs.Told.{Wide, Fate, whole, fault, readBack, told}
 use Rattle.record.specs.Block.{isSize}
-use Rattle.message.specs.Message.{Body, isRequest, request}
-use Rattle.message_write.specs.Writing.{messageBytes, requestBytes, fitted, writing}
+use Rattle.xdr.specs.Filling.{gives}
+use Rattle.message.specs.Message.{Body, isRequest, request, message}
+use Rattle.message_write.specs.Writing.{messageBytes, requestBytes, asRead, writing}
+use Rattle.message_write.specs.Steps.{writingBody}
 use Rattle.message_write.proofs.WritingLaws.{by-body}
 
 wide-request : Wide request
@@ -43,9 +46,12 @@ module _ (r n : List ℕ) (o s : ℕ) (h : List ℕ) where
       let d = pair-parts (c .2) in
       test-passed (d .1)
 
-  pub written-size : (id room : ℕ) (l : List ℕ) (k : ℕ) → id ≤ 4095 → writing id 2 (requestBytes r n o s h) room ≡ taken l k → isSize s ≡ true
-  written-size id room l k i e = go (read request (requestBytes r n o s h)) refl (sym (by-body id 2 (requestBytes r n o s h) room i (omega arith) (omega arith)) ∙ e)
+  pub written-size : (id : ℕ) (l : List ℕ) → id ≤ 4095 → writing message id 2 (requestBytes r n o s h) ≡ gives l → isSize s ≡ true
+  unfolding writingBody
+  written-size id l i e =
+      go (read request (requestBytes r n o s h)) refl
+      (sym (simp (le-leb id 4095 i) at (by-body id 2 (requestBytes r n o s h) (omega arith) (omega arith))) ∙ e)
     where
-      go : (x : Reading (Body isRequest)) → read request (requestBytes r n o s h) ≡ x → fitted room (messageBytes id 2 (requestBytes r n o s h)) (shifted 4 x) ≡ taken l k → isSize s ≡ true
+      go : (x : Reading (Body isRequest)) → read request (requestBytes r n o s h) ≡ x → asRead (messageBytes id 2 (requestBytes r n o s h)) (shifted 4 x) ≡ gives l → isSize s ≡ true
       go (taken v u) p q = sized v u p
       go (refused a b) p q = let z : _≡_ {A = ℕ} 0 1 = cc in absurd (omega arith)

@@ -13,7 +13,7 @@ use Rattle.xdr.specs.Fields.{word, hyper}
 use Rattle.xdr.proofs.Answered.{bytes-taken, bytes-refused}
 use Rattle.xdr.proofs.Steps.{Reads, passed, first-refused, both-read}
 use Rattle.xdr.proofs.Told.{Wide, encoded-at}
-use Rattle.message_write.proofs.Behind.{behind, fits-body, last-at, string-size, string-refused, string-taken, behind-string}
+use Rattle.message_write.proofs.Behind.{behind, checks, last-at, string-size, string-refused, string-taken, behind-string, repository-there}
 use borrow.Author.Tests.{not-true, not-false, eqb-true}
 use Rattle.record.specs.Block.{hash}
 use Rattle.record.specs.File.{name}
@@ -35,10 +35,6 @@ repository-read c = bytes-taken (c .before .before .before .check-text .ensures)
 
 repository-size : (c : tie.After-known-told) → let l = now (c .before .before .before .before .before .before .before .args .repository) in (c .before .first .given .0 .1 .0 ≡ 4 + padded (length l)) × (length l ≤ 64)
 repository-size c = string-taken (now (c .before .before .before .before .before .before .before .args .repository)) (passed (repository-read c .1))
-
-repository-there : (l t : List ℕ) {r : Reading (List ℕ)} → Reads repository (encode (bytes word) l) 0 r → Reads repository (behind (encode (bytes word) l ++ t)) 4 (shifted 4 r)
-unfolding encode Wide
-repository-there l t h = encoded-at {F = repository} l (0 ∷ 0 ∷ 0 ∷ 0 ∷ []) t (omega arith) refl refl h
 
 -- the name, refused or read, by itself and behind the repository
 name-refused : (c : tie.After-refusal2) → Reads name (encode (bytes word) (now (c .before .before .before .before .before .before .before .before .before .before .before .args .name))) 0 (refused (c .refusal2 .result .number) (c .refusal2 .result .place))
@@ -139,7 +135,7 @@ refused-at-requires c κs =
 returns : tie.Need-returns
 returns c = λ o.
     let a = c .before .before .before .before .before .before .before .before .args in
-    c .refused-at .ensures ∙ fits-body (a .room) (first-refused (repository-there (now (a .repository)) _ (repository-refused (c .before))))
+    c .refused-at .ensures ∙ checks (first-refused (repository-there (now (a .repository)) _ (repository-refused (c .before))))
 
 add-name-at : tie.Need-add-name-at
 add-name-at c =
@@ -165,7 +161,7 @@ returns-2 : tie.Need-returns-2
 returns-2 c = λ o.
     let a = c .before .before .before .before .before .before .before .before .before .before .before .before .args in
     let k = c .before .before .before .before .before in
-    c .refused-at2 .ensures ∙ fits-body (a .room) (both-read (repository-there (now (a .repository)) _ (repository-read k .1)) (first-refused (name-there k _ (name-refused (c .before)))))
+    c .refused-at2 .ensures ∙ checks (both-read (repository-there (now (a .repository)) _ (repository-read k .1)) (first-refused (name-there k _ (name-refused (c .before)))))
 
 add-size-at : tie.Need-add-size-at
 add-size-at c =
@@ -182,7 +178,7 @@ returns-3 : tie.Need-returns-3
 returns-3 c = λ o.
     let a = c .before .before .before .before .before .before .before .before .before .before .before .before .before .args in
     let k = c .before .before in
-    fits-body (a .room) (both-read (repository-there (now (a .repository)) _ (repository-read (k .before .before .before .before) .1)) (both-read (name-there (k .before .before .before .before) _ (name-read k .1)) (both-read (offset-there k o)
+    checks (both-read (repository-there (now (a .repository)) _ (repository-read (k .before .before .before .before) .1)) (both-read (name-there (k .before .before .before .before) _ (name-read k .1)) (both-read (offset-there k o)
     (first-refused (checked-failed (length-there k o) (sym (c .before .is-size .ensures) ∙ not-true _ (c .if1 .taken)))))))
 
 add-hash-at : tie.Need-add-hash-at
@@ -209,22 +205,19 @@ returns-4 : tie.Need-returns-4
 returns-4 c = λ o.
     let a = c .before .before .before .before .before .before .before .before .before .before .before .before .before .before .before .before .before .before .args in
     let k = c .before .before .before .before .before .before .before in
-    c .refused-at3 .ensures ∙ fits-body (a .room) (both-read (repository-there (now (a .repository)) _ (repository-read (k .before .before .before .before) .1)) (both-read (name-there (k .before .before .before .before) _ (name-read k .1)) (both-read (offset-there k o)
+    c .refused-at3 .ensures ∙ checks (both-read (repository-there (now (a .repository)) _ (repository-read (k .before .before .before .before) .1)) (both-read (name-there (k .before .before .before .before) _ (name-read k .1)) (both-read (offset-there k o)
     (both-read (checked-passed (length-there k o) (sym (c .before .before .before .before .before .before .is-size .ensures) ∙ not-false _ (c .before .before .before .before .before .if1 .left))) (hash-there k o (hash-refused (c .before)))))))
 
-add-fit : tie.Need-add-fit
-add-fit c =
+add-t16 : tie.Need-add-t16
+add-t16 c =
     let w = repository-size (c .before .before .before .before .before .before .before .before .before .before) in let v = name-size (c .before .before .before .before .before .before) in let u = told-same (now (c .before .before .before .before .before .before .before .before .before .before .before .before .before .before .before .before .before .args .hash)) (hash-read c .1) in omega (arith, u .1, eqb-true (length (now (c .before .before .before .before .before .before .before .before .before .before .before .before .before .before .before .before .before .args .hash))) 32 (u .2))
-
-fit-requires : tie.Need-fit-requires
-fit-requires c κs = search needs
 
 returns-5 : tie.Need-returns-5
 returns-5 c = λ o.
-    let a = c .before .before .before .before .before .before .before .before .before .before .before .before .before .before .before .before .before .before .args in
-    let k = c .before .before .before .before .before .before .before in
-    c .fit .ensures ∙ fits-body (a .room) (both-read (repository-there (now (a .repository)) _ (repository-read (k .before .before .before .before) .1)) (both-read (name-there (k .before .before .before .before) _ (name-read k .1)) (both-read (offset-there k o)
-    (both-read (checked-passed (length-there k o) (sym (c .before .before .before .before .before .before .is-size .ensures) ∙ not-false _ (c .before .before .before .before .before .if1 .left))) (hash-there k o (hash-read (c .before) .1))))))
+    let a = c .before .before .before .before .before .before .before .before .before .before .before .before .before .before .before .before .before .args in
+    let k = c .before .before .before .before .before .before in
+    checks (both-read (repository-there (now (a .repository)) _ (repository-read (k .before .before .before .before) .1)) (both-read (name-there (k .before .before .before .before) _ (name-read k .1)) (both-read (offset-there k o)
+    (both-read (checked-passed (length-there k o) (sym (c .before .before .before .before .before .is-size .ensures) ∙ not-false _ (c .before .before .before .before .if1 .left))) (hash-there k o (hash-read c .1))))))
 
 pub check-request-spec : {M : Type 1} → statement M
 check-request-spec =
@@ -254,6 +247,5 @@ check-request-spec =
     refusal-requires-3
     refused-at-requires-3
     returns-4
-    add-fit
-    fit-requires
+    add-t16
     returns-5)

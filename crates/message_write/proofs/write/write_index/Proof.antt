@@ -1,25 +1,12 @@
--- `message_write::write::write_index` meets its contract: the ID is too high, or the body was checked and put behind its header.
-use mathlib.Core.Path.{_∙_}
+-- `message_write::write::write_index` meets its contract: it writes by the format of its body.
 use native.Mathlib.Omega.{arith}
 use borrow.Author.Needs.{needs}
 use denote.Ref.{now}
-use lib.ListN.{length}
+use Rattle.xdr.proofs.FillingLaws.{fills-same}
 use Rattle.message_write.specs.Writing.{indexBytes}
-use Rattle.message_write.proofs.WritingLaws.{id-refused, body-written}
+use Rattle.message_write.proofs.WritingLaws.{by-body}
 use Rattle.message_write.proofs.write.write_index.Statement.{statement}
 use Rattle.message_write.proofs.write.write_index.Tie as tie
-
-too-high-requires : tie.Need-too-high-requires
-too-high-requires c κs = search needs
-
-returns : tie.Need-returns
-returns c =
-    let a = c .before .before .before .before .before .args in
-    let q = id-refused (a .id) 1 (indexBytes (now (a .repository)) (now (a .files))) (now (a .out)) (length (now (a .out))) (c .before .if1 .taken) in
-    (c .too-high .ensures ∙ q .0, q .1)
-
-header-of-requires : tie.Need-header-of-requires
-header-of-requires c κs = search needs
 
 put-index-requires : tie.Need-put-index-requires
 put-index-requires c κs = search needs
@@ -27,19 +14,8 @@ put-index-requires c κs = search needs
 same-length : tie.Need-same-length
 same-length c = search needs
 
-returns-2 : tie.Need-returns-2
-returns-2 c =
-    let k = c .before .before in
-    let a = c .before .before .before .before .before .before .before .before .before .args in
-    body-written (a .id) 1 (indexBytes (now (a .repository)) (now (a .files))) (now (a .out)) (search needs) (omega arith) (omega arith) (k .before .header-of .ensures) (k .put-index .ensures .0) (k .put-index .ensures .1)
+returns : tie.Need-returns
+returns c = let a = c .before .before .before .before .before .before .before .args in fills-same (now (a .out)) (by-body (a .id) 1 (indexBytes (now (a .repository)) (now (a .files))) (omega arith) (omega arith)) (c .before .before .put-index .ensures)
 
 pub write-index-spec : {M : Type 1} → statement M
-write-index-spec =
-    tie.close
-    (tie.spec
-    too-high-requires
-    returns
-    header-of-requires
-    put-index-requires
-    same-length
-    returns-2)
+write-index-spec = tie.close (tie.spec put-index-requires same-length returns)

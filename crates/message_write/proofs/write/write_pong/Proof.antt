@@ -1,25 +1,12 @@
--- `message_write::write::write_pong` meets its contract: the ID is too high, or the body was checked and put behind its header.
+-- `message_write::write::write_pong` meets its contract: it writes by the format of its body.
 use mathlib.Core.List.{[]}
-use mathlib.Core.Path.{_∙_}
 use native.Mathlib.Omega.{arith}
 use borrow.Author.Needs.{needs}
 use denote.Ref.{now}
-use lib.ListN.{length}
-use Rattle.message_write.proofs.WritingLaws.{id-refused, body-written}
+use Rattle.xdr.proofs.FillingLaws.{fills-same}
+use Rattle.message_write.proofs.WritingLaws.{by-body}
 use Rattle.message_write.proofs.write.write_pong.Statement.{statement}
 use Rattle.message_write.proofs.write.write_pong.Tie as tie
-
-too-high-requires : tie.Need-too-high-requires
-too-high-requires c κs = search needs
-
-returns : tie.Need-returns
-returns c =
-    let a = c .before .before .before .args in
-    let q = id-refused (a .id) 5 [] (now (a .out)) (length (now (a .out))) (c .before .if1 .taken) in
-    (c .too-high .ensures ∙ q .0, q .1)
-
-header-of-requires : tie.Need-header-of-requires
-header-of-requires c κs = search needs
 
 put-nothing-requires : tie.Need-put-nothing-requires
 put-nothing-requires c κs = search needs
@@ -27,19 +14,8 @@ put-nothing-requires c κs = search needs
 same-length : tie.Need-same-length
 same-length c = search needs
 
-returns-2 : tie.Need-returns-2
-returns-2 c =
-    let k = c .before .before in
-    let a = c .before .before .before .before .before .before .before .args in
-    body-written (a .id) 5 [] (now (a .out)) (search needs) (omega arith) (omega arith) (k .before .header-of .ensures) (k .put-nothing .ensures .0) (k .put-nothing .ensures .1)
+returns : tie.Need-returns
+returns c = let a = c .before .before .before .before .before .args in fills-same (now (a .out)) (by-body (a .id) 5 [] (omega arith) (omega arith)) (c .before .before .put-nothing .ensures)
 
 pub write-pong-spec : {M : Type 1} → statement M
-write-pong-spec =
-    tie.close
-    (tie.spec
-    too-high-requires
-    returns
-    header-of-requires
-    put-nothing-requires
-    same-length
-    returns-2)
+write-pong-spec = tie.close (tie.spec put-nothing-requires same-length returns)
