@@ -9,8 +9,8 @@ use lib.ListN.{length}
 use Rattle.xdr.specs.Reading.{Reading, taken, refused, shifted}
 use Rattle.xdr.specs.Format.{read, readAt, encode}
 use Rattle.xdr.proofs.Steps.{Reads, shifted-zero}
-use Rattle.xdr.proofs.Parts.{pair-parts, test-passed}
-use Rattle.xdr.proofs.Told.{Wide, Fate, whole, fault, readBack, told}
+use Rattle.xdr.proofs.Parts.{via-parts, pair-parts, test-passed}
+use Rattle.xdr.proofs.Told.{Wide, TakenOrRefused, whole, fault, readBack, told}
 use Rattle.record.specs.Block.{isSize}
 use Rattle.xdr.specs.Filling.{gives}
 use Rattle.message.specs.Message.{Body, isRequest, request, message}
@@ -24,7 +24,7 @@ wide-request = (omega arith, λ r. (omega arith, λ n. (omega arith, λ o. (omeg
 
 module _ (r n : List ℕ) (o s : ℕ) (h : List ℕ) where
   abbrev fields : Body isRequest
-  fields = (r, (n, (o, (s, h))))
+  fields = record { repository = r; name = n; offset = o; size = s; hash = h }
 
   -- the fields read back as themselves, if they are taken
   reads-itself : (v : Body isRequest) (k : ℕ) → read request (requestBytes r n o s h) ≡ taken v k → Reads request (requestBytes r n o s h) 0 (taken fields k)
@@ -32,15 +32,15 @@ module _ (r n : List ℕ) (o s : ℕ) (h : List ℕ) where
   reads-itself v k e =
       let t = told request fields wide-request in
       let back : read request (requestBytes r n o s h) ≡ readBack request fields = ap (read request) (sym (append-nil (requestBytes r n o s h))) ∙ t .reads [] in
-      record { is = shifted-zero (read request (requestBytes r n o s h)) ∙ go (readBack request fields) (t .fate) back }
+      record { is = shifted-zero (read request (requestBytes r n o s h)) ∙ go (readBack request fields) (t .either) back }
     where
-      go : (x : Reading (Body isRequest)) → Fate fields (length (encode request fields)) x → read request (requestBytes r n o s h) ≡ x → read request (requestBytes r n o s h) ≡ taken fields k
+      go : (x : Reading (Body isRequest)) → TakenOrRefused fields (length (encode request fields)) x → read request (requestBytes r n o s h) ≡ x → read request (requestBytes r n o s h) ≡ taken fields k
       go x whole p = let same : length (encode request fields) ≡ k = cc in p ∙ ap (λ (i : ℕ). taken fields i) same
       go x (fault a b) p = let z : _≡_ {A = ℕ} 0 1 = cc in absurd (omega arith)
 
   sized : (v : Body isRequest) (k : ℕ) → read request (requestBytes r n o s h) ≡ taken v k → isSize s ≡ true
   sized v k e =
-      let a = pair-parts (reads-itself v k e) in
+      let a = pair-parts (via-parts (reads-itself v k e)) in
       let b = pair-parts (a .2) in
       let c = pair-parts (b .2) in
       let d = pair-parts (c .2) in

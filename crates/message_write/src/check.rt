@@ -11,22 +11,16 @@ ghost use Rattle.message.specs.Limits.{optionsLimit};
 ghost use Rattle.message.specs.Message.{index, request, response};
 ghost use Rattle.message_write.specs.Steps.{bodyCheck, admittedAnswer};
 ghost use Rattle.message_write.specs.Writing.{indexBytes, requestBytes, responseBytes};
+use message::DATA_LIMIT;
+use message::FILES_LIMIT;
+use message::ID_LIMIT;
+use message::OPTIONS_LIMIT;
+use message::REPOSITORY_LIMIT;
 use record::Array;
+use record::NAME_LIMIT;
 use xdr::Bytes;
 use xdr::Filling;
 use xdr::Refusal;
-
-const ID_LIMIT: u32 = 4095;
-
-const NAME_LIMIT: u32 = 255;
-
-const REPOSITORY_LIMIT: u32 = 64;
-
-const FILES_LIMIT: u32 = 512;
-
-const DATA_LIMIT: u32 = 131072;
-
-const OPTIONS_LIMIT: u32 = 64;
 
 // Contents that are to become an opaque: their length and the bytes that it will take.
 pub fn check_bytes(l: &[u8], limit: u32) -> Bytes

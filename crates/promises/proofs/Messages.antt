@@ -17,7 +17,7 @@ use Rattle.xdr.proofs.Steps.{shifted-zero}
 use Rattle.xdr.proofs.Corollaries.{read-exactly}
 use Rattle.xdr.proofs.RoundTrip.{round}
 use Rattle.xdr.proofs.Within.{within}
-use Rattle.xdr.proofs.Told.{Wide, Fate, whole, fault, readBack, told}
+use Rattle.xdr.proofs.Told.{Wide, TakenOrRefused, whole, fault, readBack, told}
 use Rattle.record.specs.File.{file}
 use Rattle.message.specs.Limits.{idLimit}
 use Rattle.message.specs.Header.{headerOf, versionOf, reservedOf, idOf, typeOf, header}
@@ -122,13 +122,13 @@ written-reads-back id type b t room l n e u =
     let x : Sent = (headerOf id type, b) in
     let q = accepted-by id type (fieldBytes (kindOf (typeOf (headerOf id type))) b ++ t) room l n e in
     let same = given-whole id type (headerOf id type) b t refl in
-    go (readBack message x) refl (told message x wide-message .fate) (q .0)
+    go (readBack message x) refl (told message x wide-message .either) (q .0)
     (sym (told message x wide-message .reads t) ∙ ap (read message) (sym same) ∙ q .1) (q .2 ∙ ap (take n) same)
   where
     x : Sent
     x = (headerOf id type, b)
 
-    go : (r : Reading Sent) → readBack message x ≡ r → Fate x (length (encode message x)) r → (m : Sent) → readBack message x ≡ taken m n
+    go : (r : Reading Sent) → readBack message x ≡ r → TakenOrRefused x (length (encode message x)) r → (m : Sent) → readBack message x ≡ taken m n
         → l ≡ take n (encode message x ++ t) → read message (l ++ u) ≡ taken x n
     go r p whole m e f =
         let long : length (encode message x) ≡ n = cc in

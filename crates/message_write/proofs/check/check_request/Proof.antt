@@ -11,7 +11,7 @@ use Rattle.xdr.specs.Pad.{padded}
 use Rattle.xdr.specs.Format.{bytes, encode}
 use Rattle.xdr.specs.Fields.{word, hyper}
 use Rattle.xdr.proofs.Answered.{bytes-taken, bytes-refused}
-use Rattle.xdr.proofs.Steps.{Reads, passed, first-refused, both-read}
+use Rattle.xdr.proofs.Steps.{Reads, passed, first-refused, both-read, via-refused, via-taken}
 use Rattle.xdr.proofs.Told.{Wide, encoded-at}
 use Rattle.message_write.proofs.Behind.{behind, checks, last-at, string-size, string-refused, string-taken, behind-string, repository-there}
 use borrow.Author.Tests.{not-true, not-false, eqb-true}
@@ -135,7 +135,7 @@ refused-at-requires c κs =
 returns : tie.Need-returns
 returns c = λ o.
     let a = c .before .before .before .before .before .before .before .before .args in
-    c .refused-at .ensures ∙ checks (first-refused (repository-there (now (a .repository)) _ (repository-refused (c .before))))
+    c .refused-at .ensures ∙ checks (via-refused (first-refused (repository-there (now (a .repository)) _ (repository-refused (c .before)))))
 
 add-name-at : tie.Need-add-name-at
 add-name-at c =
@@ -161,7 +161,7 @@ returns-2 : tie.Need-returns-2
 returns-2 c = λ o.
     let a = c .before .before .before .before .before .before .before .before .before .before .before .before .args in
     let k = c .before .before .before .before .before in
-    c .refused-at2 .ensures ∙ checks (both-read (repository-there (now (a .repository)) _ (repository-read k .1)) (first-refused (name-there k _ (name-refused (c .before)))))
+    c .refused-at2 .ensures ∙ checks (via-refused (both-read (repository-there (now (a .repository)) _ (repository-read k .1)) (first-refused (name-there k _ (name-refused (c .before))))))
 
 add-size-at : tie.Need-add-size-at
 add-size-at c =
@@ -178,8 +178,8 @@ returns-3 : tie.Need-returns-3
 returns-3 c = λ o.
     let a = c .before .before .before .before .before .before .before .before .before .before .before .before .before .args in
     let k = c .before .before in
-    checks (both-read (repository-there (now (a .repository)) _ (repository-read (k .before .before .before .before) .1)) (both-read (name-there (k .before .before .before .before) _ (name-read k .1)) (both-read (offset-there k o)
-    (first-refused (checked-failed (length-there k o) (sym (c .before .is-size .ensures) ∙ not-true _ (c .if1 .taken)))))))
+    checks (via-refused (both-read (repository-there (now (a .repository)) _ (repository-read (k .before .before .before .before) .1)) (both-read (name-there (k .before .before .before .before) _ (name-read k .1)) (both-read (offset-there k o)
+    (first-refused (checked-failed (length-there k o) (sym (c .before .is-size .ensures) ∙ not-true _ (c .if1 .taken))))))))
 
 add-hash-at : tie.Need-add-hash-at
 add-hash-at c =
@@ -205,8 +205,8 @@ returns-4 : tie.Need-returns-4
 returns-4 c = λ o.
     let a = c .before .before .before .before .before .before .before .before .before .before .before .before .before .before .before .before .before .before .args in
     let k = c .before .before .before .before .before .before .before in
-    c .refused-at3 .ensures ∙ checks (both-read (repository-there (now (a .repository)) _ (repository-read (k .before .before .before .before) .1)) (both-read (name-there (k .before .before .before .before) _ (name-read k .1)) (both-read (offset-there k o)
-    (both-read (checked-passed (length-there k o) (sym (c .before .before .before .before .before .before .is-size .ensures) ∙ not-false _ (c .before .before .before .before .before .if1 .left))) (hash-there k o (hash-refused (c .before)))))))
+    c .refused-at3 .ensures ∙ checks (via-refused (both-read (repository-there (now (a .repository)) _ (repository-read (k .before .before .before .before) .1)) (both-read (name-there (k .before .before .before .before) _ (name-read k .1)) (both-read (offset-there k o)
+    (both-read (checked-passed (length-there k o) (sym (c .before .before .before .before .before .before .is-size .ensures) ∙ not-false _ (c .before .before .before .before .before .if1 .left))) (hash-there k o (hash-refused (c .before))))))))
 
 add-t16 : tie.Need-add-t16
 add-t16 c =
@@ -216,8 +216,8 @@ returns-5 : tie.Need-returns-5
 returns-5 c = λ o.
     let a = c .before .before .before .before .before .before .before .before .before .before .before .before .before .before .before .before .before .args in
     let k = c .before .before .before .before .before .before in
-    checks (both-read (repository-there (now (a .repository)) _ (repository-read (k .before .before .before .before) .1)) (both-read (name-there (k .before .before .before .before) _ (name-read k .1)) (both-read (offset-there k o)
-    (both-read (checked-passed (length-there k o) (sym (c .before .before .before .before .before .is-size .ensures) ∙ not-false _ (c .before .before .before .before .if1 .left))) (hash-there k o (hash-read c .1))))))
+    checks (via-taken (both-read (repository-there (now (a .repository)) _ (repository-read (k .before .before .before .before) .1)) (both-read (name-there (k .before .before .before .before) _ (name-read k .1)) (both-read (offset-there k o)
+    (both-read (checked-passed (length-there k o) (sym (c .before .before .before .before .before .is-size .ensures) ∙ not-false _ (c .before .before .before .before .if1 .left))) (hash-there k o (hash-read c .1)))))))
 
 pub check-request-spec : {M : Type 1} → statement M
 check-request-spec =
