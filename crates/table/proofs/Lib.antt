@@ -2,5 +2,4 @@
 pub mod NewestLaws
 pub mod TableLaws
 pub mod WalkLaws
-pub mod FillingLaws
 pub mod PassLaws
