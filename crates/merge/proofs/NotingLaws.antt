@@ -61,9 +61,9 @@ module _ {a b : List ℕ} {all rest : List File} {notes : List ℕ} {count at : 
       record {
         inside = omega (arith, n .inside, n .long);
         measured = record {
-        counted = m .0;
-        sized = m .1;
-        are = λ h. sym (append-nil (notedAll a b (take at notes))) ∙ ap (λ (l : List File). notedAll a b (take at notes) ++ bytesOf l) (sym e) ∙ n .follows h;
+          counted = m .0;
+          sized = m .1;
+          are = λ h. sym (append-nil (notedAll a b (take at notes))) ∙ ap (λ (l : List File). notedAll a b (take at notes) ++ bytesOf l) (sym e) ∙ n .follows h;
         };
       }
 
