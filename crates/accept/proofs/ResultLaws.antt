@@ -23,14 +23,12 @@ use Rattle.order.specs.declared.compare.Order.{Order}
 use Rattle.order.specs.declared.compare.Order.the-variants.{Less, Equal, Greater}
 use Rattle.record.proofs.RisingLaws.{Rising, both-true}
 use Rattle.table.specs.Standing.{AllValid}
+use Rattle.table.proofs.RoomLaws.{not-given}
 use Rattle.table.proofs.TableLaws.{GoodTable, good-table, table-good}
 use Rattle.accept.specs.Resulting.{isNamed, unmentioned, placed, insert, byName, resulting}
 use Rattle.accept.specs.Accepting.{unrepeated, ofRecords, firstRecord, ofIndex, ofKind, ofReading, acceptOutcome}
 use Rattle.accept.proofs.InsertLaws.{insert-rising}
 use Rattle.accept.proofs.KeptLaws.{kept-above}
-
-not-given : {k p : ℕ} {l : List ℕ} {P : Type 0} → refuses k p ≡ gives l → P
-not-given e = let z : _≡_ {A = ℕ} 0 1 = cc in absurd (omega arith)
 
 -- the resulting records are valid, and their names rise
 

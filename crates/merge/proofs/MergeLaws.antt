@@ -141,7 +141,7 @@ merged-good ts ok e =
     }
 
 -- what a merge tells that gives bytes
-pub record Gave (a b l : List ℕ) : Type 0 where
+pub record MergeGiven (a b l : List ℕ) : Type 0 where
   pub first : isGood a ≡ true
   pub second : isGood b ≡ true
   pub within : isWithin (length (mergedRecords a b)) (length (tableOf (mergedRecords a b))) ≡ true
@@ -153,7 +153,7 @@ gave-by true true false m l e = let z : _≡_ {A = ℕ} 0 1 = cc in absurd (omeg
 gave-by true false r m l e = let z : _≡_ {A = ℕ} 0 1 = cc in absurd (omega arith)
 gave-by false q r m l e = let z : _≡_ {A = ℕ} 0 1 = cc in absurd (omega arith)
 
-pub merge-gave : (a b l : List ℕ) → mergeOutcome a b ≡ gives l → Gave a b l
+pub merge-gave : (a b l : List ℕ) → mergeOutcome a b ≡ gives l → MergeGiven a b l
 unfolding mergeOutcome
 merge-gave a b l e =
     let m : List ℕ = tableOf (mergedRecords a b) in

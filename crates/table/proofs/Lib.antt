@@ -3,3 +3,4 @@ pub mod NewestLaws
 pub mod TableLaws
 pub mod WalkLaws
 pub mod PassLaws
+pub mod RoomLaws
