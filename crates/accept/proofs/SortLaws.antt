@@ -16,7 +16,7 @@ use Rattle.record.specs.declared.outline.Outline.the-variants as O
 use Rattle.table.specs.Limits.{recordsLimit}
 use Rattle.order.specs.Order.{isEqual, compareLists}
 use Rattle.table.specs.Table.{records}
-use Rattle.table.specs.Filling.{Outcome, refused}
+use Rattle.xdr.specs.Filling.{Outcome, refuses}
 use Rattle.order.specs.declared.compare.Order.{Order}
 use Rattle.order.specs.declared.compare.Order.the-variants.{Less, Equal, Greater}
 use Rattle.order.proofs.OrderLaws.{turned, compare-turned}
@@ -124,14 +124,14 @@ module _ {s places : List ℕ} {at n : ℕ} (a : IsArray s) (l : Sorting s place
 
     -- its name stood before
     pub sorting-repeated : {y : Slot} {ps : List ℕ} → ps ≡ take n places → y ≡ slotOf s ps (length ps) (nameOf s at) → y ≡ Repeated
-        → (at ≤ length s) × ((base : ℕ) (next : Outcome) → unrepeated [] (base + 4) (records s) next ≡ refused 13 (base + at))
+        → (at ≤ length s) × ((base : ℕ) (next : Outcome) → unrepeated [] (base + 4) (records s) next ≡ refuses 13 (base + at))
     sorting-repeated {y} {ps} h u v =
         let w = slot-taken s ps (byName (l .done) []) (nr .head) at (nr .tail, nr .stands) (subst (λ (p : List ℕ). Places s p (byName (l .done) [])) (sym h) (l .standing)) (l .rising) u v in (
           l .here .inside,
           λ base next.
               l .left base next
               ∙ ap (λ (r : List File). unrepeated (l .before) (base + at) r next) (nr .is)
-              ∙ ap (λ (b : Bool). cond b (refused 13 (base + at)) (unrepeated (nr .head ∷ l .before) (base + at + length (encode file (nr .head))) (nr .tail) next)) (sym (l .names (nr .head .name)) ∙ w),
+              ∙ ap (λ (b : Bool). cond b (refuses 13 (base + at)) (unrepeated (nr .head ∷ l .before) (base + at + length (encode file (nr .head))) (nr .tail) next)) (sym (l .names (nr .head .name)) ∙ w),
         )
 
     module _ {y : Slot} {ps : List ℕ} {j : ℕ} (h : ps ≡ take n places) (u : y ≡ slotOf s ps (length ps) (nameOf s at)) (v : y ≡ Free j) where
@@ -170,6 +170,6 @@ module _ {s places : List ℕ} {at n : ℕ} (a : IsArray s) (l : Sorting s place
         left = λ base next.
             l .left base next
             ∙ ap (λ (r : List File). unrepeated (l .before) (base + at) r next) (nr .is)
-            ∙ ap (λ (b : Bool). cond b (refused 13 (base + at)) (unrepeated (nr .head ∷ l .before) (base + at + length (encode file (nr .head))) (nr .tail) next)) (sym (l .names (nr .head .name)) ∙ new)
+            ∙ ap (λ (b : Bool). cond b (refuses 13 (base + at)) (unrepeated (nr .head ∷ l .before) (base + at + length (encode file (nr .head))) (nr .tail) next)) (sym (l .names (nr .head .name)) ∙ new)
             ∙ ap (λ (p : ℕ). unrepeated (nr .head ∷ l .before) p (nr .tail) next) (add-assoc base at (length (encode file (nr .head))) ∙ ap (λ (p : ℕ). base + p) (sym past-is));
       }

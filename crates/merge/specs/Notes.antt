@@ -3,19 +3,18 @@ use Prim.Native.Nat.{ℕ, _+_, _≤_}
 use mathlib.Core.List.{List, [], _∷_, _++_}
 use mathlib.Core.Path.{_≡_}
 use mathlib.Core.Bool.{cond}
-use lib.ListN.{length}
+use lib.ListN.{length, take}
 use lib.Dec.{leb}
 use Rattle.xdr.specs.Buffer.{put, putCount}
-use Rattle.xdr.specs.Fields.{word}
-use Rattle.xdr.specs.Format.{encode, encodeAll}
-use Rattle.record.specs.File.{File, file}
+use Rattle.xdr.specs.Filling.{Fills}
+use Rattle.xdr.specs.declared.filling.Filling.{Filling}
+use Rattle.record.specs.File.{File}
 use Rattle.order.specs.Order.{part}
 use Rattle.table.specs.Limits.{recordsLimit}
-use Rattle.table.specs.Table.{isWithin, tableOf}
-use Rattle.table.specs.Filling.{refused, fillingAnswer}
-use Rattle.table.specs.declared.filling.Filling.{Filling}
-use Rattle.table.specs.declared.filling.Filling.the-variants as F
+use Rattle.table.specs.Table.{tableOf, resultingTable}
+use Rattle.table.specs.Standing.{bytesOf}
 use Rattle.merge.specs.declared.next.Step.{Step}
+use Rattle.merge.specs.declared.notes.Size.{Size}
 
 -- a record of the first table is noted as where it starts and where it ends, one of the second the other way round
 abbrev pub noteOf : Step → List ℕ
@@ -38,17 +37,16 @@ putNotes a b (x ∷ []) out at = out
 putNotes a b (x ∷ y ∷ l) out at = putNotes a b l (put out at (noted a b x y)) (at + putCount out at (noted a b x y))
 
 -- the size is that of the records, and they are noted where a table may have so many
-pub record Measured (a b notes : List ℕ) (fs : List File) (count bytes : ℕ) : Type 0 where
-  pub counted : count ≡ length fs
-  pub sized : bytes ≡ length (tableOf fs)
-  pub are : count ≤ recordsLimit → notedAll a b notes ≡ encodeAll (λ f. encode file f) fs
+pub record Measured (a b notes : List ℕ) (fs : List File) (size : Size) : Type 0 where
+  pub counted : size .count ≡ length fs
+  pub sized : size .bytes ≡ length (tableOf fs)
+  pub are : size .count ≤ recordsLimit → notedAll a b notes ≡ bytesOf fs
 
--- what is answered where a table of that size is put: it is within the limits (19), and the buffer has room for it (14)
-abbrev pub tableAnswer : (count bytes room : ℕ) → Filling
-tableAnswer count bytes room =
-    cond (isWithin count bytes) (cond (leb bytes room) (F.Filled bytes) (fillingAnswer (refused 14 0))) (fillingAnswer (refused 19 0))
+-- they are noted in the first of some notes
+pub record Noted (a b notes : List ℕ) (fs : List File) (size : Size) : Type 0 where
+  pub inside : size .noted ≤ length notes
+  pub measured : Measured a b (take (size .noted) notes) fs size
 
--- and what the buffer then holds: the count, and all that is noted from place 4 on
-abbrev pub tableAfter : (a b notes : List ℕ) → (count bytes : ℕ) → (out : List ℕ) → List ℕ
-tableAfter a b notes count bytes out =
-    cond (isWithin count bytes) (cond (leb bytes (length out)) (putNotes a b notes (put out 0 (encode word count)) 4) out) out
+-- the table of the records that were measured and noted is put into a buffer
+abbrev pub PutsTable : (a b notes : List ℕ) → Size → (out : List ℕ) → Filling → (after : List ℕ) → Type 0
+PutsTable a b notes size out r after = (fs : List File) → Measured a b notes fs size → Fills (resultingTable fs) out r after

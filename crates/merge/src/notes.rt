@@ -1,11 +1,10 @@
 // Notes of the records that a table takes: two numbers each, so that a pass that writes them compares nothing.
 ghost use mathlib.Core.Path.{_≡_};
 ghost use mathlib.Core.List.{[], _∷_};
-ghost use lib.ListN.{length};
 ghost use Rattle.xdr.specs.Buffer.{put, putCount};
-ghost use Rattle.merge.specs.Notes.{noteOf, noted, putNotes, tableAnswer, tableAfter};
+ghost use Rattle.merge.specs.Notes.{noteOf, noted, putNotes, PutsTable};
 use crate::next::Step;
-use table::Filling;
+use xdr::Filling;
 
 // How many records a table has and how many bytes, and how many numbers are noted of it.
 pub struct Size {
@@ -63,13 +62,13 @@ fn put_notes(a: &[u8], b: &[u8], notes: &[usize], out: &mut [u8], at: usize)
 
 // Puts a table into the first bytes of the buffer, by its size and the notes of its records.
 pub fn put_table(a: &[u8], b: &[u8], notes: &[usize], size: Size, out: &mut [u8]) -> Filling
-    ensures { λ r. ⌜ (r ≡ tableAnswer (size .count) (size .bytes) (length (now (out .entry)))) × (now (out .exit) ≡ tableAfter (now (a .entry)) (now (b .entry)) (now (notes .entry)) (size .count) (size .bytes) (now (out .entry))) ⌝ }
+    ensures { λ r. ⌜ PutsTable (now (a .entry)) (now (b .entry)) (now (notes .entry)) size (now (out .entry)) r (now (out .exit)) ⌝ }
 {
     if !table::within_limits(size.count, size.bytes) {
-        return table::refused(19);
+        return xdr::refused(19);
     }
     if out.len() < size.bytes {
-        return table::refused(14);
+        return xdr::refused(14);
     }
     xdr::put_word(out, 0, size.count);
     put_notes(a, b, notes, out, 4);

@@ -14,7 +14,7 @@ use Rattle.message.specs.Header.{typeOf, idOf}
 use Rattle.message.specs.Message.{Kind, isIndex, isRequest, isResponse, isPing, isPong, isIndexUpdate, isOptions, kindOf, Body, body, Sent, message}
 use Rattle.message.specs.Answers.{requestSpan, bodyAnswer, messageAnswer}
 use Rattle.table.specs.Table.{isGood}
-use Rattle.table.specs.Filling.{refused as refusedCall}
+use Rattle.xdr.specs.Filling.{refuses as refusesCall}
 use Rattle.accept.specs.Accepting.{ofReading, acceptOutcome}
 use Rattle.serve.specs.Ruling.{isOurs, Ruling, serves, replies, refuses, askingOf, rulingBy, rulingOf, servingAnswer, servingBuffer}
 use Rattle.queue.specs.Queue.{answerOf}
@@ -74,7 +74,7 @@ following-unchanged s t h =
     let e = read-same s t same in
     record {
       reading = ap messageAnswer e;
-      accepting = λ old repository room. ap (λ (r : Reading Sent). cond (isGood old) (ofReading old repository room r) (refusedCall 15 0)) e;
+      accepting = λ old repository. ap (λ (r : Reading Sent). cond (isGood old) (ofReading old repository r) (refusesCall 15 0)) e;
       answering = λ q. ap (λ (r : Reading Sent). answerOf q (messageAnswer r)) e;
       serving = λ table repository out.
           let u = ruling-same s t same table repository in

@@ -7,8 +7,9 @@ use mathlib.Core.Bool.{Bool, true, false, _&&_, cond}
 use native.Mathlib.Omega.{arith}
 use lib.ListN.{length}
 use Rattle.record.specs.File.{File}
-use Rattle.table.specs.Table.{isGood, allGood, isWithin, records, tableOf}
-use Rattle.table.specs.Filling.{Outcome, accepted, refused, bufferAfter, tableInto}
+use Rattle.xdr.specs.Filling.{Outcome, gives, refuses, inRoom, bufferAfter}
+use Rattle.table.specs.Table.{isGood, allGood, isWithin, records, tableOf, resultingTable}
+use Rattle.table.proofs.RoomLaws.{not-given, given-room}
 use Rattle.record.proofs.RisingLaws.{both-true}
 use Rattle.table.proofs.TableLaws.{GoodTable, good-table, table-good, records-of}
 use Rattle.merge.specs.Merged.{mergedOf}
@@ -16,7 +17,7 @@ use Rattle.merge.specs.Highest.{joined}
 use Rattle.merge.specs.Answer.{mergedRecords}
 use Rattle.merge.proofs.AnswerLaws.{first-bad, second-bad}
 use Rattle.merge.proofs.HighestLaws.{AllOK, Within}
-use Rattle.merge.proofs.MergeLaws.{all-ok, joined-append, merged-one, merged-good, merged-origins, merged-same, outcome-by-origins, merge-accepted}
+use Rattle.merge.proofs.MergeLaws.{all-ok, joined-append, merged-one, merged-good, merged-origins, merged-same, outcome-by-origins, merge-gave}
 use Rattle.promises.specs.Memory.{Memory, Region, bytesFrom, bytesIn, written, isApart}
 use Rattle.promises.specs.Merges.{Slice, State, Event, call, write, begun, start, untouched, handAfter, merging, step, run, Allowed, AllAllowed, mergedTable, Kept, Throughout, HoldsBytes, SameTables}
 use Rattle.promises.proofs.MemoryLaws.{bytes-written, bytes-apart, written-back, written-filled, holds-bytes}
@@ -75,18 +76,18 @@ moved m n x e (bad f b g) = bad f (ap isGood e ∙ b) g
 moved m n x e (good g o t) = good g o (subst (λ (l : List ℕ). GoodTable l (mergedOf (map records (x .origins)))) (sym e) t)
 
 -- two slices merged
-by-origins : (m : Memory) (x y : Slice) (room : ℕ) → Known m x → Known m y
-    → merging m x y room ≡ cond (allGood (x .origins) && allGood (y .origins)) (tableInto (mergedOf (map records (x .origins ++ y .origins))) room) (refused 15 0)
-by-origins m x y room (bad f b g) k = first-bad (bytesIn m (x .region)) (bytesIn m (y .region)) room b ∙ rw g refl
-by-origins m x y room (good g o t) (bad f b h) =
-    second-bad (bytesIn m (x .region)) (bytesIn m (y .region)) room (table-good (bytesIn m (x .region)) (mergedOf (map records (x .origins))) t) b ∙ rw (g, h) refl
-by-origins m x y room (good g o t) (good h p u) =
+by-origins : (m : Memory) (x y : Slice) → Known m x → Known m y
+    → merging m x y ≡ cond (allGood (x .origins) && allGood (y .origins)) (resultingTable (mergedOf (map records (x .origins ++ y .origins)))) (refuses 15 0)
+by-origins m x y (bad f b g) k = first-bad (bytesIn m (x .region)) (bytesIn m (y .region)) b ∙ rw g refl
+by-origins m x y (good g o t) (bad f b h) =
+    second-bad (bytesIn m (x .region)) (bytesIn m (y .region)) (table-good (bytesIn m (x .region)) (mergedOf (map records (x .origins))) t) b ∙ rw (g, h) refl
+by-origins m x y (good g o t) (good h p u) =
     let a = bytesIn m (x .region) in
     let b = bytesIn m (y .region) in
     let ts = map records (x .origins) in
     let us = map records (y .origins) in
-    outcome-by-origins a b room ts us (table-good a (mergedOf ts) t) (table-good b (mergedOf us) u) (records-of a (mergedOf ts) t) (records-of b (mergedOf us) u) (records-append (x .origins) (y .origins) o p)
-    ∙ ap (λ (l : List (List File)). tableInto (mergedOf l) room) (sym (map-append records (x .origins) (y .origins)))
+    outcome-by-origins a b ts us (table-good a (mergedOf ts) t) (table-good b (mergedOf us) u) (records-of a (mergedOf ts) t) (records-of b (mergedOf us) u) (records-append (x .origins) (y .origins) o p)
+    ∙ ap (λ (l : List (List File)). resultingTable (mergedOf l)) (sym (map-append records (x .origins) (y .origins)))
     ∙ rw (g, h) refl
 
 -- all that is at hand
@@ -100,12 +101,11 @@ written-known m hand at l h x i =
     moved m (written m at l) x (bytes-apart m at l (x .region) (p .1)) (h x (p .0))
 
 -- the result of an accepted call
-result-known : (m : Memory) (x y : Slice) (b : Region) (l : List ℕ) → Known m x → Known m y → merging m x y (b .size) ≡ accepted l
+result-known : (m : Memory) (x y : Slice) (b : Region) (l : List ℕ) → Known m x → Known m y → merging m x y ≡ gives l
     → Known (written m (b .at) l) (record { region = record { at = b .at; size = length l }; made = true; origins = x .origins ++ y .origins })
-result-known m x y b l (bad f c g) k e = let q = sym e ∙ first-bad (bytesIn m (x .region)) (bytesIn m (y .region)) (b .size) c in let z : _≡_ {A = ℕ} 0 1 = cc in absurd (omega arith)
+result-known m x y b l (bad f c g) k e = not-given (sym (first-bad (bytesIn m (x .region)) (bytesIn m (y .region)) c) ∙ e)
 result-known m x y b l (good g o t) (bad f c h) e =
-    let q = sym e ∙ second-bad (bytesIn m (x .region)) (bytesIn m (y .region)) (b .size) (table-good (bytesIn m (x .region)) (mergedOf (map records (x .origins))) t) c in
-    let z : _≡_ {A = ℕ} 0 1 = cc in absurd (omega arith)
+    not-given (sym (second-bad (bytesIn m (x .region)) (bytesIn m (y .region)) (table-good (bytesIn m (x .region)) (mergedOf (map records (x .origins))) t) c) ∙ e)
 result-known m x y b l (good g o t) (good h p u) e =
     let a = bytesIn m (x .region) in
     let c = bytesIn m (y .region) in
@@ -113,7 +113,7 @@ result-known m x y b l (good g o t) (good h p u) e =
     let us = map records (y .origins) in
     let os : List (List File) = map records (x .origins ++ y .origins) in
     let ok : Origins (x .origins ++ y .origins) = origins-append (x .origins) (y .origins) o p in
-    let r = merge-accepted a c (b .size) l e in
+    let r = merge-gave a c l e in
     let same : mergedRecords a c ≡ mergedOf os =
     merged-origins a c ts us (records-of a (mergedOf ts) t) (records-of c (mergedOf us) u) (records-append (x .origins) (y .origins) o p)
     ∙ ap mergedOf (sym (map-append records (x .origins) (y .origins))) in
@@ -121,18 +121,17 @@ result-known m x y b l (good g o t) (good h p u) e =
     let fit = subst (λ (fs : List File). isWithin (length fs) (length (tableOf fs)) ≡ true) same (r .within) in
     good (good-append (x .origins) (y .origins) g h) ok (subst (λ (v : List ℕ). GoodTable v (mergedOf os)) (sym there) (merged-good os ok fit))
 
-call-known : (m : Memory) (hand : List Slice) (x y : Slice) (b : Region) (o : Outcome) → merging m x y (b .size) ≡ o → x ∈ hand → y ∈ hand → AllKnown m hand
+call-known : (m : Memory) (hand : List Slice) (x y : Slice) (b : Region) (o : Outcome) → inRoom (b .size) (merging m x y) ≡ o → x ∈ hand → y ∈ hand → AllKnown m hand
     → AllKnown (written m (b .at) (bufferAfter o (bytesIn m b))) (handAfter o x y (b .at) hand)
-call-known m hand x y b (refused k p) e i j h = subst (λ (n : Memory). AllKnown n hand) (sym (written-back m (b .at) (b .size))) h
-call-known m hand x y b (accepted l) e i j h =
-    let r = merge-accepted (bytesIn m (x .region)) (bytesIn m (y .region)) (b .size) l e in
-    subst (λ (n : Memory). AllKnown n (handAfter (accepted l) x y (b .at) hand)) (sym (written-filled m (b .at) l (b .size) (r .fits))) all
+call-known m hand x y b (refuses k p) e i j h = subst (λ (n : Memory). AllKnown n hand) (sym (written-back m (b .at) (b .size))) h
+call-known m hand x y b (gives l) e i j h =
+        subst (λ (n : Memory). AllKnown n (handAfter (gives l) x y (b .at) hand)) (sym (written-filled m (b .at) l (b .size) (given-room (b .size) (merging m x y) l e .1))) all
   where
-    all : AllKnown (written m (b .at) l) (handAfter (accepted l) x y (b .at) hand)
-    all z k = ⊎-elim (λ f. subst (λ (w : Slice). Known (written m (b .at) l) w) (sym f) (result-known m x y b l (h x i) (h y j) e)) (λ q. written-known m hand (b .at) l h z q) (List·Memᴰ·cases-cons k)
+    all : AllKnown (written m (b .at) l) (handAfter (gives l) x y (b .at) hand)
+    all z k = ⊎-elim (λ f. subst (λ (w : Slice). Known (written m (b .at) l) w) (sym f) (result-known m x y b l (h x i) (h y j) (given-room (b .size) (merging m x y) l e .0))) (λ q. written-known m hand (b .at) l h z q) (List·Memᴰ·cases-cons k)
 
 step-known : (s : State) (e : Event) → Allowed s e → AllKnown (s .memory) (s .hand) → AllKnown (step s e .memory) (step s e .hand)
-step-known s (call x y b) a h = call-known (s .memory) (s .hand) x y b (merging (s .memory) x y (b .size)) refl (a .0) (a .1) h
+step-known s (call x y b) a h = call-known (s .memory) (s .hand) x y b (inRoom (b .size) (merging (s .memory) x y)) refl (a .0) (a .1) h
 step-known s (write at l) a h = written-known (s .memory) (s .hand) at l h
 
 -- the start
@@ -159,7 +158,7 @@ kept s h =
       results = λ x i e. result x e (h x i);
       good = λ x i. same-test x (h x i);
       same = λ x i e. same-bytes x e (h x i);
-      answers = λ x y i j room. by-origins (s .memory) x y room (h x i) (h y j);
+      answers = λ x y i j. by-origins (s .memory) x y (h x i) (h y j);
     }
   where
     result : (x : Slice) → x .made ≡ true → Known (s .memory) x → allGood (x .origins) ≡ true

@@ -118,5 +118,5 @@ requested local peers b g =
     record {
       list = requestList (records local) (map records peers);
       exact = exact-list (records local) (map records peers) (rising-records peers b (both-true (isGood local) (allGood peers) g .1));
-      filled = λ room. rw g refl;
+      filled = rw g refl;
     }

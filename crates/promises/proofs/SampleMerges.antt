@@ -11,7 +11,7 @@ use Rattle.xdr.specs.Pad.{allZero}
 use Rattle.order.specs.Order.{compareNumbers, compareLists}
 use Rattle.table.specs.Newest.{compareFiles}
 use Rattle.table.specs.Table.{isGood, records, tableOf}
-use Rattle.table.specs.Filling.{accepted, refused}
+use Rattle.xdr.specs.Filling.{gives, refuses, inRoom}
 use Rattle.merge.specs.Merged.{mergedOf}
 use Rattle.merge.specs.Answer.{mergedRecords, mergeOutcome}
 use Rattle.promises.specs.Memory.{Memory, bytesIn, written}
@@ -55,9 +55,9 @@ events =
     ∷ []
 
 -- what each call did
-pub sample-answers : (merging (begin .memory) x y 34 ≡ accepted newer)
-    × (merging (run begin (take 1 events) .memory) merged merged 31 ≡ refused 14 0)
-    × (merging (run begin (take 2 events) .memory) y z 32 ≡ refused 15 0)
+pub sample-answers : (inRoom 34 (merging (begin .memory) x y) ≡ gives newer)
+    × (inRoom 31 (merging (run begin (take 1 events) .memory) merged merged) ≡ refuses 14 0)
+    × (inRoom 32 (merging (run begin (take 2 events) .memory) y z) ≡ refuses 15 0)
 unfolding read encode soundUpTo allZero compareNumbers compareLists compareFiles isGood records tableOf mergedOf mergedRecords mergeOutcome
 sample-answers = (refl, refl, refl)
 

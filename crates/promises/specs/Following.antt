@@ -19,7 +19,7 @@ IsEnough s = (p : ℕ) → read message s ≡ refused 1 p → ⊥
 -- each call that is given a message does the same when bytes follow it
 pub record Unchanged (s t : List ℕ) : Type 0 where
   pub reading : said (s ++ t) ≡ said s
-  pub accepting : (old repository : List ℕ) (room : ℕ) → acceptOutcome old (s ++ t) repository room ≡ acceptOutcome old s repository room
+  pub accepting : (old repository : List ℕ) → acceptOutcome old (s ++ t) repository ≡ acceptOutcome old s repository
   pub answering : (q : RequestQueue) → answerOf q (said (s ++ t)) ≡ answerOf q (said s)
   pub serving : (table repository out : List ℕ)
       → (servingAnswer (rulingOf table repository (s ++ t)) (length out) ≡ servingAnswer (rulingOf table repository s) (length out))

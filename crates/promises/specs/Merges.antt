@@ -4,8 +4,8 @@ use mathlib.Core.List.{List, [], _∷_, _++_, map, List·Memᴰ}
 use mathlib.Core.Path.{_≡_}
 use mathlib.Core.Bool.{Bool, true, false, _&&_, cond}
 use lib.ListN.{length}
-use Rattle.table.specs.Table.{isGood, allGood, records, tableOf}
-use Rattle.table.specs.Filling.{Outcome, accepted, refused, bufferAfter, tableInto}
+use Rattle.xdr.specs.Filling.{Outcome, gives, refuses, inRoom, bufferAfter}
+use Rattle.table.specs.Table.{isGood, allGood, records, tableOf, resultingTable}
 use Rattle.merge.specs.Merged.{mergedOf}
 use Rattle.merge.specs.Answer.{mergeOutcome}
 use Rattle.promises.specs.Memory.{Memory, Region, bytesIn, written, isApart}
@@ -43,19 +43,19 @@ untouched r (x ∷ xs) = cond (isApart (x .region) r) (x ∷ untouched r xs) (un
 
 -- an accepted call's result is the bytes filled, and has the origins of both
 abbrev pub handAfter : Outcome → (x y : Slice) → (at : ℕ) → List Slice → List Slice
-handAfter (refused k p) x y at hand = hand
-handAfter (accepted l) x y at hand =
+handAfter (refuses k p) x y at hand = hand
+handAfter (gives l) x y at hand =
     let r : Region = record { at = at; size = length l } in
     record { region = r; made = true; origins = x .origins ++ y .origins } ∷ untouched r hand
 
--- what the contract of merge says of two slices and a buffer of so many bytes
-abbrev pub merging : Memory → (x y : Slice) → (room : ℕ) → Outcome
-merging m x y room = mergeOutcome (bytesIn m (x .region)) (bytesIn m (y .region)) room
+-- what the contract of merge says of two slices
+abbrev pub merging : Memory → (x y : Slice) → Outcome
+merging m x y = mergeOutcome (bytesIn m (x .region)) (bytesIn m (y .region))
 
 -- what is after an event: a call leaves the buffer as the contract of merge says, and all else as it was
 abbrev pub step : State → Event → State
 step s (call x y b) =
-    let o : Outcome = merging (s .memory) x y (b .size) in
+    let o : Outcome = inRoom (b .size) (merging (s .memory) x y) in
     record { memory = written (s .memory) (b .at) (bufferAfter o (bytesIn (s .memory) b)); hand = handAfter o x y (b .at) (s .hand) }
 step s (write at l) = record { memory = written (s .memory) at l; hand = untouched (record { at = at; size = length l }) (s .hand) }
 
@@ -86,9 +86,10 @@ pub record Kept (s : State) : Type 0 where
   pub good : (x : Slice) → List·Memᴰ x (s .hand) → isGood (bytesIn (s .memory) (x .region)) ≡ allGood (x .origins)
   -- and is then the merged table of its origins, byte for byte
   pub same : (x : Slice) → List·Memᴰ x (s .hand) → allGood (x .origins) ≡ true → bytesIn (s .memory) (x .region) ≡ mergedTable (x .origins)
-  -- merging two good ones goes by the merged table of all their origins (19, 14, the length reported), merging others is refused with 15
-  pub answers : (x y : Slice) → List·Memᴰ x (s .hand) → List·Memᴰ y (s .hand) → (room : ℕ)
-      → merging (s .memory) x y room ≡ cond (allGood (x .origins) && allGood (y .origins)) (tableInto (mergedOf (map records (x .origins ++ y .origins))) room) (refused 15 0)
+  -- merging two good ones goes by the merged table of all their origins: 19, and in the room that a call lends 14 and the length reported;
+  -- merging others is refused with 15
+  pub answers : (x y : Slice) → List·Memᴰ x (s .hand) → List·Memᴰ y (s .hand)
+      → merging (s .memory) x y ≡ cond (allGood (x .origins) && allGood (y .origins)) (resultingTable (mergedOf (map records (x .origins ++ y .origins)))) (refuses 15 0)
 
 -- before each event and after the last
 abbrev pub Throughout : State → List Event → Type 0

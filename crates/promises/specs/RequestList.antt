@@ -4,12 +4,13 @@ use mathlib.Core.List.{List, [], _∷_, _++_, map, List·Memᴰ}
 use mathlib.Core.Path.{_≡_}
 use mathlib.Core.Bool.{Bool, true, false}
 use lib.ListN.{length, getD}
+use Rattle.xdr.specs.Filling.{gives}
 use Rattle.record.specs.Block.{Block, totalSize}
 use Rattle.record.specs.File.{File}
 use Rattle.table.specs.Table.{records}
 use Rattle.merge.specs.Merged.{mergedOf}
 use Rattle.want.specs.Listing.{listed, listsThere}
-use Rattle.want.specs.Wanted.{InOrder, listBytes, listInto, requestOutcome}
+use Rattle.want.specs.Wanted.{InOrder, listBytes, requestOutcome}
 use Rattle.want.specs.declared.list.Wanted.{Wanted}
 
 -- a block to ask for
@@ -48,8 +49,8 @@ pub record Exact (local : List File) (peers : List (List File)) (l : List Wanted
   pub all : (m : Missing local peers) → (w : Wanted) × List·Memᴰ w l × Asks m w
   pub ordered : InOrder l
 
--- request_list of good tables: the exact list, whose bytes fill the buffer, or 14 where they don't fit
+-- request_list of good tables gives the bytes of the exact list
 pub record Requested (local : List ℕ) (peers : List (List ℕ)) : Type 0 where
   pub list : List Wanted
   pub exact : Exact (records local) (map records peers) list
-  pub filled : (room : ℕ) → requestOutcome local peers room ≡ listInto (listBytes list) room
+  pub filled : requestOutcome local peers ≡ gives (listBytes list)

@@ -2,5 +2,5 @@
 pub mod NewestLaws
 pub mod TableLaws
 pub mod WalkLaws
-pub mod FillingLaws
 pub mod PassLaws
+pub mod RoomLaws

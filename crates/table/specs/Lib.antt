@@ -1,5 +1,4 @@
 pub mod Newest
 pub mod Limits
 pub mod Table
-pub mod Filling
 pub mod Standing

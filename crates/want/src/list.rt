@@ -5,9 +5,9 @@ ghost use mathlib.Core.List.{[], _∷_, map};
 ghost use Prim.Native.Nat.{_+_, _≤_};
 ghost use lib.ListN.{length};
 ghost use Rattle.xdr.specs.Buffer.{over, filled};
+ghost use Rattle.xdr.specs.Filling.{Fills};
 ghost use Rattle.record.specs.Outline.{blocksSize, blockPlace};
 ghost use Rattle.table.specs.Table.{isGood, allGood, records};
-ghost use Rattle.table.specs.Filling.{fillingAnswer, bufferAfter};
 ghost use Rattle.want.specs.Listing.{isHeld};
 ghost use Rattle.want.specs.Blocks.{blockHere, blocksFrom};
 ghost use Rattle.want.specs.Wanted.{wantedBytes, listBytes, requestOutcome};
@@ -20,7 +20,7 @@ use crate::places::lowest;
 use crate::places::peer_of;
 use crate::search::is_held;
 use record::Outline;
-use table::Filling;
+use xdr::Filling;
 
 // A block to ask for: its file's number and its own, its offset and Length, and the peer.
 pub struct Wanted {
@@ -206,16 +206,17 @@ pub fn request_list<'a>(
     peer4: &'a [u8],
     out: &mut [u8],
 ) -> Filling
-    ensures { λ r. ⌜ r ≡ fillingAnswer (requestOutcome (now (local .entry)) (now (peer1 .entry) ∷ now (peer2 .entry) ∷ now (peer3 .entry) ∷ now (peer4 .entry) ∷ []) (length (now (out .entry)))) ⌝ }
-    ensures { λ _. ⌜ now (out .exit) ≡ bufferAfter (requestOutcome (now (local .entry)) (now (peer1 .entry) ∷ now (peer2 .entry) ∷ now (peer3 .entry) ∷ now (peer4 .entry) ∷ []) (length (now (out .entry)))) (now (out .entry)) ⌝ }
+    ensures { λ r. ⌜ Fills
+        (requestOutcome (now (local .entry)) (now (peer1 .entry) ∷ now (peer2 .entry) ∷ now (peer3 .entry) ∷ now (peer4 .entry) ∷ []))
+        (now (out .entry)) r (now (out .exit)) ⌝ }
 {
     if !all_good(local, peer1, peer2, peer3, peer4) {
-        return table::refused(15);
+        return xdr::refused(15);
     }
     let tables = [local, peer1, peer2, peer3, peer4];
     let size = count(tables) * 24;
     if out.len() < size {
-        return table::refused(14);
+        return xdr::refused(14);
     }
     fill(tables, out);
     Filling::Filled(size)

@@ -8,12 +8,9 @@ use borrow.Author.Tests.{not-true, not-false}
 use denote.Ref.{now}
 use lib.ListN.{length}
 use Rattle.order.specs.Order.{isEqual, compareLists}
-use Rattle.table.specs.Table.{isGood, records}
-use Rattle.table.specs.Filling.{tableInto}
-use Rattle.table.proofs.FillingLaws.{is-refused, same-outcome}
-use Rattle.accept.specs.Resulting.{resulting}
-use Rattle.accept.specs.Accepting.{unrepeated}
-use Rattle.accept.specs.Sorted.{IsArray}
+use Rattle.xdr.proofs.FillingLaws.{fills-refused, fills-same}
+use Rattle.table.specs.Table.{isGood}
+use Rattle.accept.specs.Sorted.{IsArray, ofArray}
 use Rattle.accept.proofs.MessageLaws.{Listing, found-list, repository-fits, repository-part, files-fit, files-array, another-repository, this-repository, old-bad, message-refused}
 use borrow.Author.Needs.{needs}
 use Rattle.accept.proofs.accepting.accept.Statement.{statement}
@@ -41,7 +38,7 @@ refused-requires : tie.Need-refused-requires
 refused-requires c κs = search needs
 
 returns : tie.Need-returns
-returns c = let a = c .before .before .before .before .before .before .before .args in is-refused (now (a .out)) (old-bad (now (a .old)) (now (a .message)) (now (a .repository)) (length (now (a .out))) (sym (c .before .before .is-good .ensures) ∙ not-true _ (c .before .if1 .taken))) (c .refused .ensures)
+returns c = let a = c .before .before .before .before .before .before .before .args in fills-refused (now (a .out)) (old-bad (now (a .old)) (now (a .message)) (now (a .repository)) (sym (c .before .before .is-good .ensures) ∙ not-true _ (c .before .if1 .taken))) (c .refused .ensures)
 
 find-requires : tie.Need-find-requires
 find-requires c κs = search needs
@@ -56,7 +53,7 @@ refusal-requires : tie.Need-refusal-requires
 refusal-requires c κs = search needs
 
 returns-2 : tie.Need-returns-2
-returns-2 c = let a = c .before .before .before .before .before .before .before .before .before .before .args in is-refused (now (a .out)) (message-refused (now (a .old)) (now (a .message)) (now (a .repository)) (length (now (a .out))) (good (c .before .before .before .before)) (c .before .before .before .find .ensures) (c .before .enum-told .given .1) (c .refusal .ensures)) refl
+returns-2 c = let a = c .before .before .before .before .before .before .before .before .before .before .args in fills-refused (now (a .out)) (message-refused (now (a .old)) (now (a .message)) (now (a .repository)) (good (c .before .before .before .before)) (c .before .before .before .find .ensures) (c .before .enum-told .given .1) (c .refusal .ensures)) refl
 
 add-stop : tie.Need-add-stop
 add-stop c = omega (arith, c .before .before .before .before .before .before .before .before .before .before .before .good, repository-fits (λ i. c .before .before .before .before .before .before .before .before .before .shared-slice-known2 .given i .fits) (list c))
@@ -76,8 +73,8 @@ refused-requires-2 c κs = search needs
 returns-3 : tie.Need-returns-3
 returns-3 c =
     let a = c .before .before .before .before .before .before .before .before .before .before .before .before .before .before .before .before .args in
-    is-refused (now (a .out))
-    (another-repository (λ i. c .before .before .before .before .before .before .before .before .before .before .before .before .before .before .shared-slice-known2 .given i .fits) (list (c .before .before .before .before .before)) (now (a .old)) (now (a .repository)) (length (now (a .out))) (good (c .before .before .before .before .before .before .before .before .before .before)) (sym (repository (c .before .before)) ∙ not-true _ (c .before .if2 .taken))) (c .refused2 .ensures)
+    fills-refused (now (a .out))
+    (another-repository (λ i. c .before .before .before .before .before .before .before .before .before .before .before .before .before .before .shared-slice-known2 .given i .fits) (list (c .before .before .before .before .before)) (now (a .old)) (now (a .repository)) (good (c .before .before .before .before .before .before .before .before .before .before)) (sym (repository (c .before .before)) ∙ not-true _ (c .before .if2 .taken))) (c .refused2 .ensures)
 
 part-requires-2 : tie.Need-part-requires-2
 part-requires-2 c κs = search needs
@@ -98,9 +95,9 @@ returns-4 : tie.Need-returns-4
 returns-4 c =
     let a = c .before .before .before .before .before .before .before .before .before .before .before .before .before .before .before .before .before .before .before .before .args in
     let x = c .before .before .before .before .before .before .before .before .before .before .before .found .given .0 .1 .0 in
-    same-outcome (now (a .out))
-    (this-repository (λ i. c .before .before .before .before .before .before .before .before .before .before .before .before .before .before .before .before .before .before .shared-slice-known2 .given i .fits) (list (c .before .before .before .before .before .before .before .before .before)) (now (a .old)) (now (a .repository)) (length (now (a .out))) (good (c .before .before .before .before .before .before .before .before .before .before .before .before .before .before)) (sym (repository (c .before .before .before .before .before .before)) ∙ not-false _ (c .before .before .before .before .before .if2 .left))
-    ∙ ap (λ (p : List ℕ). unrepeated [] (x .files .start + 4) (records p) (tableInto (resulting (c .before .before .before .before .before .before .before .before .before .before .before .found .given .0 .0) (records p) (records (now (a .old)))) (length (now (a .out))))) (sym (c .before .before .before .before .part2 .ensures)))
+    fills-same (now (a .out))
+    (this-repository (λ i. c .before .before .before .before .before .before .before .before .before .before .before .before .before .before .before .before .before .before .shared-slice-known2 .given i .fits) (list (c .before .before .before .before .before .before .before .before .before)) (now (a .old)) (now (a .repository)) (good (c .before .before .before .before .before .before .before .before .before .before .before .before .before .before)) (sym (repository (c .before .before .before .before .before .before)) ∙ not-false _ (c .before .before .before .before .before .if2 .left))
+    ∙ ap (λ (p : List ℕ). ofArray (c .before .before .before .before .before .before .before .before .before .before .before .found .given .0 .0) (x .files .start) p (now (a .old))) (sym (c .before .before .before .before .part2 .ensures)))
     (c .before .before .accept-list .ensures)
 
 pub accept-spec : {M : Type 1} → statement M

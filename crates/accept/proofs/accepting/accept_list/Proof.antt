@@ -4,11 +4,9 @@ use mathlib.Core.Path.{_≡_, refl, subst}
 use native.Mathlib.Omega.{arith}
 use denote.Ref.{now}
 use lib.ListN.{length, take}
-use Rattle.table.specs.Table.{records}
-use Rattle.table.specs.Filling.{tableInto}
-use Rattle.table.proofs.FillingLaws.{is-refused, same-outcome}
-use Rattle.accept.specs.Resulting.{resulting}
-use Rattle.accept.specs.Sorted.{InOrder, SortedTo}
+use Rattle.xdr.proofs.FillingLaws.{fills-refused, fills-same}
+use Rattle.table.specs.Table.{resultingTable}
+use Rattle.accept.specs.Sorted.{resultOf, InOrder, SortedTo}
 use Rattle.accept.specs.declared.accepting.Sorting.the-variants.{Sorted, Repeated}
 use borrow.Author.Needs.{needs}
 use Rattle.accept.proofs.accepting.accept_list.Statement.{statement}
@@ -54,7 +52,7 @@ fill-requires c κs =
 returns : tie.Need-returns
 returns c =
     let a = c .before .before .before .before .before .before .before .before .before .args in
-    is-refused (now (a .out)) (repeated c .1 (a .start) (tableInto (resulting (a .update) (records (now (a .s))) (records (now (a .old)))) (length (now (a .out))))) refl
+    fills-refused (now (a .out)) (repeated c .1 (a .start) (resultingTable (resultOf (a .update) (now (a .s)) (now (a .old))))) refl
 
 same-length : tie.Need-same-length
 same-length c = search needs
@@ -62,7 +60,7 @@ same-length c = search needs
 returns-2 : tie.Need-returns-2
 returns-2 c =
     let a = c .before .before .before .before .before .before .before .before .before .before .before .before .before .before .before .args in
-    same-outcome (now (a .out)) (ordered (c .before .before .before .before .before .before) .1 .unrefused (a .start) (tableInto (resulting (a .update) (records (now (a .s))) (records (now (a .old)))) (length (now (a .out))))) (c .before .before .fill .ensures)
+    fills-same (now (a .out)) (ordered (c .before .before .before .before .before .before) .1 .unrefused (a .start) (resultingTable (resultOf (a .update) (now (a .s)) (now (a .old))))) (c .before .before .fill .ensures)
 
 pub accept-list-spec : {M : Type 1} → statement M
 accept-list-spec =

@@ -30,7 +30,7 @@ returns : tie.Need-returns
 returns c =
     let s = c .before .before .before .before .before .before .before .before .before .before .before .before .before .args in
     let n = c .before .before .before .before .before .before .before .note-records in
-    table-put (now (s .s)) (now (s .old)) (n .last .1 .1 .1 .1 .0) (n .result .noted) (n .result .count) (n .result .bytes) (now (s .out)) (n .ensures .1) (c .before .before .put-table .ensures)
+    table-put (now (s .s)) (now (s .old)) (n .last .1 .1 .1 .1 .0) (n .result) (now (s .out)) (n .ensures) (c .before .before .put-table .ensures)
 
 pub fill-spec : {M : Type 1} → statement M
 fill-spec =

@@ -63,7 +63,7 @@ returns : tie.Need-returns Inv-loop μ-loop
 returns c =
     let l = c .before .before .before .loop .inv in
     let none = none-left (l .0) (c .before .before .next-at .ensures) (c .enum-told .given .1) in
-    (omega (arith, l .2 .inside, l .2 .long), noting-all (l .2) none (counted-all (l .1) none))
+    noting-all (l .2) none (counted-all (l .1) none)
 
 sub-bytes : tie.Need-sub-bytes Inv-loop μ-loop
 sub-bytes c = omega (arith, taken c .sized)

@@ -14,7 +14,7 @@ same-length : tie.Need-same-length
 same-length c = search needs
 
 returns : tie.Need-returns
-returns c = gave (c .before .before .before .before .request-list .ensures .0, c .before .before .before .before .request-list .ensures .1) (c .give-filling .ensures)
+returns c = gave (c .before .before .before .before .request-list .ensures) (c .give-filling .ensures)
 
 pub bep-request-list-spec : {M : Type 1} → statement M
 bep-request-list-spec =

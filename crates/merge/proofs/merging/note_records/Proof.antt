@@ -49,7 +49,7 @@ returns : tie.Need-returns Inv-loop μ-loop
 returns c =
     let l = c .before .before .before .loop .inv in
     let none = none-left (l .0) (c .before .before .next-at .ensures) (c .enum-told .given .1) in
-    (omega (arith, l .3 .inside, l .3 .long), noting-all (l .3) none (counted-all (l .1) none))
+    noting-all (l .3) none (counted-all (l .1) none)
 
 sub-bytes : tie.Need-sub-bytes Inv-loop μ-loop
 sub-bytes c = let t = taken c in omega (arith, t .sized)

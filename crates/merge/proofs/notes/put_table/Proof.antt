@@ -4,7 +4,7 @@ use mathlib.Core.Bool.{true}
 use borrow.Author.Tests.{not-true, not-false}
 use denote.Ref.{now}
 use Rattle.table.specs.Table.{isWithin}
-use Rattle.merge.proofs.PutLaws.{table-large, table-tight, table-room}
+use Rattle.merge.proofs.PutLaws.{put-large, put-short, put-filled}
 use borrow.Author.Needs.{needs}
 use Rattle.merge.proofs.notes.put_table.Statement.{statement}
 use Rattle.merge.proofs.notes.put_table.Tie as tie
@@ -20,17 +20,17 @@ refused-requires : tie.Need-refused-requires
 refused-requires c κs = search needs
 
 returns : tie.Need-returns
-returns c =
+returns c fs m =
     let s = c .before .before .before .before .before .before .before .args in
-    table-large (now (s .a)) (now (s .b)) (now (s .notes)) (s .size .count) (s .size .bytes) (now (s .out)) (sym (c .before .before .within-limits .ensures) ∙ not-true _ (c .before .if1 .taken)) (c .refused .ensures)
+    put-large (now (s .a)) (now (s .b)) (now (s .notes)) (s .size) (now (s .out)) fs m (sym (c .before .before .within-limits .ensures) ∙ not-true _ (c .before .if1 .taken)) (c .refused .ensures)
 
 refused-requires-2 : tie.Need-refused-requires-2
 refused-requires-2 c κs = search needs
 
 returns-2 : tie.Need-returns-2
-returns-2 c =
+returns-2 c fs m =
     let s = c .before .before .before .before .before .before .before .before .before .args in
-    table-tight (now (s .a)) (now (s .b)) (now (s .notes)) (s .size .count) (s .size .bytes) (now (s .out)) (within (c .before .before .before)) (c .before .if2 .taken) (c .refused2 .ensures)
+    put-short (now (s .a)) (now (s .b)) (now (s .notes)) (s .size) (now (s .out)) fs m (within (c .before .before .before)) (c .before .if2 .taken) (c .refused2 .ensures)
 
 put-word-requires : tie.Need-put-word-requires
 put-word-requires c κs = search needs
@@ -42,9 +42,9 @@ same-length : tie.Need-same-length
 same-length c = search needs
 
 returns-3 : tie.Need-returns-3
-returns-3 c =
+returns-3 c fs m =
     let s = c .before .before .before .before .before .before .before .before .before .before .before .before .before .before .before .before .args in
-    table-room (now (s .a)) (now (s .b)) (now (s .notes)) (s .size .count) (s .size .bytes) (now (s .out)) (within (c .before .before .before .before .before .before .before .before .before .before)) (c .before .before .before .before .before .before .before .before .if2 .left) (c .before .before .before .before .before .before .put-word .ensures .1) (c .before .before .put-notes .ensures)
+    put-filled (now (s .a)) (now (s .b)) (now (s .notes)) (s .size) (now (s .out)) fs m (within (c .before .before .before .before .before .before .before .before .before .before)) (c .before .before .before .before .before .before .before .before .if2 .left) (c .before .before .before .before .before .before .put-word .ensures .1) (c .before .before .put-notes .ensures)
 
 pub put-table-spec : {M : Type 1} → statement M
 put-table-spec =

@@ -1,7 +1,7 @@
 -- `want::list::all_good` meets its contract.
 use mathlib.Core.Path.{refl, sym, _∙_}
 use borrow.Author.Tests.{not-true, not-false}
-use Rattle.want.proofs.OutcomeLaws.{and-true}
+use Rattle.record.proofs.RisingLaws.{and-true}
 use borrow.Author.Needs.{needs}
 use Rattle.want.proofs.list.all_good.Statement.{statement}
 use Rattle.want.proofs.list.all_good.Tie as tie
