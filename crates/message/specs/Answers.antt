@@ -1,7 +1,7 @@
 -- What reading a message answers: its fields, with spans into the bytes, or the refusal.
 use Prim.Native.Nat.{ℕ, _+_, _-_}
 use mathlib.Core.List.{List}
-use lib.ListN.{length}
+use lib.ListN.{length, take, drop}
 use Rattle.xdr.specs.Reading.{Reading, taken, refused}
 use Rattle.xdr.specs.Format.{readAt}
 use Rattle.xdr.specs.Pad.{padded}
@@ -22,6 +22,10 @@ use Rattle.message.specs.declared.answer.Message.the-variants as M
 -- so many bytes from a place on
 abbrev pub span : (start count : ℕ) → Span
 span start count = record { start = start; length = count }
+
+-- the bytes at a span
+abbrev pub spanBytes : List ℕ → Span → List ℕ
+spanBytes s x = take (x .length) (drop (x .start) s)
 
 -- where the field after a string at a place begins
 abbrev pub past : ℕ → List ℕ → ℕ

@@ -12,14 +12,11 @@ use Rattle.xdr.specs.Fields.{word}
 use Rattle.xdr.proofs.NumberLaws.{bytes-drop}
 use Rattle.xdr.proofs.Steps.{Reads, opened, passed, ends-word, shifted-zero}
 use Rattle.xdr.proofs.Strings.{string-ends}
-use Rattle.xdr.proofs.Parts.{pair-parts}
+use Rattle.xdr.proofs.Parts.{via-parts, pair-parts}
 use Rattle.xdr.proofs.Corollaries.{read-exactly}
 use Rattle.message.specs.Header.{typeOf, idOf}
 use Rattle.message.specs.Message.{Kind, isIndex, isRequest, isResponse, isPing, isPong, isIndexUpdate, isOptions, kindOf, Body, body, Sent, index, request, response, message}
 use Rattle.message.specs.Answers.{indexSpan, requestSpan, responseSpan, optionsSpan, bodyAnswer, messageAnswer, said}
-use Rattle.message.specs.declared.answer.RequestSpan.{RequestSpan}
-use Rattle.serve.specs.Ruling.{spanBytes}
-use Rattle.serve.proofs.SpanLaws.{fields}
 use Rattle.promises.specs.Spans.{IndexFields, RequestFields, ResponseFields, OptionsFields, Answers}
 
 -- a string or an opaque stands after its length word
@@ -57,15 +54,19 @@ module _ {s : List ℕ} {next : ℕ} where
 
   pub request-fields : {p : Body isRequest} → Reads request s 4 (taken p next) → RequestFields s (requestSpan p next) p next
   request-fields {p} h =
-      let x : RequestSpan = requestSpan p next in
-      let e = sym (fields h .reads .is) ∙ h .is in
-      let same : (spanBytes s (x .repository), (spanBytes s (x .name), (x .offset, (x .length, spanBytes s (x .hash))))) ≡ p = cc in
+      let repository = pair-parts (via-parts h) in
+      let name = pair-parts (repository .2) in
+      let offset = pair-parts (name .2) in
+      let size = pair-parts (offset .2) in
+      let r = string-ends (passed (repository .1)) in
+      let n = string-ends (passed (passed (name .1))) in
+      let hash-at : requestSpan p next .hash .start ≡ size .0 + 4 = omega (arith, r, n, ends-word (offset .1) .0, ends-word (passed (size .1)) .0) in
       record {
-        repository-is = ap (λ (b : Body isRequest). b .0) same;
-        name-is = ap (λ (b : Body isRequest). b .1 .0) same;
+        repository-is = string-there (passed (repository .1));
+        name-is = ap (λ (k : ℕ). take (length (p .name)) (drop (k + 4) s)) (sym r) ∙ string-there (passed (passed (name .1)));
         offset-is = refl;
-        length-is = refl;
-        hash-is = ap (λ (b : Body isRequest). b .1 .1 .1 .1) same;
+        size-is = refl;
+        hash-is = ap (λ (k : ℕ). take (length (p .hash)) (drop k s)) hash-at ∙ string-there (size .2);
         end-is = refl;
       }
 

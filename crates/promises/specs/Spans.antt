@@ -14,7 +14,7 @@ use Rattle.message.specs.declared.answer.ResponseSpan.{ResponseSpan}
 use Rattle.message.specs.declared.answer.OptionsSpan.{OptionsSpan}
 use Rattle.message.specs.declared.answer.Message.{Message}
 use Rattle.message.specs.declared.answer.Message.the-variants as M
-use Rattle.serve.specs.Ruling.{spanBytes}
+use Rattle.message.specs.Answers.{spanBytes}
 
 -- an Index or an IndexUpdate: its Repository, and its files, which are an encoded array from the count word to the end
 pub record IndexFields (s : List ℕ) (x : IndexSpan) (b : Body isIndex) (end : ℕ) : Type 0 where
@@ -25,11 +25,11 @@ pub record IndexFields (s : List ℕ) (x : IndexSpan) (b : Body isIndex) (end : 
 
 -- a Request: its strings and its hash at their spans, and its numbers
 pub record RequestFields (s : List ℕ) (x : RequestSpan) (b : Body isRequest) (end : ℕ) : Type 0 where
-  pub repository-is : spanBytes s (x .repository) ≡ b .0
-  pub name-is : spanBytes s (x .name) ≡ b .1 .0
-  pub offset-is : x .offset ≡ b .1 .1 .0
-  pub length-is : x .length ≡ b .1 .1 .1 .0
-  pub hash-is : spanBytes s (x .hash) ≡ b .1 .1 .1 .1
+  pub repository-is : spanBytes s (x .repository) ≡ b .repository
+  pub name-is : spanBytes s (x .name) ≡ b .name
+  pub offset-is : x .offset ≡ b .offset
+  pub size-is : x .size ≡ b .size
+  pub hash-is : spanBytes s (x .hash) ≡ b .hash
   pub end-is : x .end ≡ end
 
 -- a Response: its data

@@ -12,9 +12,13 @@ use Rattle.record.specs.Outline.{outlineOf, fieldsOf}
 use Rattle.record.specs.declared.outline.Fields.{Fields}
 use Rattle.record.specs.declared.outline.Outline.{Outline}
 use Rattle.record.specs.declared.outline.Outline.the-variants as O
-use Rattle.message.specs.Answers.{said}
+use Rattle.message.specs.Answers.{spanBytes, said}
 use Rattle.message.specs.declared.answer.RequestSpan.{RequestSpan}
 use Rattle.message.specs.declared.answer.Message.{Message}
+use Rattle.message.specs.Kinds.{requestIn}
+use Rattle.message.specs.declared.kind.RequestIn.{RequestIn}
+use Rattle.message.specs.declared.kind.RequestIn.the-variants as Q
+use Rattle.xdr.specs.Filling.{refuses}
 use Rattle.order.specs.Order.{isEqual, compareLists, part}
 use Rattle.order.specs.declared.compare.Order.{Order}
 use Rattle.table.specs.Table.{isGood, records}
@@ -27,9 +31,7 @@ use Rattle.want.specs.Blocks.{blocksFrom, listedCount}
 use Rattle.want.specs.Places.{listsAt}
 use Rattle.want.proofs.ListingLaws.{Heads, heads, none-here, listed-blocks}
 use Rattle.want.proofs.ThereLaws.{lists-by}
-use Rattle.serve.specs.Ruling.{spanBytes, isOurs, Ruling, serves, replies, refuses, askingOf, rulingBy, rulingOf, servingAnswer, servingBuffer}
-use Rattle.serve.specs.declared.ruling.Asking.{Asking}
-use Rattle.serve.specs.declared.ruling.Asking.the-variants as A
+use Rattle.serve.specs.Ruling.{isOurs, Ruling, serves, replies, emptyReply, rulingOn, rulingOf, servingAnswer, servingBuffer, Rules}
 use Rattle.serve.specs.declared.ruling.Serving.{Serving}
 
 -- the record of a name is not among those passed
@@ -104,31 +106,31 @@ module _ (t repository m : List ℕ) (x : RequestSpan) {l : List ℕ} {o : Order
   pub not-ours : r ≡ false → false ≡ isOurs t repository m x
   not-ours h = rw (named h) refl
 
-  pub ours-by : {n h : List ℕ} {b : Bool} → r ≡ true → n ≡ spanBytes m (x .name) → h ≡ spanBytes m (x .hash) → b ≡ listsThere (records t) n (x .offset) (blockWith (x .length) h) → b ≡ isOurs t repository m x
+  pub ours-by : {n h : List ℕ} {b : Bool} → r ≡ true → n ≡ spanBytes m (x .name) → h ≡ spanBytes m (x .hash) → b ≡ listsThere (records t) n (x .offset) (blockWith (x .size) h) → b ≡ isOurs t repository m x
   ours-by {n} {h} {b} v f g e =
       rw (named v)
       (e
-      ∙ ap (λ (y : List ℕ). listsThere (records t) y (x .offset) (blockWith (x .length) h)) f
-      ∙ ap (λ (y : List ℕ). listsThere (records t) (spanBytes m (x .name)) (x .offset) (blockWith (x .length) y)) g)
+      ∙ ap (λ (y : List ℕ). listsThere (records t) y (x .offset) (blockWith (x .size) h)) f
+      ∙ ap (λ (y : List ℕ). listsThere (records t) (spanBytes m (x .name)) (x .offset) (blockWith (x .size) y)) g)
 
 -- the answer and the buffer, by the ruling
 
 module _ (t repository m out : List ℕ) where
-  pub ruled : {u : Ruling} {r : Serving} {o : List ℕ} → rulingOf t repository m ≡ u → (r ≡ servingAnswer u (length out)) × (o ≡ servingBuffer u out)
-      → (r ≡ servingAnswer (rulingOf t repository m) (length out)) × (o ≡ servingBuffer (rulingOf t repository m) out)
-  ruled e p = (p .0 ∙ ap (λ (u : Ruling). servingAnswer u (length out)) (sym e), p .1 ∙ ap (λ (u : Ruling). servingBuffer u out) (sym e))
+  pub ruled : {u : Ruling} {r : Serving} {o : List ℕ} → rulingOf t repository m ≡ u → r ≡ servingAnswer u (length out) → o ≡ servingBuffer u out
+      → Rules (rulingOf t repository m) out r o
+  ruled e p q = record { answered = p ∙ ap (λ (u : Ruling). servingAnswer u (length out)) (sym e); buffer = q ∙ ap (λ (u : Ruling). servingBuffer u out) (sym e) }
 
-  pub table-bad : isGood t ≡ false → rulingOf t repository m ≡ refuses 15 0
+  pub table-bad : isGood t ≡ false → rulingOf t repository m ≡ replies (refuses 15 0)
   unfolding rulingOf
   table-bad e = rw e refl
 
-  pub table-good : {a : Message} {b c : Asking} → isGood t ≡ true → a ≡ said m → b ≡ askingOf a → b ≡ c → rulingOf t repository m ≡ rulingBy t repository m c
+  pub table-good : {a : Message} {b c : RequestIn} → isGood t ≡ true → a ≡ said m → b ≡ requestIn a → b ≡ c → rulingOf t repository m ≡ rulingOn t repository m c
   unfolding rulingOf
-  table-good e f g h = rw e (ap (rulingBy t repository m) (ap askingOf (sym f) ∙ sym g ∙ h))
+  table-good e f g h = rw e (ap (rulingOn t repository m) (ap requestIn (sym f) ∙ sym g ∙ h))
 
   module _ (id : ℕ) (x : RequestSpan) {r : Bool} (e : r ≡ isOurs t repository m x) where
-    pub ours-served : r ≡ true → rulingBy t repository m (A.Asked id x) ≡ serves (x .name) (x .offset) (x .length)
+    pub ours-served : r ≡ true → rulingOn t repository m (Q.Taken id x) ≡ serves (x .name) (x .offset) (x .size)
     ours-served f = rw (sym e ∙ f) refl
 
-    pub ours-not : r ≡ false → rulingBy t repository m (A.Asked id x) ≡ replies id
+    pub ours-not : r ≡ false → rulingOn t repository m (Q.Taken id x) ≡ replies (emptyReply id)
     ours-not f = rw (sym e ∙ f) refl

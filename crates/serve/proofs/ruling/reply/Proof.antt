@@ -27,13 +27,13 @@ same-length : tie.Need-same-length
 same-length c = search needs
 
 returns : tie.Need-returns
-returns c = (ap replyAnswer (sym (c .before .n .given .1) ∙ c .before .before .before .before .before .write-response .ensures .0), c .before .before .before .before .before .write-response .ensures .1)
+returns c = let w = c .before .before .before .before .before .write-response .ensures in record { answered = ap replyAnswer (sym (c .before .n .given .1) ∙ w .answered); buffer = w .buffer }
 
 same-length-2 : tie.Need-same-length-2
 same-length-2 c = search needs
 
 returns-2 : tie.Need-returns-2
-returns-2 c = (ap replyAnswer (sym (c .before .r .given .1) ∙ c .before .before .before .before .before .write-response .ensures .0), c .before .before .before .before .before .write-response .ensures .1)
+returns-2 c = let w = c .before .before .before .before .before .write-response .ensures in record { answered = ap replyAnswer (sym (c .before .r .given .1) ∙ w .answered); buffer = w .buffer }
 
 pub reply-spec : {M : Type 1} → statement M
 reply-spec =
