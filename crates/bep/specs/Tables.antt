@@ -1,11 +1,8 @@
--- What the calls on tables give: the number that a call returns, the one word of its answer, and the lent buffer.
+-- What the calls on tables give that fill no buffer.
 use Prim.Native.Nat.{ℕ}
 use mathlib.Core.List.{List, [], _∷_}
 use mathlib.Core.Path.{_≡_}
 use mathlib.Core.Bool.{Bool, cond}
-use Rattle.xdr.specs.Filling.{Outcome, Fills}
-use Rattle.xdr.specs.declared.filling.Filling.{Filling}
-use Rattle.xdr.specs.declared.filling.Filling.the-variants as F
 use Rattle.record.specs.Outline.{outlineOf}
 use Rattle.record.specs.declared.outline.Outline.{Outline}
 use Rattle.record.specs.declared.outline.Outline.the-variants as O
@@ -16,23 +13,6 @@ use Rattle.order.specs.declared.compare.Order.the-variants.{Less, Equal, Greate
 -- a good table, or 15
 abbrev pub goodNumber : Bool → ℕ
 goodNumber good = cond good 0 15
-
--- the number that a call returns which fills a buffer
-abbrev pub fillingNumber : Filling → ℕ
-fillingNumber (F.Filled n) = 0
-fillingNumber (F.Refused r) = r .number
-
--- how many bytes were filled in, or the place
-abbrev pub fillingWords : Filling → List ℕ
-fillingWords (F.Filled n) = n ∷ []
-fillingWords (F.Refused r) = r .place ∷ []
-
--- a call that fills a buffer, as number, word and buffer
-pub record Gave (o : Outcome) (out : List ℕ) (number : ℕ) (words after : List ℕ) : Type 0 where
-  pub answer : Filling
-  pub fills : Fills o out answer after
-  pub numbered : number ≡ fillingNumber answer
-  pub worded : words ≡ fillingWords answer
 
 -- the first record is lower, equal, or higher
 abbrev pub orderWord : Order → ℕ

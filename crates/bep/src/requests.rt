@@ -3,9 +3,9 @@ ghost use mathlib.Core.List.{[], _∷_};
 ghost use Rattle.want.specs.Listing.{blockWith};
 ghost use Rattle.want.specs.Found.{foundIn};
 ghost use Rattle.want.specs.Wanted.{requestOutcome};
-ghost use Rattle.bep.specs.Tables.{Gave};
+ghost use Rattle.bep.specs.Filling.{Gives};
 ghost use Rattle.bep.specs.Search.{Finds};
-use crate::tables::give_filling;
+use crate::filling::give;
 use want::Found;
 
 // The request list of a local table and four peers' tables.
@@ -19,12 +19,12 @@ pub extern "C" fn bep_request_list<'a>(
     peer4: &'a [u8],
     answer: &mut [u64; 1],
 ) -> u32
-    ensures { λ r. ⌜ Gave
+    ensures { λ r. ⌜ Gives
         (requestOutcome (now (local .entry)) (now (peer1 .entry) ∷ now (peer2 .entry) ∷ now (peer3 .entry) ∷ now (peer4 .entry) ∷ []))
         (now (out .entry)) r (now (answer .exit)) (now (out .exit)) ⌝ }
 {
     let f = want::request_list(local, peer1, peer2, peer3, peer4, out);
-    give_filling(f, answer)
+    give(f, answer)
 }
 
 // Where a table first lists a block with this length and hash.

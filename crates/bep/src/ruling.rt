@@ -1,8 +1,7 @@
 // The ruling on an incoming Request.
 ghost use mathlib.Core.Path.{_≡_};
-ghost use lib.ListN.{length};
-ghost use Rattle.serve.specs.Ruling.{rulingOf, servingAnswer, servingBuffer};
-ghost use Rattle.bep.specs.Serving.{servingNumber, servingWords};
+ghost use Rattle.serve.specs.Ruling.{rulingOf};
+ghost use Rattle.bep.specs.Serving.{servingNumber, servingWords, GivesRuling};
 use serve::Serving;
 
 // Fills the answer of a ruling, and gives its number.
@@ -40,7 +39,9 @@ pub extern "C" fn bep_serve(
     message: &[u8],
     answer: &mut [u64; 5],
 ) -> u32
-    ensures { λ r. ⌜ (r ≡ servingNumber (servingAnswer (rulingOf (now (table .entry)) (now (repository .entry)) (now (message .entry))) (length (now (out .entry))))) × (now (answer .exit) ≡ servingWords (servingAnswer (rulingOf (now (table .entry)) (now (repository .entry)) (now (message .entry))) (length (now (out .entry))))) × (now (out .exit) ≡ servingBuffer (rulingOf (now (table .entry)) (now (repository .entry)) (now (message .entry))) (now (out .entry))) ⌝ }
+    ensures { λ r. ⌜ GivesRuling
+        (rulingOf (now (table .entry)) (now (repository .entry)) (now (message .entry)))
+        (now (out .entry)) r (now (answer .exit)) (now (out .exit)) ⌝ }
 {
     let s = serve::serve(table, repository, message, out);
     give_serving(s, answer)

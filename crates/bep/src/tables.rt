@@ -3,26 +3,11 @@ ghost use mathlib.Core.Path.{_≡_};
 ghost use Rattle.table.specs.Table.{isGood};
 ghost use Rattle.merge.specs.Answer.{mergeOutcome};
 ghost use Rattle.accept.specs.Accepting.{acceptOutcome};
-ghost use Rattle.bep.specs.Tables.{goodNumber, fillingNumber, fillingWords, Gave, orderWord, Compares};
+ghost use Rattle.bep.specs.Filling.{Gives};
+ghost use Rattle.bep.specs.Tables.{goodNumber, orderWord, Compares};
+use crate::filling::give;
 use order::Order;
 use record::Outline;
-use xdr::Filling;
-
-// Fills the answer of a call that fills a buffer, and gives its number.
-pub fn give_filling(f: Filling, answer: &mut [u64; 1]) -> u32
-    ensures { λ r. ⌜ (r ≡ fillingNumber f) × (now (answer .exit) ≡ fillingWords f) ⌝ }
-{
-    match f {
-        Filling::Filled(n) => {
-            *answer = [n as u64];
-            0
-        }
-        Filling::Refused(r) => {
-            *answer = [r.place as u64];
-            r.number
-        }
-    }
-}
 
 // Whether bytes are a good table: 0, or 15.
 #[no_mangle]
@@ -68,10 +53,10 @@ pub extern "C" fn bep_compare(a: &[u8], i: usize, b: &[u8], j: usize, answer: &m
 // Merges two tables.
 #[no_mangle]
 pub extern "C" fn bep_merge(out: &mut [u8], a: &[u8], b: &[u8], answer: &mut [u64; 1]) -> u32
-    ensures { λ r. ⌜ Gave (mergeOutcome (now (a .entry)) (now (b .entry))) (now (out .entry)) r (now (answer .exit)) (now (out .exit)) ⌝ }
+    ensures { λ r. ⌜ Gives (mergeOutcome (now (a .entry)) (now (b .entry))) (now (out .entry)) r (now (answer .exit)) (now (out .exit)) ⌝ }
 {
     let f = merge::merge(a, b, out);
-    give_filling(f, answer)
+    give(f, answer)
 }
 
 // The sender's new table, by an Index or an IndexUpdate.
@@ -83,10 +68,10 @@ pub extern "C" fn bep_accept(
     repository: &[u8],
     answer: &mut [u64; 1],
 ) -> u32
-    ensures { λ r. ⌜ Gave
+    ensures { λ r. ⌜ Gives
         (acceptOutcome (now (old .entry)) (now (message .entry)) (now (repository .entry)))
         (now (out .entry)) r (now (answer .exit)) (now (out .exit)) ⌝ }
 {
     let f = accept::accept(old, message, repository, out);
-    give_filling(f, answer)
+    give(f, answer)
 }

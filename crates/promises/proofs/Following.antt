@@ -14,9 +14,10 @@ use Rattle.message.specs.Header.{typeOf, idOf}
 use Rattle.message.specs.Message.{Kind, isIndex, isRequest, isResponse, isPing, isPong, isIndexUpdate, isOptions, kindOf, Body, body, Sent, message}
 use Rattle.message.specs.Answers.{requestSpan, bodyAnswer, messageAnswer}
 use Rattle.table.specs.Table.{isGood}
-use Rattle.xdr.specs.Filling.{refuses as refusesCall}
+use Rattle.xdr.specs.Filling.{refuses}
 use Rattle.accept.specs.Accepting.{ofReading, acceptOutcome}
-use Rattle.serve.specs.Ruling.{isOurs, Ruling, serves, replies, refuses, askingOf, rulingBy, rulingOf, servingAnswer, servingBuffer}
+use Rattle.serve.specs.Ruling.{isOurs, Ruling, serves, replies, emptyReply, rulingOn, rulingOf, servingAnswer, servingBuffer}
+use Rattle.message.specs.Kinds.{requestIn}
 use Rattle.queue.specs.Queue.{answerOf}
 use Rattle.promises.specs.Following.{IsEnough, Unchanged}
 use Rattle.promises.proofs.Spans.{from-start, request-fields, body-there}
@@ -41,30 +42,30 @@ module _ (s t : List ℕ) (same : read message (s ++ t) ≡ read message s) wher
 
   module _ (table repository : List ℕ) where
     by-kind : (k : Kind) (b : Body k) (id n : ℕ) → Reads (body k) (s ++ t) 4 (taken b n) → Reads (body k) s 4 (taken b n)
-        → rulingBy table repository (s ++ t) (askingOf (bodyAnswer k id (taken b n))) ≡ rulingBy table repository s (askingOf (bodyAnswer k id (taken b n)))
+        → rulingOn table repository (s ++ t) (requestIn (bodyAnswer k id (taken b n))) ≡ rulingOn table repository s (requestIn (bodyAnswer k id (taken b n)))
     by-kind isIndex b id n g h = refl
     by-kind isRequest b id n g h =
         let x = requestSpan b n in
         let ours : isOurs table repository (s ++ t) x ≡ isOurs table repository s x =
         ours-by-fields table repository (s ++ t) x b n (request-fields g) ∙ sym (ours-by-fields table repository s x b n (request-fields h)) in
-        ap (λ (v : Bool). cond v (serves (x .name) (x .offset) (x .length)) (replies id)) ours
+        ap (λ (v : Bool). cond v (serves (x .name) (x .offset) (x .size)) (replies (emptyReply id))) ours
     by-kind isResponse b id n g h = refl
     by-kind isPing b id n g h = refl
     by-kind isPong b id n g h = refl
     by-kind isIndexUpdate b id n g h = refl
     by-kind isOptions b id n g h = refl
 
-    by-reading : (r : Reading Sent) → read message s ≡ r → rulingBy table repository (s ++ t) (askingOf (messageAnswer r)) ≡ rulingBy table repository s (askingOf (messageAnswer r))
+    by-reading : (r : Reading Sent) → read message s ≡ r → rulingOn table repository (s ++ t) (requestIn (messageAnswer r)) ≡ rulingOn table repository s (requestIn (messageAnswer r))
     by-reading (taken m n) e = by-kind (kindOf (typeOf (m .0))) (m .1) (idOf (m .0)) n (body-there (same ∙ e)) (body-there e)
     by-reading (refused k p) e = refl
 
     ruling-same : rulingOf table repository (s ++ t) ≡ rulingOf table repository s
     unfolding rulingOf
     ruling-same =
-        ap (λ (u : Ruling). cond (isGood table) u (refuses 15 0))
-        (ap (λ (r : Reading Sent). rulingBy table repository (s ++ t) (askingOf (messageAnswer r))) (read-same ∙ from-start s)
+        ap (λ (u : Ruling). cond (isGood table) u (replies (refuses 15 0)))
+        (ap (λ (r : Reading Sent). rulingOn table repository (s ++ t) (requestIn (messageAnswer r))) (read-same ∙ from-start s)
         ∙ by-reading (read message s) refl
-        ∙ ap (λ (r : Reading Sent). rulingBy table repository s (askingOf (messageAnswer r))) (sym (from-start s)))
+        ∙ ap (λ (r : Reading Sent). rulingOn table repository s (requestIn (messageAnswer r))) (sym (from-start s)))
 
 -- whatever follows bytes that are enough
 pub following-unchanged : (s t : List ℕ) → IsEnough s → Unchanged s t
@@ -74,7 +75,7 @@ following-unchanged s t h =
     let e = read-same s t same in
     record {
       reading = ap messageAnswer e;
-      accepting = λ old repository. ap (λ (r : Reading Sent). cond (isGood old) (ofReading old repository r) (refusesCall 15 0)) e;
+      accepting = λ old repository. ap (λ (r : Reading Sent). cond (isGood old) (ofReading old repository r) (refuses 15 0)) e;
       answering = λ q. ap (λ (r : Reading Sent). answerOf q (messageAnswer r)) e;
       serving = λ table repository out.
           let u = ruling-same s t same table repository in

@@ -2,10 +2,15 @@
 use Prim.Native.Nat.{ℕ, _≤_, _<_}
 use mathlib.Core.List.{List}
 use mathlib.Core.Path.{_≡_, refl, sym, ap, _∙_}
-use borrow.Author.Tests.{le-leb, lt-leb}
-use lib.ListN.{length}
+use mathlib.Core.Bool.{Bool, true, false, cond}
+use native.Mathlib.Omega.{arith}
+use borrow.Author.Tests.{le-leb, lt-leb, leb-true}
+use lib.ListN.{length, take, drop}
+use lib.Seq.{take-at, drop-at}
+use lib.Dec.{leb}
 use Rattle.xdr.specs.Buffer.{filled}
 use Rattle.xdr.specs.Filling.{Outcome, gives, refuses, inRoom, fillingAnswer, bufferAfter, Fills}
+use Rattle.xdr.specs.declared.answer.Refusal.{Refusal}
 use Rattle.xdr.specs.declared.filling.Filling.{Filling}
 use Rattle.xdr.specs.declared.filling.Filling.the-variants as F
 
@@ -36,3 +41,25 @@ module _ (out : List ℕ) {x : Outcome} where
   -- what was done, in other words
   pub fills-same : {y : Outcome} {r : Filling} {o : List ℕ} → x ≡ y → Fills y out r o → Fills x out r o
   fills-same e p = fills-by (ap (inRoom (length out)) e) (p .answered) (p .buffer)
+
+-- what a call's answer tells of the buffer: an accepted filling changes only the first bytes, as many as it reports, and a refused one none
+
+pub only-first-bytes : (o : Outcome) {out after : List ℕ} {n : ℕ} → Fills o out (F.Filled n) after
+    → (n ≤ length out) × (o ≡ gives (take n after)) × (drop n after ≡ drop n out)
+only-first-bytes (gives l) {out} {after} {n} h = go (leb (length l) (length out)) refl (h .answered) (h .buffer)
+  where
+    go : (b : Bool) → leb (length l) (length out) ≡ b → F.Filled n ≡ fillingAnswer (cond b (gives l) (refuses 14 0)) → after ≡ bufferAfter (cond b (gives l) (refuses 14 0)) out
+        → (n ≤ length out) × (gives l ≡ gives (take n after)) × (drop n after ≡ drop n out)
+    go true q e f =
+        let long : n ≡ length l = cc in
+        let room = leb-true (length l) (length out) q in
+        (omega arith, ap gives (sym (take-at l (drop (length l) out) n (sym long)) ∙ ap (take n) (sym f)), ap (drop n) f ∙ drop-at l (drop (length l) out) n (sym long) ∙ ap (λ (k : ℕ). drop k out) (sym long))
+    go false q e f = let z : _≡_ {A = ℕ} 0 1 = cc in absurd (omega arith)
+only-first-bytes (refuses k p) h = let z : _≡_ {A = ℕ} 0 1 = cc (h .answered) in absurd (omega arith)
+
+pub refused-unchanged : {o : Outcome} {out after : List ℕ} {r : Refusal} → Fills o out (F.Refused r) after → after ≡ out
+refused-unchanged {o} {out} {after} {r} h = go (inRoom (length out) o) (h .answered) (h .buffer)
+  where
+    go : (x : Outcome) → F.Refused r ≡ fillingAnswer x → after ≡ bufferAfter x out → after ≡ out
+    go (gives l) e f = let z : _≡_ {A = ℕ} 0 1 = cc in absurd (omega arith)
+    go (refuses k p) e f = f

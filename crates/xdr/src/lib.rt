@@ -12,7 +12,6 @@ pub use answer::Hyper;
 pub use answer::Refusal;
 pub use answer::Word;
 pub use filling::Filling;
-pub use filling::fit;
 pub use filling::refused;
 pub use pad::pad_after;
 pub use put::put_bytes;

@@ -1,9 +1,9 @@
--- `bep::tables::give_filling` meets its contract: by the variant that the answer is.
+-- `bep::filling::give` meets its contract: by the variant that the answer is.
 use mathlib.Core.Path.{sym, ap}
-use Rattle.bep.specs.Tables.{fillingNumber, fillingWords}
+use Rattle.bep.specs.Filling.{fillingNumber, fillingWords}
 use borrow.Author.Needs.{needs}
-use Rattle.bep.proofs.tables.give_filling.Statement.{statement}
-use Rattle.bep.proofs.tables.give_filling.Tie as tie
+use Rattle.bep.proofs.filling.give.Statement.{statement}
+use Rattle.bep.proofs.filling.give.Tie as tie
 
 enum-known-f : tie.Need-enum-known-f
 enum-known-f c = search needs
@@ -17,5 +17,5 @@ returns c = let e = sym (c .before .before .f .given .1) in (ap fillingNumber e,
 returns-2 : tie.Need-returns-2
 returns-2 c = let e = sym (c .before .before .f2 .given .1) in (ap fillingNumber e, ap fillingWords e)
 
-pub give-filling-spec : {M : Type 1} → statement M
-give-filling-spec = tie.close (tie.spec enum-known-f enum-known-f-2 returns returns-2)
+pub give-spec : {M : Type 1} → statement M
+give-spec = tie.close (tie.spec enum-known-f enum-known-f-2 returns returns-2)

@@ -9,11 +9,11 @@ use Rattle.message.specs.Message.{Kind, isIndex, isRequest, isResponse, isPing,
 use Rattle.message_write.specs.Writing.{indexBytes, requestBytes, responseBytes}
 
 -- files and options are given as encoded arrays
-abbrev pub fieldBytes : (k : Kind) → Body k → List ℕ
-fieldBytes isIndex b = indexBytes (b .0) (encode (files filesLimit) (b .1))
-fieldBytes isRequest b = requestBytes (b .0) (b .1 .0) (b .1 .1 .0) (b .1 .1 .1 .0) (b .1 .1 .1 .1)
-fieldBytes isResponse b = responseBytes b
-fieldBytes isPing b = []
-fieldBytes isPong b = []
-fieldBytes isIndexUpdate b = indexBytes (b .0) (encode (files filesLimit) (b .1))
-fieldBytes isOptions b = encode (options optionsLimit) b
+abbrev pub bodyBytes : (k : Kind) → Body k → List ℕ
+bodyBytes isIndex b = indexBytes (b .0) (encode (files filesLimit) (b .1))
+bodyBytes isRequest b = requestBytes (b .repository) (b .name) (b .offset) (b .size) (b .hash)
+bodyBytes isResponse b = responseBytes b
+bodyBytes isPing b = []
+bodyBytes isPong b = []
+bodyBytes isIndexUpdate b = indexBytes (b .0) (encode (files filesLimit) (b .1))
+bodyBytes isOptions b = encode (options optionsLimit) b
