@@ -16,7 +16,7 @@ use xdr::Bytes;
 use xdr::Filling;
 use xdr::Refusal;
 
-const ID_LIMIT: u32 = 4095;
+pub const ID_LIMIT: u32 = 4095;
 
 const NAME_LIMIT: u32 = 255;
 
