@@ -75,32 +75,49 @@ pub record Passed {A : Type 0} (F : Format A) (id : ℕ) (b : List ℕ) (size n 
   pub room : n ≤ size
   pub low : id ≤ 4095
 
+-- a check answers what writing gives, but for the Message ID
+check-answers : {A : Type 0} (F : Format A) (id k : ℕ) (b : List ℕ) → bodyCheck F b ≡ fillingAnswer (asRead (messageBytes id k b) (shifted 4 (read F b)))
+unfolding bodyCheck
+check-answers {A} F id k b = go (read F b) (within F b)
+  where
+    m : List ℕ
+    m = messageBytes id k b
+
+    go : (x : Reading A) → Within (length b) x → checkAnswer (shifted 4 x) ≡ fillingAnswer (asRead m (shifted 4 x))
+    go (taken v u) h =
+        ap Out.Filled (sym (length-take-le (4 + u) m (omega (arith, length-append (encode word (headerOf id k)) b, number-size 4 (headerOf id k)))))
+    go (refused n p) h = refl
+
+-- an ID that is too high
+pub id-refused : {A : Type 0} (F : Format A) (id k : ℕ) (b : List ℕ) → 4095 < id → writing F id k b ≡ refuses 5 0
+unfolding writing
+id-refused F id k b h = simp (lt-leb id 4095 h)
+
+-- one that isn't
+pub id-passed : (id k : ℕ) (b : List ℕ) → id ≤ 4095 → 1 ≤ k → k ≤ 7 → bodyCheck (body (kindOf k)) b ≡ fillingAnswer (writing message id k b)
+unfolding writingBody
+id-passed id k b h p q = rw (by-body id k b p q) (simp (le-leb id 4095 h) (check-answers (body (kindOf k)) id k b))
+
+size-in : (room : ℕ) (o : Outcome) → sizeIn room (fillingAnswer o) ≡ fillingAnswer (inRoom room o)
+size-in room (gives l) = go (leb (length l) room)
+  where
+    go : (t : Bool) → cond t (Out.Filled (length l)) (fillingAnswer (refuses 14 0)) ≡ fillingAnswer (cond t (gives l) (refuses 14 0))
+    go true = refl
+    go false = refl
+size-in room (refuses k p) = refl
+
 module _ {A : Type 0} (F : Format A) (id k : ℕ) (b : List ℕ) (room : ℕ) {w c : Filling} (a : w ≡ admittedAnswer id room c) (e : c ≡ bodyCheck F b) where
   -- the answer is that of writing
   admitted-answers : w ≡ fillingAnswer (inRoom room (writingBody F id k b))
-  unfolding writingBody bodyCheck
-  admitted-answers = a ∙ ap (admittedAnswer id room) e ∙ go (read F b) (within F b)
+  unfolding writingBody
+  admitted-answers = a ∙ ap (admittedAnswer id room) (e ∙ check-answers F id k b) ∙ go (leb id 4095)
     where
-      m : List ℕ
-      m = messageBytes id k b
+      o : Outcome
+      o = asRead (messageBytes id k b) (shifted 4 (read F b))
 
-      fits : (t : Bool) (u : ℕ) → length (take (4 + u) m) ≡ 4 + u
-          → cond t (sizeIn room (Out.Filled (4 + u))) (fillingAnswer (refuses 5 0)) ≡ fillingAnswer (inRoom room (cond t (gives (take (4 + u) m)) (refuses 5 0)))
-      fits true u long = rw long (side (leb (4 + u) room))
-        where
-          side : (t : Bool) → cond t (Out.Filled (4 + u)) (fillingAnswer (refuses 14 0)) ≡ fillingAnswer (cond t (gives (take (4 + u) m)) (refuses 14 0))
-          side true = ap Out.Filled (sym long)
-          side false = refl
-      fits false u long = refl
-
-      other : (t : Bool) (k p : ℕ) → cond t (Out.Refused (record { number = k; place = 4 + p })) (fillingAnswer (refuses 5 0)) ≡ fillingAnswer (inRoom room (cond t (refuses k (4 + p)) (refuses 5 0)))
-      other true k p = refl
-      other false k p = refl
-
-      go : (x : Reading A) → Within (length b) x
-          → admittedAnswer id room (checkAnswer (shifted 4 x)) ≡ fillingAnswer (inRoom room (cond (leb id 4095) (asRead m (shifted 4 x)) (refuses 5 0)))
-      go (taken v u) h = fits (leb id 4095) u (length-take-le (4 + u) m (omega (arith, length-append (encode word (headerOf id k)) b, number-size 4 (headerOf id k))))
-      go (refused n p) h = other (leb id 4095) n p
+      go : (t : Bool) → cond t (sizeIn room (fillingAnswer o)) (fillingAnswer (refuses 5 0)) ≡ fillingAnswer (inRoom room (cond t o (refuses 5 0)))
+      go true = size-in room o
+      go false = refl
 
   -- what it refuses
   pub not-admitted : (out : List ℕ) {f : Refusal} → length out ≡ room → w ≡ Out.Refused f → Fills (writingBody F id k b) out w out

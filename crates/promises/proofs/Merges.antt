@@ -125,7 +125,7 @@ call-known : (m : Memory) (hand : List Slice) (x y : Slice) (b : Region) (o : Ou
     → AllKnown (written m (b .at) (bufferAfter o (bytesIn m b))) (handAfter o x y (b .at) hand)
 call-known m hand x y b (refuses k p) e i j h = subst (λ (n : Memory). AllKnown n hand) (sym (written-back m (b .at) (b .size))) h
 call-known m hand x y b (gives l) e i j h =
-        subst (λ (n : Memory). AllKnown n (handAfter (gives l) x y (b .at) hand)) (sym (written-filled m (b .at) l (b .size) (given-room (b .size) (merging m x y) l e .1))) all
+    subst (λ (n : Memory). AllKnown n (handAfter (gives l) x y (b .at) hand)) (sym (written-filled m (b .at) l (b .size) (given-room (b .size) (merging m x y) l e .1))) all
   where
     all : AllKnown (written m (b .at) l) (handAfter (gives l) x y (b .at) hand)
     all z k = ⊎-elim (λ f. subst (λ (w : Slice). Known (written m (b .at) l) w) (sym f) (result-known m x y b l (h x i) (h y j) (given-room (b .size) (merging m x y) l e .0))) (λ q. written-known m hand (b .at) l h z q) (List·Memᴰ·cases-cons k)

@@ -11,8 +11,8 @@ ghost use Rattle.record.specs.Block.{isSize, size, hash, block, blockCou
 ghost use Rattle.record.specs.Steps.{IsHead, SoundBlocks};
 use crate::array::Array;
 use crate::array::read_count;
-use crate::limits::BLOCKS_LIMIT;
 use crate::limits::BLOCK_BYTES;
+use crate::limits::BLOCKS_LIMIT;
 use crate::limits::SIZE_LIMIT;
 use xdr::Bytes;
 use xdr::Hyper;

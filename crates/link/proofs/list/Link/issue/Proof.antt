@@ -1,0 +1,54 @@
+-- `link::list::Link::issue` meets its contract: the window or the limit is full, or the Request is written.
+use mathlib.Core.List.{List}
+use mathlib.Core.Path.{sym, _∙_}
+use Prim.Native.Nat.{ℕ}
+use denote.Ref.{now}
+use Rattle.message_write.specs.Writing.{requestBytes}
+use Rattle.link.proofs.IssueLaws.{issue-barred, issue-written, unfull}
+use borrow.Author.Needs.{needs}
+use Rattle.link.proofs.list.Link.issue.Statement.{statement}
+use Rattle.link.proofs.list.Link.issue.Tie as tie
+
+abbrev body : tie.Start → List ℕ
+body c = let a = c .args in requestBytes (now (a .repository)) (now (a .name)) (a .offset) (a .size) (now (a .hash))
+
+fault-within-requires : tie.Need-fault-within-requires
+fault-within-requires c κs = search needs
+
+request-size-requires : tie.Need-request-size-requires
+request-size-requires c κs = search needs
+
+barred-requires : tie.Need-barred-requires
+barred-requires c κs = search needs
+
+returns : tie.Need-returns
+returns c =
+    let a = c .before .before .before .before .before .before .before .before .args in
+    issue-barred (a .held) (a .limit) (a .self) (body (c .before .before .before .before .before .before .before .before)) (a .size) (now (a .out)) _ (c .before .before .before .fault-within .ensures) (c .before .before .if1 .taken) (c .before .request-size .ensures (a .offset)) (c .barred .ensures)
+
+write-request-requires : tie.Need-write-request-requires
+write-request-requires c κs = search needs
+
+issued-requires : tie.Need-issued-requires
+issued-requires c κs = let a = c .before .before .before .before .before .before .before .before .before .before .args in unfull (a .held) (a .limit) (a .self) (a .size) (sym (c .before .before .before .before .if1 .left) ∙ c .before .before .before .before .before .fault-within .ensures) .1
+
+same-length : tie.Need-same-length
+same-length c = search needs
+
+returns-2 : tie.Need-returns-2
+returns-2 c =
+    let a = c .before .before .before .before .before .before .before .before .before .before .before .args in
+    issue-written (a .held) (a .limit) (a .self) (body (c .before .before .before .before .before .before .before .before .before .before .before)) (a .size) (now (a .out)) (sym (c .before .before .before .before .before .if1 .left) ∙ c .before .before .before .before .before .before .fault-within .ensures) (c .before .before .before .write-request .ensures) (c .issued .ensures)
+
+pub issue-spec : {M : Type 1} → statement M
+issue-spec =
+    tie.close
+    (tie.spec
+    fault-within-requires
+    request-size-requires
+    barred-requires
+    returns
+    write-request-requires
+    issued-requires
+    same-length
+    returns-2)
