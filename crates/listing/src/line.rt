@@ -12,14 +12,20 @@ fn labelled(label: &[u8], n: u64) {
     io::print_decimal(STDOUT_FILENO, n);
 }
 
-// A byte of a name: a control byte in hexadecimal.
+// Whether a byte of a name is printed as it is: control bytes are not, nor the backslash that they are written with.
+fn is_plain(b: u8) -> bool {
+    match b {
+        0..=31 | 92 | 127 => false,
+        _ => true,
+    }
+}
+
+// A byte of a name: one that isn't plain in hexadecimal.
 fn name_byte(b: u8) {
-    if 32 <= b {
-        if b != 127 {
-            let one = [b];
-            text(&one);
-            return;
-        }
+    if is_plain(b) {
+        let one = [b];
+        text(&one);
+        return;
     }
     text(b"\\x");
     io::print_hex(STDOUT_FILENO, b as u64, 2);
