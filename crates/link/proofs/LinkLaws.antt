@@ -38,11 +38,11 @@ shape-count q s =
     let n : q .count ≤ q .window = leb-true _ _ (both (leb (q .count) (q .window)) _ (both (windowFits (q .window)) _ s .1) .0) in
     omega arith
 
-bytes-of : (b : Bool) (m n : ℕ) → Bytes n ≡ cond b (Bytes m) Unsound → (b ≡ true) × (n ≡ m)
+pub bytes-of : (b : Bool) (m n : ℕ) → Bytes n ≡ cond b (Bytes m) Unsound → (b ≡ true) × (n ≡ m)
 bytes-of true m n e = (refl, cc)
 bytes-of false m n e = let z : _≡_ {A = ℕ} 0 1 = cc in absurd (omega arith)
 
-unsound-of : (b : Bool) (m : ℕ) → Unsound ≡ cond b (Bytes m) Unsound → b ≡ false
+pub unsound-of : (b : Bool) (m : ℕ) → Unsound ≡ cond b (Bytes m) Unsound → b ≡ false
 unsound-of true m e = let z : _≡_ {A = ℕ} 0 1 = cc in absurd (omega arith)
 unsound-of false m e = refl
 
