@@ -12,7 +12,7 @@ use Rattle.order.specs.declared.compare.Order.{Order}
 use Rattle.order.specs.declared.compare.Order.the-variants.{Less, Equal, Greater}
 use Rattle.order.proofs.OrderLaws.{Below, below-trans, greater-above, equal-same}
 use Rattle.record.proofs.RisingLaws.{Above, Rising}
-use Rattle.table.specs.Standing.{bytesOf}
+use Rattle.table.specs.Steps.Standing.{bytesOf}
 use Rattle.accept.specs.Resulting.{isNamed, placed, insert, byName}
 
 module _ (f g : File) (l : List File) where

@@ -10,7 +10,7 @@ use Rattle.record.specs.File.{File}
 use Rattle.table.specs.Limits.{recordsLimit, bytesLimit}
 use Rattle.table.specs.Table.{isGood, records, tableOf}
 use Rattle.table.proofs.TableLaws.{table-length, good-table}
-use Rattle.table.specs.Standing.{bytesOf, At}
+use Rattle.table.specs.Steps.Standing.{bytesOf, At}
 use Rattle.table.proofs.WalkLaws.{at-start, at-last}
 use Rattle.table.proofs.PassLaws.{Counted, counted-none}
 use Rattle.merge.specs.declared.next.Step.{Step}

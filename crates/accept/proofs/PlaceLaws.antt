@@ -18,7 +18,7 @@ use Rattle.order.specs.declared.compare.Order.{Order}
 use Rattle.order.specs.declared.compare.Order.the-variants.{Less, Equal, Greater}
 use Rattle.order.proofs.OrderLaws.{Below, equal-same, same-equal, greater-above, above-greater, below-trans}
 use Rattle.record.proofs.RisingLaws.{Above, Rising}
-use Rattle.table.specs.Standing.{At}
+use Rattle.table.specs.Steps.Standing.{At}
 use Rattle.table.proofs.WalkLaws.{standing}
 use Rattle.accept.specs.Resulting.{isNamed, insert}
 use Rattle.accept.specs.Slots.{nameOf, slotBy, slotOf}

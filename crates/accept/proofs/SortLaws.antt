@@ -21,7 +21,7 @@ use Rattle.order.specs.declared.compare.Order.{Order}
 use Rattle.order.specs.declared.compare.Order.the-variants.{Less, Equal, Greater}
 use Rattle.order.proofs.OrderLaws.{turned, compare-turned}
 use Rattle.record.proofs.RisingLaws.{Rising}
-use Rattle.table.specs.Standing.{At}
+use Rattle.table.specs.Steps.Standing.{At}
 use Rattle.table.proofs.WalkLaws.{array-start, standing, Headed, at-whole, at-short}
 use Rattle.accept.specs.Resulting.{isNamed, insert, byName}
 use Rattle.accept.specs.Accepting.{unrepeated}

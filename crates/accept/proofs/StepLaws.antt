@@ -13,9 +13,9 @@ use Rattle.record.specs.Outline.{fieldsOf}
 use Rattle.order.specs.Order.{compareLists, part}
 use Rattle.order.specs.declared.compare.Order.{Order}
 use Rattle.order.specs.declared.compare.Order.the-variants.{Less, Equal, Greater}
-use Rattle.table.specs.Standing.{At}
+use Rattle.table.specs.Steps.Standing.{At}
 use Rattle.table.proofs.WalkLaws.{at-end, standing}
-use Rattle.merge.specs.Next.{fromRight, stepBytes}
+use Rattle.merge.specs.Steps.Next.{fromRight, stepBytes}
 use Rattle.merge.specs.declared.next.Step.{Step}
 use Rattle.merge.specs.declared.next.Next.{Next}
 use Rattle.merge.specs.declared.next.Next.the-variants.{End, More}

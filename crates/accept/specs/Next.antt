@@ -10,7 +10,7 @@ use Rattle.record.specs.declared.outline.Outline.the-variants as O
 use Rattle.order.specs.Order.{compareLists, part}
 use Rattle.order.specs.declared.compare.Order.{Order}
 use Rattle.order.specs.declared.compare.Order.the-variants.{Less, Equal, Greater}
-use Rattle.merge.specs.Next.{fromRight}
+use Rattle.merge.specs.Steps.Next.{fromRight}
 use Rattle.merge.specs.declared.next.Next.{Next}
 use Rattle.merge.specs.declared.next.Next.the-variants.{End, More}
 

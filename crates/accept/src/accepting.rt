@@ -5,7 +5,7 @@ ghost use Prim.Native.Nat.{_+_, _<_};
 ghost use lib.ListN.{length};
 ghost use Rattle.xdr.specs.Filling.{Fills};
 ghost use Rattle.table.specs.Table.{isGood, resultingTable};
-ghost use Rattle.merge.specs.Notes.{Noted};
+ghost use Rattle.merge.specs.Steps.Notes.{Noted};
 ghost use Rattle.accept.specs.Accepting.{acceptOutcome};
 ghost use Rattle.accept.specs.Sorted.{IsArray, resultOf, ofArray, insertedAt, InOrder, SortedTo};
 use crate::found::Found;
