@@ -26,7 +26,7 @@ use Rattle.table.proofs.RoomLaws.{not-given}
 use Rattle.table.proofs.TableLaws.{good-table, array-records}
 use Rattle.accept.specs.Resulting.{isNamed, resulting}
 use Rattle.accept.specs.Accepting.{unrepeated, ofRecords, firstRecord, ofIndex, ofKind, ofReading, acceptOutcome}
-use Rattle.accept.specs.Sorted.{Distinct}
+use Rattle.accept.specs.Steps.Sorted.{Distinct}
 use Rattle.accept.proofs.ResultLaws.{resulting-valid, accept-good}
 use Rattle.promises.specs.Accepting.{Sends, NoneNamed, Accepted}
 use Rattle.promises.proofs.HeldLaws.{is-equal}
