@@ -24,11 +24,11 @@ use Rattle.message.specs.declared.answer.IndexSpan.{IndexSpan}
 use Rattle.table.specs.Limits.{recordsLimit}
 use Rattle.order.specs.Order.{isEqual, compareLists, part}
 use Rattle.table.specs.Table.{table, isGood, records, tableOf}
-use Rattle.table.specs.Standing.{AllValid}
+use Rattle.table.specs.Steps.Standing.{AllValid}
 use Rattle.table.proofs.TableLaws.{valid-parts, array-records}
 use Rattle.accept.specs.Accepting.{ofRecords, ofIndex, ofKind, ofReading, acceptOutcome}
-use Rattle.accept.specs.Found.{foundIn, foundRefusal}
-use Rattle.accept.specs.Sorted.{IsArray, ofArray}
+use Rattle.accept.specs.Steps.Found.{foundIn, foundRefusal}
+use Rattle.accept.specs.Steps.Sorted.{IsArray, ofArray}
 use Rattle.accept.specs.declared.found.Found.{Found}
 use Rattle.accept.specs.declared.found.Found.the-variants as F
 

@@ -22,21 +22,23 @@ use Rattle.table.specs.Table.{isGood, isWithin, records, tableOf, resultingTabl
 use Rattle.order.specs.declared.compare.Order.{Order}
 use Rattle.order.specs.declared.compare.Order.the-variants.{Less, Equal, Greater}
 use Rattle.record.proofs.RisingLaws.{Rising, both-true}
-use Rattle.table.specs.Standing.{AllValid}
+use Rattle.table.specs.Steps.Standing.{AllValid}
 use Rattle.table.proofs.RoomLaws.{not-given}
 use Rattle.table.proofs.TableLaws.{GoodTable, good-table, table-good}
-use Rattle.accept.specs.Resulting.{isNamed, unmentioned, placed, insert, byName, resulting}
+use Rattle.table.specs.Insert.{placed, insert}
+use Rattle.table.proofs.InsertLaws.{insert-rising}
+use Rattle.accept.specs.Resulting.{isNamed, unmentioned, replacing, byName, resulting}
 use Rattle.accept.specs.Accepting.{unrepeated, ofRecords, firstRecord, ofIndex, ofKind, ofReading, acceptOutcome}
-use Rattle.accept.proofs.InsertLaws.{insert-rising}
+use Rattle.accept.proofs.InsertLaws.{replacing-one}
 use Rattle.accept.proofs.KeptLaws.{kept-above}
 
 -- the resulting records are valid, and their names rise
 
-insert-valid : (f : File) (l : List File) → Valid file f → AllValid l → AllValid (insert f l)
+insert-valid : (f : File) (l : List File) → Valid file f → AllValid l → AllValid (insert replacing f l)
 insert-valid f [] v w = (v, tt)
 insert-valid f (g ∷ l) v w = go (compareLists (f .name) (g .name)) (insert-valid f l v (w .1))
   where
-    go : (o : Order) → AllValid (insert f l) → AllValid (placed o f g l (insert f l))
+    go : (o : Order) → AllValid (insert replacing f l) → AllValid (placed replacing o f g l (insert replacing f l))
     go Less ih = (v, w)
     go Equal ih = (v, w .1)
     go Greater ih = (w .0, ih)
@@ -44,12 +46,12 @@ insert-valid f (g ∷ l) v w = go (compareLists (f .name) (g .name)) (insert-val
 by-name-valid : (fs l : List File) → AllValid fs → AllValid l → AllValid (byName fs l)
 unfolding byName
 by-name-valid [] l v w = w
-by-name-valid (f ∷ fs) l v w = by-name-valid fs (insert f l) (v .1) (insert-valid f l (v .0) w)
+by-name-valid (f ∷ fs) l v w = by-name-valid fs (insert replacing f l) (v .1) (insert-valid f l (v .0) w)
 
 by-name-rising : (fs l : List File) → Rising l → Rising (byName fs l)
 unfolding byName
 by-name-rising [] l r = r
-by-name-rising (f ∷ fs) l r = by-name-rising fs (insert f l) (insert-rising f l r)
+by-name-rising (f ∷ fs) l r = by-name-rising fs (insert replacing f l) (insert-rising replacing replacing-one f l r)
 
 kept-valid : (fs gs : List File) → AllValid gs → AllValid (unmentioned fs gs)
 kept-valid fs [] w = tt

@@ -21,22 +21,24 @@ use Rattle.order.specs.declared.compare.Order.{Order}
 use Rattle.order.specs.declared.compare.Order.the-variants.{Less, Equal, Greater}
 use Rattle.order.proofs.OrderLaws.{turned, compare-turned}
 use Rattle.record.proofs.RisingLaws.{Rising}
-use Rattle.table.specs.Standing.{At}
+use Rattle.table.specs.Steps.Standing.{At}
 use Rattle.table.proofs.WalkLaws.{array-start, standing, Headed, at-whole, at-short}
-use Rattle.accept.specs.Resulting.{isNamed, insert, byName}
+use Rattle.table.specs.Insert.{insert}
+use Rattle.table.proofs.InsertLaws.{insert-rising}
+use Rattle.accept.specs.Resulting.{isNamed, replacing, byName}
 use Rattle.accept.specs.Accepting.{unrepeated}
-use Rattle.accept.specs.Slots.{nameOf, slotOf}
-use Rattle.accept.specs.Sorted.{IsArray, Places, Distinct, InOrder}
+use Rattle.accept.specs.Steps.Slots.{nameOf, slotOf}
+use Rattle.accept.specs.Steps.Sorted.{IsArray, Places, Distinct, InOrder}
 use Rattle.accept.specs.declared.slot.Slot.{Slot}
 use Rattle.accept.specs.declared.slot.Slot.the-variants.{Free, Repeated}
-use Rattle.accept.proofs.InsertLaws.{insert-rising, named-swap, insert-named, by-name-more, by-name-none}
+use Rattle.accept.proofs.InsertLaws.{replacing-one, named-swap, insert-named, by-name-more, by-name-none}
 use Rattle.accept.proofs.PlaceLaws.{slot-taken, free-inside, free-new, free-placed}
 
 -- one record more at the end
 
-by-name-last : (fs : List File) (f : File) (l : List File) → byName (fs ++ f ∷ []) l ≡ insert f (byName fs l)
-by-name-last [] f l = by-name-more f [] l ∙ by-name-none (insert f l) ∙ ap (insert f) (sym (by-name-none l))
-by-name-last (g ∷ fs) f l = by-name-more g (fs ++ f ∷ []) l ∙ by-name-last fs f (insert g l) ∙ ap (insert f) (sym (by-name-more g fs l))
+by-name-last : (fs : List File) (f : File) (l : List File) → byName (fs ++ f ∷ []) l ≡ insert replacing f (byName fs l)
+by-name-last [] f l = by-name-more f [] l ∙ by-name-none (insert replacing f l) ∙ ap (insert replacing f) (sym (by-name-none l))
+by-name-last (g ∷ fs) f l = by-name-more g (fs ++ f ∷ []) l ∙ by-name-last fs f (insert replacing g l) ∙ ap (insert replacing f) (sym (by-name-more g fs l))
 
 named-last : (n : List ℕ) (l : List File) (f : File) → isNamed n (l ++ f ∷ []) ≡ cond (isEqual (compareLists n (f .name))) true (isNamed n l)
 named-last n [] f = refl
@@ -144,7 +146,7 @@ module _ {s places : List ℕ} {at n : ℕ} (a : IsArray s) (l : Sorting s place
       new : isNamed (nr .head .name) (byName (l .done) []) ≡ false
       new = free-new s ps (byName (l .done) []) (nr .head) at (nr .tail, nr .stands) stands-so (l .rising) u v
 
-      sorted-last : byName (l .done ++ nr .head ∷ []) [] ≡ insert (nr .head) (byName (l .done) [])
+      sorted-last : byName (l .done ++ nr .head ∷ []) [] ≡ insert replacing (nr .head) (byName (l .done) [])
       sorted-last = by-name-last (l .done) (nr .head) []
 
       names-more : (x : List ℕ) {b : Bool} → isNamed x (byName (l .done) []) ≡ b
@@ -162,7 +164,7 @@ module _ {s places : List ℕ} {at n : ℕ} (a : IsArray s) (l : Sorting s place
             subst (λ (p : List ℕ). Places s p (byName (l .done ++ nr .head ∷ []) [])) (sym (k ∙ ap (λ (p : List ℕ). take j p ++ (at ∷ drop j p)) (sym h)))
             (subst (Places s (take j ps ++ (at ∷ drop j ps))) (sym sorted-last)
             (free-placed s ps (byName (l .done) []) (nr .head) at (nr .tail, nr .stands) stands-so (l .rising) u v));
-        rising = subst Rising (sym sorted-last) (insert-rising (nr .head) (byName (l .done) []) (l .rising));
+        rising = subst Rising (sym sorted-last) (insert-rising replacing replacing-one (nr .head) (byName (l .done) []) (l .rising));
         distinct = distinct-last (l .done) (nr .head) (l .distinct) (sym (l .names-done (nr .head .name)) ∙ new);
         before = nr .head ∷ l .before;
         names = λ x. names-more x (l .names x);

@@ -5,12 +5,14 @@ ghost use Prim.Native.Nat.{_+_, _<_};
 ghost use lib.ListN.{length};
 ghost use Rattle.xdr.specs.Filling.{Fills};
 ghost use Rattle.table.specs.Table.{isGood, resultingTable};
-ghost use Rattle.merge.specs.Notes.{Noted};
+ghost use Rattle.merge.specs.Steps.Notes.{Noted};
 ghost use Rattle.accept.specs.Accepting.{acceptOutcome};
-ghost use Rattle.accept.specs.Sorted.{IsArray, resultOf, ofArray, insertedAt, InOrder, SortedTo};
+ghost use Rattle.accept.specs.Steps.Sorted.{IsArray, resultOf, ofArray, insertedAt, InOrder, SortedTo};
 use crate::found::Found;
 use crate::found::find;
 use crate::next::next_at;
+use crate::next::place_of;
+use crate::next::taken_by;
 use crate::slot::Slot;
 use crate::slot::slot_of;
 use merge::next::Next;
@@ -81,7 +83,7 @@ fn note_records(s: &[u8], places: &[usize], old: &[u8], update: bool, notes: &mu
     let mut bytes = 4;
     let mut noted = 0;
     loop {
-        let Next::More(step) = next_at(s, places, i, old, j) else {
+        let Next::More(step) = next_at(s, place_of(s, places, i), old, j) else {
             return Size {
                 count,
                 bytes,
@@ -91,7 +93,7 @@ fn note_records(s: &[u8], places: &[usize], old: &[u8], update: bool, notes: &mu
         bytes += step.end - step.start;
         count += 1;
         noted += note(notes, noted, step);
-        i = step.i;
+        i += taken_by(step);
         j = step.j;
     }
 }

@@ -3,7 +3,7 @@ ghost use mathlib.Core.Path.{_≡_};
 ghost use Rattle.xdr.specs.Format.{readAt};
 ghost use Rattle.message.specs.Answers.{messageAnswer};
 ghost use Rattle.message.specs.Message.{message as messageFormat};
-ghost use Rattle.accept.specs.Found.{foundIn, foundRefusal, otherKind};
+ghost use Rattle.accept.specs.Steps.Found.{foundIn, foundRefusal, otherKind};
 use message::IndexSpan;
 use message::Message;
 use xdr::Refusal;

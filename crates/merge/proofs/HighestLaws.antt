@@ -10,10 +10,13 @@ use Rattle.order.specs.Order.{compareLists}
 use Rattle.table.specs.Newest.{compareFiles}
 use Rattle.order.specs.declared.compare.Order.{Order}
 use Rattle.order.specs.declared.compare.Order.the-variants.{Less, Equal, Greater}
-use Rattle.order.proofs.OrderLaws.{Below, equal-same, greater-above, below-trans, below-irrefl, below-asym}
+use Rattle.order.proofs.OrderLaws.{Below, equal-same, below-trans, below-irrefl, below-asym}
 use Rattle.table.proofs.NewestLaws.{at-least-itself, at-least-turned, at-least-trans, at-least-same}
 use Rattle.record.proofs.RisingLaws.{Above, Rising, rising-is, rising-test}
-use Rattle.merge.specs.Merged.{higherBy, placed, insert, insertAll, mergedOf}
+use Rattle.table.specs.Insert.{placed, insert}
+use Rattle.table.proofs.InsertLaws.{insert-rising, insert-from}
+use Rattle.merge.specs.Merged.{higherBy, higher, insertAll, mergedOf}
+use Rattle.merge.proofs.TwoLaws.{higher-one}
 use Rattle.merge.specs.Highest.{joined, AtLeast, Topped, Highest}
 
 abbrev pub _∈_ : File → List File → Type 0
@@ -29,48 +32,6 @@ above-all n (g ∷ gs) a s f m = go (List·Memᴰ·cases-cons m) (λ k. above-al
     go : (f ≡ g) ⊎ (f ∈ gs) → (f ∈ gs → Below (g .name) (f .name)) → Below n (f .name)
     go (inl e) ih = rw e a
     go (inr k) ih = below-trans n (g .name) (f .name) a (ih k)
-
--- one record put among others
-
-higher-name : (f g : File) → f .name ≡ g .name → (o : Order) → higherBy o f g .name ≡ g .name
-higher-name f g e Less = refl
-higher-name f g e Equal = e
-higher-name f g e Greater = e
-
-insert-above : (n : List ℕ) (f : File) (l : List File) → Below n (f .name) → Above n l → Above n (insert f l)
-insert-above n f [] h a = h
-insert-above n f (g ∷ gs) h a = go (compareLists (f .name) (g .name)) refl
-  where
-    go : (o : Order) → compareLists (f .name) (g .name) ≡ o → Above n (placed o f g gs (insert f gs))
-    go Less e = h
-    go Equal e = rw (higher-name f g (equal-same (f .name) (g .name) e) (compareFiles f g)) a
-    go Greater e = a
-
-insert-rising : (f : File) (l : List File) → Rising l → Rising (insert f l)
-insert-rising f [] s = (tt, tt)
-insert-rising f (g ∷ gs) s = go (compareLists (f .name) (g .name)) refl (insert-rising f gs (s .1))
-  where
-    go : (o : Order) → compareLists (f .name) (g .name) ≡ o → Rising (insert f gs) → Rising (placed o f g gs (insert f gs))
-    go Less e ih = (e, s)
-    go Equal e ih = (rw (higher-name f g (equal-same (f .name) (g .name) e) (compareFiles f g)) (s .0), s .1)
-    go Greater e ih = (insert-above (g .name) f gs (greater-above (f .name) (g .name) e) (s .0), ih)
-
-higher-from : (f g : File) (gs : List File) (y : File) (o : Order) → y ≡ higherBy o f g → y ∈ (f ∷ g ∷ gs)
-higher-from f g gs y Less e = List·Memᴰ·tail (List·Memᴰ·head e)
-higher-from f g gs y Equal e = List·Memᴰ·head e
-higher-from f g gs y Greater e = List·Memᴰ·head e
-
-insert-from : (f : File) (l : List File) (y : File) → y ∈ insert f l → y ∈ (f ∷ l)
-insert-from f [] y m = m
-insert-from f (g ∷ gs) y m = go (compareLists (f .name) (g .name)) m (insert-from f gs y)
-  where
-    past : y ∈ (f ∷ gs) → y ∈ (f ∷ g ∷ gs)
-    past k = ⊎-elim (λ e. List·Memᴰ·head e) (λ q. List·Memᴰ·tail (List·Memᴰ·tail q)) (List·Memᴰ·cases-cons k)
-
-    go : (o : Order) → y ∈ placed o f g gs (insert f gs) → (y ∈ insert f gs → y ∈ (f ∷ gs)) → y ∈ (f ∷ g ∷ gs)
-    go Less k ih = k
-    go Equal k ih = ⊎-elim (λ e. higher-from f g gs y (compareFiles f g) e) (λ q. List·Memᴰ·tail (List·Memᴰ·tail q)) (List·Memᴰ·cases-cons k)
-    go Greater k ih = ⊎-elim (λ e. List·Memᴰ·tail (List·Memᴰ·head e)) (λ q. past (ih q)) (List·Memᴰ·cases-cons k)
 
 -- what tops
 
@@ -91,36 +52,36 @@ higher-tops f g gs n Equal e =
 higher-tops f g gs n Greater e =
     (itself (f ∷ gs) f (List·Memᴰ·head refl), record { top = f; within = List·Memᴰ·head refl; named = n; high = λ h. let z : _≡_ {A = ℕ} 0 1 = cc (sym e ∙ h) in omega arith })
 
-insert-tops : (f : File) (l : List File) (y : File) → y ∈ (f ∷ l) → Topped (insert f l) y
+insert-tops : (f : File) (l : List File) (y : File) → y ∈ (f ∷ l) → Topped (insert higher f l) y
 insert-tops f [] y m = itself (f ∷ []) y m
 insert-tops f (g ∷ gs) y m = go (compareLists (f .name) (g .name)) refl (List·Memᴰ·cases-cons m) (insert-tops f gs y)
   where
     same : (l : List File) (x : File) → y ≡ x → Topped l x → Topped l y
     same l x e t = rw e t
 
-    go : (o : Order) → compareLists (f .name) (g .name) ≡ o → (y ≡ f) ⊎ (y ∈ (g ∷ gs)) → (y ∈ (f ∷ gs) → Topped (insert f gs) y) → Topped (placed o f g gs (insert f gs)) y
+    go : (o : Order) → compareLists (f .name) (g .name) ≡ o → (y ≡ f) ⊎ (y ∈ (g ∷ gs)) → (y ∈ (f ∷ gs) → Topped (insert higher f gs) y) → Topped (placed higher o f g gs (insert higher f gs)) y
     go Less n (inl e) ih = itself (f ∷ g ∷ gs) y (List·Memᴰ·head e)
     go Less n (inr k) ih = itself (f ∷ g ∷ gs) y (List·Memᴰ·tail k)
     go Equal n (inl e) ih = same (higherBy (compareFiles f g) f g ∷ gs) f e (higher-tops f g gs (equal-same (f .name) (g .name) n) (compareFiles f g) refl .0)
     go Equal n (inr k) ih =
         ⊎-elim (λ e. same (higherBy (compareFiles f g) f g ∷ gs) g e (higher-tops f g gs (equal-same (f .name) (g .name) n) (compareFiles f g) refl .1))
         (λ q. itself (higherBy (compareFiles f g) f g ∷ gs) y (List·Memᴰ·tail q)) (List·Memᴰ·cases-cons k)
-    go Greater n (inl e) ih = later g (insert f gs) y (ih (List·Memᴰ·head e))
+    go Greater n (inl e) ih = later g (insert higher f gs) y (ih (List·Memᴰ·head e))
     go Greater n (inr k) ih =
-        ⊎-elim (λ e. itself (g ∷ insert f gs) y (List·Memᴰ·head e)) (λ q. later g (insert f gs) y (ih (List·Memᴰ·tail q))) (List·Memᴰ·cases-cons k)
+        ⊎-elim (λ e. itself (g ∷ insert higher f gs) y (List·Memᴰ·head e)) (λ q. later g (insert higher f gs) y (ih (List·Memᴰ·tail q))) (List·Memᴰ·cases-cons k)
 
 -- the merged table is the highest record of each name
 
-one-more : (f : File) (fs l : List File) → Highest fs l → Highest (f ∷ fs) (insert f l)
+one-more : (f : File) (fs l : List File) → Highest fs l → Highest (f ∷ fs) (insert higher f l)
 one-more f fs l h =
     record {
-      rising = rising-test (insert f l) (insert-rising f l (rising-is l (h .rising)));
-      from = λ y m. ⊎-elim (λ e. List·Memᴰ·head e) (λ k. List·Memᴰ·tail (h .from y k)) (List·Memᴰ·cases-cons (insert-from f l y m));
+      rising = rising-test (insert higher f l) (insert-rising higher higher-one f l (rising-is l (h .rising)));
+      from = λ y m. ⊎-elim (λ e. List·Memᴰ·head e) (λ k. List·Memᴰ·tail (h .from y k)) (insert-from higher higher-one f l y m);
       tops = λ y m. ⊎-elim (λ e. insert-tops f l y (List·Memᴰ·head e)) (λ k. over y (h .tops y k)) (List·Memᴰ·cases-cons m);
     }
   where
-    over : (y : File) → Topped l y → Topped (insert f l) y
-    over y t = through (insert f l) y (t .top) (t .named) (t .high) (insert-tops f l (t .top) (List·Memᴰ·tail (t .within)))
+    over : (y : File) → Topped l y → Topped (insert higher f l) y
+    over y t = through (insert higher f l) y (t .top) (t .named) (t .high) (insert-tops f l (t .top) (List·Memᴰ·tail (t .within)))
 
 all-more : (t fs l : List File) → Highest fs l → Highest (t ++ fs) (insertAll t l)
 all-more [] fs l h = h

@@ -16,7 +16,7 @@ use Rattle.table.specs.Limits.{recordsLimit, bytesLimit}
 use Rattle.table.specs.Table.{isGood, isWithin, records, tableOf, resultingTable}
 use Rattle.xdr.specs.Filling.{gives, refuses}
 use Rattle.record.proofs.RisingLaws.{Rising, rising-is, both-true}
-use Rattle.table.specs.Standing.{AllValid}
+use Rattle.table.specs.Steps.Standing.{AllValid}
 use Rattle.table.proofs.TableLaws.{GoodTable, good-table}
 use Rattle.merge.specs.Merged.{mergedOf}
 use Rattle.merge.specs.Highest.{joined, Topped, Highest}

@@ -13,9 +13,9 @@ use Rattle.record.specs.File.{File, file}
 use Rattle.order.specs.Order.{part}
 use Rattle.table.specs.Limits.{recordsLimit}
 use Rattle.table.specs.Table.{tableOf}
-use Rattle.table.specs.Standing.{bytesOf}
-use Rattle.merge.specs.Next.{stepBytes}
-use Rattle.merge.specs.Notes.{noteOf, noted, notedAll, Noted}
+use Rattle.table.specs.Steps.Standing.{bytesOf}
+use Rattle.merge.specs.Steps.Next.{stepBytes}
+use Rattle.merge.specs.Steps.Notes.{noteOf, noted, notedAll, Noted}
 use Rattle.merge.specs.declared.next.Step.{Step}
 use Rattle.merge.proofs.NoteLaws.{noted-by, put-within, put-length, put-fits, count-fits, noted-append}
 

@@ -17,9 +17,9 @@ use Rattle.xdr.proofs.FillingLaws.{fills-refused, fills-short, fills-given}
 use Rattle.record.specs.File.{File}
 use Rattle.table.specs.Limits.{recordsLimit, bytesLimit}
 use Rattle.table.specs.Table.{isWithin, tableOf, resultingTable}
-use Rattle.table.specs.Standing.{bytesOf}
+use Rattle.table.specs.Steps.Standing.{bytesOf}
 use Rattle.table.proofs.TableLaws.{table-length, result-large, result-within, table-filled}
-use Rattle.merge.specs.Notes.{notedAll, putNotes, Measured, Noted, PutsTable}
+use Rattle.merge.specs.Steps.Notes.{notedAll, putNotes, Measured, Noted, PutsTable}
 use Rattle.merge.specs.declared.notes.Size.{Size}
 use Rattle.merge.proofs.NoteLaws.{put-length, notes-room}
 

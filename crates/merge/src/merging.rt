@@ -4,7 +4,7 @@ ghost use mathlib.Core.Bool.{true};
 ghost use lib.ListN.{length};
 ghost use Rattle.xdr.specs.Filling.{Fills};
 ghost use Rattle.table.specs.Table.{isGood};
-ghost use Rattle.merge.specs.Notes.{Noted};
+ghost use Rattle.merge.specs.Steps.Notes.{Noted};
 ghost use Rattle.merge.specs.Answer.{mergedRecords, mergeOutcome};
 use crate::next::Next;
 use crate::next::next_at;

@@ -2,7 +2,7 @@
 ghost use mathlib.Core.Path.{_≡_};
 ghost use mathlib.Core.List.{[], _∷_};
 ghost use Rattle.xdr.specs.Buffer.{put, putCount};
-ghost use Rattle.merge.specs.Notes.{noteOf, noted, putNotes, PutsTable};
+ghost use Rattle.merge.specs.Steps.Notes.{noteOf, noted, putNotes, PutsTable};
 use crate::next::Step;
 use xdr::Filling;
 

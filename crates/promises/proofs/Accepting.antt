@@ -21,12 +21,12 @@ use Rattle.order.specs.Order.{isEqual, compareLists}
 use Rattle.table.specs.Table.{isGood, isWithin, records, tableOf, resultingTable}
 use Rattle.order.proofs.OrderLaws.{equal-same}
 use Rattle.record.proofs.RisingLaws.{both-true}
-use Rattle.table.specs.Standing.{AllValid}
+use Rattle.table.specs.Steps.Standing.{AllValid}
 use Rattle.table.proofs.RoomLaws.{not-given}
 use Rattle.table.proofs.TableLaws.{good-table, array-records}
 use Rattle.accept.specs.Resulting.{isNamed, resulting}
 use Rattle.accept.specs.Accepting.{unrepeated, ofRecords, firstRecord, ofIndex, ofKind, ofReading, acceptOutcome}
-use Rattle.accept.specs.Sorted.{Distinct}
+use Rattle.accept.specs.Steps.Sorted.{Distinct}
 use Rattle.accept.proofs.ResultLaws.{resulting-valid, accept-good}
 use Rattle.promises.specs.Accepting.{Sends, NoneNamed, Accepted}
 use Rattle.promises.proofs.HeldLaws.{is-equal}

@@ -10,7 +10,7 @@ use Rattle.order.specs.declared.compare.Order.{Order}
 use Rattle.order.specs.declared.compare.Order.the-variants.{Less, Equal, Greater}
 use Rattle.order.proofs.OrderLaws.{same-equal, equal-same}
 use Rattle.accept.specs.Resulting.{isNamed, unmentioned, placed, insert, byName, resulting}
-use Rattle.accept.specs.Sorted.{Distinct}
+use Rattle.accept.specs.Steps.Sorted.{Distinct}
 use Rattle.promises.specs.Accepting.{NoneNamed, Belongs}
 use Rattle.promises.proofs.HeldLaws.{differ, is-equal}
 

@@ -23,7 +23,7 @@ use Rattle.order.specs.Order.{isEqual, compareLists, part}
 use Rattle.order.specs.declared.compare.Order.{Order}
 use Rattle.table.specs.Table.{isGood, records}
 use Rattle.table.proofs.TableLaws.{good-table}
-use Rattle.table.specs.Standing.{At}
+use Rattle.table.specs.Steps.Standing.{At}
 use Rattle.table.proofs.WalkLaws.{at-start, standing}
 use Rattle.order.proofs.PartLaws.{part-beyond, part-cut}
 use Rattle.want.specs.Listing.{listed, hasThere, listsThere, blockWith}

@@ -4,3 +4,6 @@ pub mod TableLaws
 pub mod WalkLaws
 pub mod PassLaws
 pub mod RoomLaws
+pub mod InsertLaws
+pub mod UnionLaws
+pub mod SideLaws

@@ -20,7 +20,7 @@ use Rattle.xdr.proofs.Corollaries.{read-whole}
 use Rattle.record.specs.File.{File, file}
 use Rattle.record.specs.Rising.{isRising, fillRising, isRisingArray}
 use Rattle.table.specs.Limits.{recordsLimit, bytesLimit}
-use Rattle.table.specs.Standing.{bytesOf, AllValid}
+use Rattle.table.specs.Steps.Standing.{bytesOf, AllValid}
 use Rattle.table.specs.Table.{table, isWithin, goodReading, isGood, recordsRead, records, tableOf, resultingTable}
 use Rattle.record.proofs.RisingLaws.{and-true, both-true, Rising, rising-is, rising-test}
 

@@ -17,7 +17,7 @@ use Rattle.record.proofs.OutlineLaws.{outline-cut}
 use Rattle.order.specs.Order.{part}
 use Rattle.table.specs.Newest.{key, keyAt, compareFiles, compareAt}
 use Rattle.table.specs.Table.{tableOf}
-use Rattle.table.specs.Standing.{bytesOf, AllValid, At}
+use Rattle.table.specs.Steps.Standing.{bytesOf, AllValid, At}
 use Rattle.table.proofs.TableLaws.{GoodTable, table-bytes, table-length, word-bytes}
 
 -- the records of an array begin after the count

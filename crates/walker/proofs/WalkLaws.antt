@@ -15,7 +15,7 @@ use Rattle.record.specs.declared.outline.Outline.{Outline}
 use Rattle.record.specs.declared.outline.Outline.the-variants as O
 use Rattle.table.specs.Table.{isGood, records}
 use Rattle.table.proofs.TableLaws.{good-table}
-use Rattle.table.specs.Standing.{At}
+use Rattle.table.specs.Steps.Standing.{At}
 use Rattle.table.proofs.WalkLaws.{at-start, standing, Headed, at-whole, at-short}
 use Rattle.walker.specs.Walk.{bad, stepAmong, stepAt}
 use Rattle.walker.specs.declared.Step.the-variants.{Record, End}

@@ -15,10 +15,10 @@ use Rattle.order.specs.declared.compare.Order.{Order}
 use Rattle.order.specs.declared.compare.Order.the-variants.{Less, Equal, Greater}
 use Rattle.order.proofs.OrderLaws.{Below, equal-same, greater-above, below-trans}
 use Rattle.table.proofs.NewestLaws.{at-least-itself, at-least-turned, at-least-trans}
-use Rattle.table.specs.Standing.{At}
+use Rattle.table.specs.Steps.Standing.{At}
 use Rattle.table.proofs.WalkLaws.{at-end, standing, compared-there}
 use Rattle.merge.specs.Highest.{AtLeast}
-use Rattle.merge.specs.Next.{chosen, nextOf}
+use Rattle.merge.specs.Steps.Next.{chosen, nextOf}
 use Rattle.merge.specs.declared.next.Next.{Next}
 use Rattle.merge.proofs.NextLaws.{next-by, by-records}
 use Rattle.want.specs.Places.{isFirst, tableAt, placeAt, lowerOf, lowestFrom}

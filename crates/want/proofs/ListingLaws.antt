@@ -18,7 +18,7 @@ use Rattle.record.specs.declared.outline.BlockOutline.the-variants as B
 use Rattle.record.proofs.OutlineLaws.{block-whole}
 use Rattle.record.proofs.BlockLaws.{nth-block}
 use Rattle.record.proofs.FileLaws.{encoding-parts}
-use Rattle.table.specs.Standing.{bytesOf, At}
+use Rattle.table.specs.Steps.Standing.{bytesOf, At}
 use Rattle.table.proofs.WalkLaws.{at-end, standing}
 use Rattle.want.specs.Listing.{isCurrent, listed}
 use Rattle.want.specs.Blocks.{blockHere, blocksFrom, listedCount}

@@ -6,7 +6,7 @@ use mathlib.Core.Bool.{Bool, true, false, cond}
 use native.Mathlib.Omega.{arith}
 use lib.ListN.{getD, List·getD-map}
 use Rattle.record.specs.Block.{Block}
-use Rattle.merge.specs.Next.{nextOf}
+use Rattle.merge.specs.Steps.Next.{nextOf}
 use Rattle.want.specs.Places.{isFirst, tableAt, placeAt, lowerOf, lowestFrom, pastName, listsAt, peerAt}
 
 -- an element of the lent tables

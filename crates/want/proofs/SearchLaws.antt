@@ -14,7 +14,7 @@ use Rattle.record.specs.declared.outline.Outline.{Outline}
 use Rattle.record.specs.declared.outline.Outline.the-variants as O
 use Rattle.table.specs.Table.{isGood, records}
 use Rattle.table.proofs.TableLaws.{good-table}
-use Rattle.table.specs.Standing.{At}
+use Rattle.table.specs.Steps.Standing.{At}
 use Rattle.table.proofs.WalkLaws.{at-start, standing}
 use Rattle.want.specs.Listing.{isSame, listed, hasBlock, isHeld}
 use Rattle.want.specs.Blocks.{blockHere, blocksFrom, listedCount}

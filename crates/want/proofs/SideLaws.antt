@@ -19,7 +19,7 @@ use Rattle.table.specs.Table.{records}
 use Rattle.order.proofs.OrderLaws.{Below, below-trans}
 use Rattle.record.proofs.RisingLaws.{Above, Rising}
 use Rattle.table.proofs.TableLaws.{good-table}
-use Rattle.table.specs.Standing.{At}
+use Rattle.table.specs.Steps.Standing.{At}
 use Rattle.table.proofs.WalkLaws.{at-start, at-end, standing}
 use Rattle.merge.specs.Merged.{mergedOf}
 use Rattle.merge.specs.Highest.{joined}

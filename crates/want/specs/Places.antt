@@ -13,7 +13,7 @@ use Rattle.record.specs.declared.outline.Outline.{Outline}
 use Rattle.record.specs.declared.outline.Outline.the-variants as O
 use Rattle.table.specs.Table.{isGood, records}
 use Rattle.order.specs.Order.{isEqual, compareLists, part}
-use Rattle.merge.specs.Next.{nextOf}
+use Rattle.merge.specs.Steps.Next.{nextOf}
 use Rattle.merge.specs.declared.next.Next.{Next}
 use Rattle.merge.specs.declared.next.Next.the-variants.{End, More}
 use Rattle.want.specs.Listing.{isHeld, hasThere}

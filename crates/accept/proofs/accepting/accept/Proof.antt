@@ -10,7 +10,7 @@ use lib.ListN.{length}
 use Rattle.order.specs.Order.{isEqual, compareLists}
 use Rattle.xdr.proofs.FillingLaws.{fills-refused, fills-same}
 use Rattle.table.specs.Table.{isGood}
-use Rattle.accept.specs.Sorted.{IsArray, ofArray}
+use Rattle.accept.specs.Steps.Sorted.{IsArray, ofArray}
 use Rattle.accept.proofs.MessageLaws.{Listing, found-list, repository-fits, repository-part, files-fit, files-array, another-repository, this-repository, old-bad, message-refused}
 use borrow.Author.Needs.{needs}
 use Rattle.accept.proofs.accepting.accept.Statement.{statement}

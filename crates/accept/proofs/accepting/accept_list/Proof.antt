@@ -6,7 +6,7 @@ use denote.Ref.{now}
 use lib.ListN.{length, take}
 use Rattle.xdr.proofs.FillingLaws.{fills-refused, fills-same}
 use Rattle.table.specs.Table.{resultingTable}
-use Rattle.accept.specs.Sorted.{resultOf, InOrder, SortedTo}
+use Rattle.accept.specs.Steps.Sorted.{resultOf, InOrder, SortedTo}
 use Rattle.accept.specs.declared.accepting.Sorting.the-variants.{Sorted, Repeated}
 use borrow.Author.Needs.{needs}
 use Rattle.accept.proofs.accepting.accept_list.Statement.{statement}

@@ -1,6 +1,6 @@
 -- `accept::found::find` meets its contract.
 use mathlib.Core.Path.{sym, ap, _∙_}
-use Rattle.accept.specs.Found.{foundIn}
+use Rattle.accept.specs.Steps.Found.{foundIn}
 use borrow.Author.Needs.{needs}
 use Rattle.accept.proofs.found.find.Statement.{statement}
 use Rattle.accept.proofs.found.find.Tie as tie

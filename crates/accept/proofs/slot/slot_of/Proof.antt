@@ -6,7 +6,7 @@ use native.Mathlib.Omega.{arith}
 use denote.Ref.{now}
 use lib.ListN.{length, getD}
 use Rattle.order.specs.Order.{compareLists}
-use Rattle.accept.specs.Slots.{slotOf, nameOf}
+use Rattle.accept.specs.Steps.Slots.{slotOf, nameOf}
 use Rattle.accept.proofs.SlotLaws.{slot-behind, slot-repeated, slot-further, slot-first}
 use borrow.Author.Needs.{needs}
 use Rattle.accept.proofs.slot.slot_of.Statement.{statement}

@@ -8,7 +8,7 @@ use Rattle.table.proofs.PassLaws.{Counted, counted-step, counted-all}
 use Rattle.merge.specs.Answer.{mergedRecords}
 use Rattle.merge.proofs.StepLaws.{Took}
 use Rattle.merge.proofs.NotingLaws.{Noting, noting-all, noting-within, noting-more}
-use Rattle.merge.proofs.LoopLaws.{Left, rest, begun-noting, took, none-left, after}
+use Rattle.merge.proofs.LoopLaws.{Left, rest, starting-noting, took, none-left, after}
 use borrow.Author.Needs.{needs}
 use Rattle.merge.proofs.merging.note_records.Statement.{statement}
 use Rattle.merge.proofs.merging.note_records.Tie as tie
@@ -30,7 +30,7 @@ taken c = took (c .before .before .before .before .before .loop .inv .0) (c .bef
 loop-holds : tie.Need-loop-holds Inv-loop μ-loop
 loop-holds c =
     let s = c .before .before .before in
-    let q = begun-noting (now (s .args .a)) (now (s .args .b)) (λ i. c .before .before .shared-slice-known .given i .fits) (λ i. c .before .shared-slice-known2 .given i .fits) (s .pre .0) (s .pre .1) (now (s .args .notes)) (s .pre .2) in
+    let q = starting-noting (now (s .args .a)) (now (s .args .b)) (λ i. c .before .before .shared-slice-known .given i .fits) (λ i. c .before .shared-slice-known2 .given i .fits) (s .pre .0) (s .pre .1) (now (s .args .notes)) (s .pre .2) in
     (q .0, q .1, (omega arith, omega arith), q .2)
 
 next-at-requires : tie.Need-next-at-requires Inv-loop μ-loop

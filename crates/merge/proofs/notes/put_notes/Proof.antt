@@ -4,7 +4,7 @@ use mathlib.Core.Path.{_≡_, refl, sym, _∙_}
 use native.Mathlib.Omega.{arith}
 use denote.Ref.{now}
 use lib.ListN.{length, drop, getD, length-drop}
-use Rattle.merge.specs.Notes.{noted, putNotes}
+use Rattle.merge.specs.Steps.Notes.{noted, putNotes}
 use Rattle.merge.proofs.NoteLaws.{put-within, notes-next, notes-none}
 use borrow.Author.Needs.{needs}
 use Rattle.merge.proofs.notes.put_notes.Statement.{statement}

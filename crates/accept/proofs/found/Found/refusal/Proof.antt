@@ -1,6 +1,6 @@
 -- `accept::found::Found::refusal` meets its contract: by the variant that it is.
 use mathlib.Core.Path.{sym, ap}
-use Rattle.accept.specs.Found.{foundRefusal}
+use Rattle.accept.specs.Steps.Found.{foundRefusal}
 use borrow.Author.Needs.{needs}
 use Rattle.accept.proofs.found.Found.refusal.Statement.{statement}
 use Rattle.accept.proofs.found.Found.refusal.Tie as tie

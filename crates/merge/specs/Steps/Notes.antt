@@ -1,4 +1,4 @@
--- The records that a table takes, noted in two numbers each, and what is put of them.
+-- For the steps that make a table: the records that it takes, noted in two numbers each, and what is put of them.
 use Prim.Native.Nat.{ℕ, _+_, _≤_}
 use mathlib.Core.List.{List, [], _∷_, _++_}
 use mathlib.Core.Path.{_≡_}
@@ -12,7 +12,7 @@ use Rattle.record.specs.File.{File}
 use Rattle.order.specs.Order.{part}
 use Rattle.table.specs.Limits.{recordsLimit}
 use Rattle.table.specs.Table.{tableOf, resultingTable}
-use Rattle.table.specs.Standing.{bytesOf}
+use Rattle.table.specs.Steps.Standing.{bytesOf}
 use Rattle.merge.specs.declared.next.Step.{Step}
 use Rattle.merge.specs.declared.notes.Size.{Size}
 

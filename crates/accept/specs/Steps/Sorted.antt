@@ -9,7 +9,7 @@ use Rattle.xdr.specs.Filling.{Outcome, refuses}
 use Rattle.record.specs.File.{File, file}
 use Rattle.table.specs.Limits.{recordsLimit}
 use Rattle.table.specs.Table.{records, tableOf}
-use Rattle.table.specs.Standing.{At}
+use Rattle.table.specs.Steps.Standing.{At}
 use Rattle.accept.specs.Resulting.{isNamed, byName, resulting}
 use Rattle.accept.specs.Accepting.{unrepeated, ofRecords}
 use Rattle.accept.specs.declared.accepting.Sorting.{Sorting}

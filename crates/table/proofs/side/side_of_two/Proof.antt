@@ -1,0 +1,33 @@
+-- `table::side::side_of_two` meets its contract.
+use mathlib.Core.Path.{sym, ap, _∙_}
+use Rattle.order.specs.declared.compare.Order.{Order}
+use Rattle.table.specs.Steps.Side.{sideBy}
+use borrow.Author.Needs.{needs}
+use Rattle.table.proofs.side.side_of_two.Statement.{statement}
+use Rattle.table.proofs.side.side_of_two.Tie as tie
+
+compare-parts-requires : tie.Need-compare-parts-requires
+compare-parts-requires c κs = search needs
+
+enum-told : tie.Need-enum-told
+enum-told c = search needs
+
+enum-told-2 : tie.Need-enum-told-2
+enum-told-2 c = search needs
+
+enum-told-3 : tie.Need-enum-told-3
+enum-told-3 c = search needs
+
+returns : tie.Need-returns
+returns c = let s = c .before .before .before .before .before .args in ap (λ (o : Order). sideBy o (s .f) (s .g)) (sym (c .enum-told .given .1) ∙ c .before .before .compare-parts .ensures)
+
+returns-2 : tie.Need-returns-2
+returns-2 c = let s = c .before .before .before .before .before .args in ap (λ (o : Order). sideBy o (s .f) (s .g)) (sym (c .enum-told2 .given .1) ∙ c .before .before .compare-parts .ensures)
+
+returns-3 : tie.Need-returns-3
+returns-3 c = let s = c .before .before .before .before .before .args in ap (λ (o : Order). sideBy o (s .f) (s .g)) (sym (c .enum-told3 .given .1) ∙ c .before .before .compare-parts .ensures)
+
+pub side-of-two-spec : {M : Type 1} → statement M
+side-of-two-spec =
+    tie.close
+    (tie.spec compare-parts-requires enum-told enum-told-2 enum-told-3 returns returns-2 returns-3)

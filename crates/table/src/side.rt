@@ -1,0 +1,41 @@
+// Whose record comes next in a walk over two tables.
+ghost use mathlib.Core.Path.{_≡_};
+ghost use Rattle.table.specs.Steps.Side.{sideOf, sideOfTwo};
+use order::Order;
+use record::Fields;
+use record::Outline;
+
+// The first table's, the second's, or both, which have one name; or none is left.
+pub enum Side {
+    Neither,
+    Left(Fields),
+    Right(Fields),
+    Both(Fields, Fields),
+}
+
+// Two records, each in its own bytes, by their names.
+fn side_of_two(a: &[u8], f: Fields, b: &[u8], g: Fields) -> Side
+    ensures { λ r. ⌜ r ≡ sideOfTwo (now (a .entry)) f (now (b .entry)) g ⌝ }
+{
+    match order::compare_parts(a, f.name, f.stop, b, g.name, g.stop) {
+        Order::Less => Side::Left(f),
+        Order::Equal => Side::Both(f, g),
+        Order::Greater => Side::Right(g),
+    }
+}
+
+// By the outlines at a place of each.
+pub fn side_of(a: &[u8], x: Outline, b: &[u8], y: Outline) -> Side
+    ensures { λ r. ⌜ r ≡ sideOf (now (a .entry)) x (now (b .entry)) y ⌝ }
+{
+    match x {
+        Outline::Short => match y {
+            Outline::Short => Side::Neither,
+            Outline::Whole(g) => Side::Right(g),
+        },
+        Outline::Whole(f) => match y {
+            Outline::Short => Side::Left(f),
+            Outline::Whole(g) => side_of_two(a, f, b, g),
+        },
+    }
+}
