@@ -21,7 +21,7 @@ use Rattle.merge.specs.declared.next.Next.the-variants.{End, More}
 use Rattle.merge.proofs.NotingLaws.{Noting, noting-none}
 use Rattle.accept.specs.Steps.Next.{placeOf, nextOver}
 use Rattle.accept.specs.Resulting.{replacing, byName, resulting}
-use Rattle.accept.specs.Steps.Sorted.{Places, InOrder}
+use Rattle.accept.specs.Steps.Sorted.{Places, SortedPlaces}
 use Rattle.accept.proofs.InsertLaws.{by-name-count, by-name-size}
 use Rattle.accept.proofs.OverlayLaws.{overlay-sorted}
 use Rattle.accept.proofs.KeptLaws.{resulting-is}
@@ -39,7 +39,7 @@ abbrev pub rest : {s places old : List ℕ} {i j : ℕ} → Left s places old i 
 rest l = union replacing (l .fs) (l .gs)
 
 -- before the first step all are
-module _ (s places old : List ℕ) (update : Bool) (p : InOrder s places) (b : IsBytes old) (g : isGood old ≡ true) where
+module _ (s places old : List ℕ) (update : Bool) (p : SortedPlaces s places) (b : IsBytes old) (g : isGood old ≡ true) where
   abbrev all : List File
   all = resulting update (records s) (records old)
 

@@ -27,10 +27,10 @@ use Rattle.table.specs.Table.{table, isGood, records, tableOf}
 use Rattle.table.specs.Steps.Standing.{AllValid}
 use Rattle.table.proofs.TableLaws.{valid-parts, array-records}
 use Rattle.accept.specs.Accepting.{ofRecords, ofIndex, ofKind, ofReading, acceptOutcome}
-use Rattle.accept.specs.Steps.Found.{foundIn, foundRefusal}
+use Rattle.accept.specs.Steps.Index.{indexIn, indexRefusal}
 use Rattle.accept.specs.Steps.Sorted.{IsArray, ofArray}
-use Rattle.accept.specs.declared.found.Found.{Found}
-use Rattle.accept.specs.declared.found.Found.the-variants as F
+use Rattle.accept.specs.declared.index.Index.{Index}
+use Rattle.accept.specs.declared.index.Index.the-variants as F
 
 -- what was found of a body of some kind
 record Body-found (k : Kind) (b : Body k) (next : ℕ) (m : List ℕ) (update : Bool) (x : IndexSpan) : Type 0 where
@@ -45,7 +45,7 @@ no-list e = let z : _≡_ {A = ℕ} 0 1 = cc in absurd (omega arith)
 no-refusal : {r : Refusal} {update : Bool} {x : IndexSpan} {P : Type 0} → F.Taken update x ≡ F.Refused r → P
 no-refusal e = let z : _≡_ {A = ℕ} 0 1 = cc in absurd (omega arith)
 
-body-found : (k : Kind) (b : Body k) (id next : ℕ) (m : List ℕ) {update : Bool} {x : IndexSpan} → Reads (body k) m 4 (taken b next) → foundIn (bodyAnswer k id (taken b next)) ≡ F.Taken update x
+body-found : (k : Kind) (b : Body k) (id next : ℕ) (m : List ℕ) {update : Bool} {x : IndexSpan} → Reads (body k) m 4 (taken b next) → indexIn (bodyAnswer k id (taken b next)) ≡ F.Taken update x
     → Body-found k b next m update x
 body-found isIndex b id next m {update} {x} r e =
     let u : false ≡ update = cc in record { sent = b; outcome = λ old expected. ap (λ (v : Bool). ofIndex v old expected b) u; reads = r; span = cc }
@@ -65,7 +65,7 @@ pub record Listing (m : List ℕ) (update : Bool) (x : IndexSpan) : Type 0 where
   pub reads : Reads index m 4 (taken sent next)
   pub span : x ≡ indexSpan sent next
 
-pub found-list : (m : List ℕ) {f : Found} {update : Bool} {x : IndexSpan} → f ≡ foundIn (messageAnswer (readAt message m 0)) → f ≡ F.Taken update x → Listing m update x
+pub found-list : (m : List ℕ) {f : Index} {update : Bool} {x : IndexSpan} → f ≡ indexIn (messageAnswer (readAt message m 0)) → f ≡ F.Taken update x → Listing m update x
 found-list m {f} {update} {x} e q = go (readAt message m 0) refl
   where
     go : (r : Reading Sent) → readAt message m 0 ≡ r → Listing m update x
@@ -73,7 +73,7 @@ found-list m {f} {update} {x} e q = go (readAt message m 0) refl
         let p = pair-parts (record { is = h }) in
         let at : p .0 ≡ 4 = ends-word (passed (passed (passed (p .1)))) .0 in
         let w = body-found (kindOf (typeOf (v .0))) (v .1) (idOf (v .0)) next m (subst (λ (k : ℕ). Reads (body (kindOf (typeOf (v .0)))) m k (taken (v .1) next)) at (p .2))
-        (ap (λ (r : Reading Sent). foundIn (messageAnswer r)) (sym h) ∙ sym e ∙ q) in
+        (ap (λ (r : Reading Sent). indexIn (messageAnswer r)) (sym h) ∙ sym e ∙ q) in
         record {
           sent = w .sent;
           next = next;
@@ -81,14 +81,14 @@ found-list m {f} {update} {x} e q = go (readAt message m 0) refl
           reads = w .reads;
           span = w .span;
         }
-    go (unread k p) h = no-list (ap (λ (r : Reading Sent). foundIn (messageAnswer r)) (sym h) ∙ sym e ∙ q)
+    go (unread k p) h = no-list (ap (λ (r : Reading Sent). indexIn (messageAnswer r)) (sym h) ∙ sym e ∙ q)
 
 -- a refusal
 
 other : {r : Refusal} → F.Refused (record { number = 18; place = 0 }) ≡ F.Refused r → refuses 18 0 ≡ refuses (r .number) (r .place)
-other e = ap (λ (u : Found). refuses (foundRefusal u .number) (foundRefusal u .place)) e
+other e = ap (λ (u : Index). refuses (indexRefusal u .number) (indexRefusal u .place)) e
 
-body-refused : (k : Kind) (b : Body k) (id next : ℕ) {r : Refusal} → foundIn (bodyAnswer k id (taken b next)) ≡ F.Refused r
+body-refused : (k : Kind) (b : Body k) (id next : ℕ) {r : Refusal} → indexIn (bodyAnswer k id (taken b next)) ≡ F.Refused r
     → (old expected : List ℕ) → ofKind old expected k b ≡ refuses (r .number) (r .place)
 body-refused isIndex b id next e old expected = no-refusal e
 body-refused isRequest b id next e old expected = other e
@@ -98,17 +98,17 @@ body-refused isPong b id next e old expected = other e
 body-refused isIndexUpdate b id next e old expected = no-refusal e
 body-refused isOptions b id next e old expected = other e
 
-found-refused : (m : List ℕ) {f : Found} {r g : Refusal} → f ≡ foundIn (messageAnswer (readAt message m 0)) → f ≡ F.Refused r → g ≡ foundRefusal f
+found-refused : (m : List ℕ) {f : Index} {r g : Refusal} → f ≡ indexIn (messageAnswer (readAt message m 0)) → f ≡ F.Refused r → g ≡ indexRefusal f
     → (old expected : List ℕ) → ofReading old expected (readAt message m 0) ≡ refuses (g .number) (g .place)
-found-refused m {f} {r} {g} e q s old expected = go (readAt message m 0) refl ∙ ap (λ (u : Refusal). refuses (u .number) (u .place)) (sym (s ∙ ap foundRefusal q))
+found-refused m {f} {r} {g} e q s old expected = go (readAt message m 0) refl ∙ ap (λ (u : Refusal). refuses (u .number) (u .place)) (sym (s ∙ ap indexRefusal q))
   where
     go : (x : Reading Sent) → readAt message m 0 ≡ x → ofReading old expected (readAt message m 0) ≡ refuses (r .number) (r .place)
     go (taken v next) h =
         ap (ofReading old expected) h
-        ∙ body-refused (kindOf (typeOf (v .0))) (v .1) (idOf (v .0)) next (ap (λ (x : Reading Sent). foundIn (messageAnswer x)) (sym h) ∙ sym e ∙ q) old expected
+        ∙ body-refused (kindOf (typeOf (v .0))) (v .1) (idOf (v .0)) next (ap (λ (x : Reading Sent). indexIn (messageAnswer x)) (sym h) ∙ sym e ∙ q) old expected
     go (unread k p) h =
         ap (ofReading old expected) h
-        ∙ ap (λ (u : Found). refuses (foundRefusal u .number) (foundRefusal u .place)) (ap (λ (x : Reading Sent). foundIn (messageAnswer x)) (sym h) ∙ sym e ∙ q)
+        ∙ ap (λ (u : Index). refuses (indexRefusal u .number) (indexRefusal u .place)) (ap (λ (x : Reading Sent). indexIn (messageAnswer x)) (sym h) ∙ sym e ∙ q)
 
 -- an array that was read at a place
 
@@ -200,7 +200,7 @@ module _ (old m expected : List ℕ) where
   unfolding acceptOutcome
   old-bad e = rw e refl
 
-  pub message-refused : {f : Found} {r g : Refusal} → isGood old ≡ true → f ≡ foundIn (messageAnswer (readAt message m 0)) → f ≡ F.Refused r → g ≡ foundRefusal f
+  pub message-refused : {f : Index} {r g : Refusal} → isGood old ≡ true → f ≡ indexIn (messageAnswer (readAt message m 0)) → f ≡ F.Refused r → g ≡ indexRefusal f
       → acceptOutcome old m expected ≡ refuses (g .number) (g .place)
   unfolding acceptOutcome
   message-refused h e q s = rw h (found-refused m e q s old expected)

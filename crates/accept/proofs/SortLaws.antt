@@ -28,7 +28,7 @@ use Rattle.table.proofs.InsertLaws.{insert-rising}
 use Rattle.accept.specs.Resulting.{isNamed, replacing, byName}
 use Rattle.accept.specs.Accepting.{unrepeated}
 use Rattle.accept.specs.Steps.Slots.{nameOf, slotOf}
-use Rattle.accept.specs.Steps.Sorted.{IsArray, Places, Distinct, InOrder}
+use Rattle.accept.specs.Steps.Sorted.{IsArray, Places, Distinct, SortedPlaces}
 use Rattle.accept.specs.declared.slot.Slot.{Slot}
 use Rattle.accept.specs.declared.slot.Slot.the-variants.{Free, Repeated}
 use Rattle.accept.proofs.InsertLaws.{replacing-one, named-swap, insert-named, by-name-more, by-name-none}
@@ -94,7 +94,7 @@ sorting-none s places a =
 
 module _ {s places : List ℕ} {at n : ℕ} (a : IsArray s) (l : Sorting s places at n) where
   -- no record is left
-  pub sorting-all : {x : Outline} → x ≡ outlineOf s at → x ≡ O.Short → InOrder s (take n places)
+  pub sorting-all : {x : Outline} → x ≡ outlineOf s at → x ≡ O.Short → SortedPlaces s (take n places)
   sorting-all e q =
       let z = at-short (l .here) e q in
       let whole : l .done ≡ records s = sym (append-nil (l .done)) ∙ ap (λ (u : List File). l .done ++ u) (sym z) ∙ l .all in

@@ -18,7 +18,7 @@ use Rattle.table.specs.Steps.Standing.{At}
 use Rattle.table.specs.declared.side.Side.{Side}
 use Rattle.table.proofs.WalkLaws.{at-last, standing}
 use Rattle.table.proofs.UnionLaws.{union, union-equal, union-right, left-first, right-first}
-use Rattle.table.proofs.SideLaws.{Shows, shows-first, shows-at, Told, neither, left, right, both, told}
+use Rattle.table.proofs.SideLaws.{Shows, shows-first, shows-at, Told, told-none, told-left, told-right, told-both, told}
 use Rattle.merge.specs.Steps.Next.{fromLeft, nextBy, stepBytes}
 use Rattle.merge.specs.declared.next.Step.{Step}
 use Rattle.merge.specs.declared.next.Next.{Next}
@@ -94,10 +94,10 @@ module _ (s places : List ℕ) (i : ℕ) (old : List ℕ) (j : ℕ) where
 
   takes : {fs gs : List File} {t : Side} → Told (placeOf s places i) j fs gs t → i ≤ length places → Places s (drop i places) fs → At old j gs
       → Steps s places i fs old j gs (nextBy (replacingStep (placeOf s places i)) (placeOf s places i) j t)
-  takes neither h u w = union-right replacing []
-  takes (left f fs gs a) h u w = takes-sent gs j (places-first s places i f fs u) w (omega arith) (left-first replacing f fs gs a)
-  takes (both f g fs gs e) h u w = takes-sent gs (fieldsOf j g .past) (places-first s places i f fs u) (standing w .next) (omega (arith, standing w .sized)) (union-equal replacing f g fs gs e)
-  takes (right g fs gs a) h u w =
+  takes told-none h u w = union-right replacing []
+  takes (told-left f fs gs a) h u w = takes-sent gs j (places-first s places i f fs u) w (omega arith) (left-first replacing f fs gs a)
+  takes (told-both f g fs gs e) h u w = takes-sent gs (fieldsOf j g .past) (places-first s places i f fs u) (standing w .next) (omega (arith, standing w .sized)) (union-equal replacing f g fs gs e)
+  takes (told-right g fs gs a) h u w =
       let q = standing w in
       let same : i ≡ i + 0 = omega arith in
       record { head = g; lefts = fs; rights = gs; is = right-first replacing g fs gs a; bytes-are = q .bytes-are; sized = q .sized; some = omega (arith, q .sized); left = subst (λ (k : ℕ). Places s (drop k places) fs) same u; inside = omega arith; right = q .next; grows = omega (arith, q .sized) }

@@ -1,5 +1,5 @@
 -- What only steps and proofs need.
-pub mod Found
+pub mod Index
 pub mod Slots
 pub mod Next
 pub mod Sorted

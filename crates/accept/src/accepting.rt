@@ -7,9 +7,9 @@ ghost use Rattle.xdr.specs.Filling.{Fills};
 ghost use Rattle.table.specs.Table.{isGood, resultingTable};
 ghost use Rattle.merge.specs.Steps.Notes.{Noted};
 ghost use Rattle.accept.specs.Accepting.{acceptOutcome};
-ghost use Rattle.accept.specs.Steps.Sorted.{IsArray, resultOf, ofArray, insertedAt, InOrder, SortedTo};
-use crate::found::Found;
-use crate::found::find;
+ghost use Rattle.accept.specs.Steps.Sorted.{IsArray, resultOf, ofArray, insertedAt, SortedPlaces, SortedTo};
+use crate::index::Index;
+use crate::index::read_index;
 use crate::next::next_at;
 use crate::next::place_of;
 use crate::next::taken_by;
@@ -74,7 +74,7 @@ fn start_of(old: &[u8], update: bool) -> usize
 
 // Notes the resulting records, as far as there is room, and measures the resulting table.
 fn note_records(s: &[u8], places: &[usize], old: &[u8], update: bool, notes: &mut [usize]) -> Size
-    requires { ⌜ InOrder (now s) (now places) × (isGood (now old) ≡ true) × (length (now notes) ≡ 1024) ⌝ }
+    requires { ⌜ SortedPlaces (now s) (now places) × (isGood (now old) ≡ true) × (length (now notes) ≡ 1024) ⌝ }
     ensures { λ r. ⌜ Noted (now (s .entry)) (now (old .entry)) (now (notes .exit)) (resultOf update (now (s .entry)) (now (old .entry))) r ⌝ }
 {
     let mut i = 0;
@@ -100,7 +100,7 @@ fn note_records(s: &[u8], places: &[usize], old: &[u8], update: bool, notes: &mu
 
 // The resulting table of records in order, in the first bytes of the buffer.
 fn fill(s: &[u8], places: &[usize], old: &[u8], update: bool, out: &mut [u8]) -> Filling
-    requires { ⌜ InOrder (now s) (now places) × (isGood (now old) ≡ true) ⌝ }
+    requires { ⌜ SortedPlaces (now s) (now places) × (isGood (now old) ≡ true) ⌝ }
     ensures { λ r. ⌜ Fills (resultingTable (resultOf update (now (s .entry)) (now (old .entry)))) (now (out .entry)) r (now (out .exit)) ⌝ }
 {
     let mut notes = [0usize; 1024];
@@ -132,8 +132,8 @@ pub fn accept(old: &[u8], message: &[u8], repository: &[u8], out: &mut [u8]) -> 
     if !table::is_good(old) {
         return xdr::refused(15);
     }
-    let found = find(message);
-    let Found::Taken(update, x) = found else {
+    let found = read_index(message);
+    let Index::Taken(update, x) = found else {
         return Filling::Refused(found.refusal());
     };
     let stop = x.repository.start + x.repository.length;

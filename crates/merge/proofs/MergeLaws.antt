@@ -19,7 +19,7 @@ use Rattle.record.proofs.RisingLaws.{Rising, rising-is, both-true}
 use Rattle.table.specs.Steps.Standing.{AllValid}
 use Rattle.table.proofs.TableLaws.{GoodTable, good-table}
 use Rattle.merge.specs.Merged.{mergedOf}
-use Rattle.merge.specs.Highest.{joined, Topped, Highest}
+use Rattle.merge.specs.Highest.{joined, Covered, Highest}
 use Rattle.merge.specs.Answer.{mergedRecords, mergeOutcome}
 use Rattle.merge.proofs.TwoLaws.{insert-none}
 use Rattle.merge.proofs.AnswerLaws.{both-good}
@@ -85,11 +85,11 @@ two-highest fs gs a b m h k j =
     record {
       rising = j .rising;
       from = λ f i. ⊎-elim (λ p. Memᴰ·append-left gs (h .from f p)) (λ p. Memᴰ·append-right fs (k .from f p)) (List·Memᴰ·append-cases a (j .from f i));
-      tops = λ f i. ⊎-elim (λ p. up f (h .tops f p) (λ x q. Memᴰ·append-left b q)) (λ p. up f (k .tops f p) (λ x q. Memᴰ·append-right a q)) (List·Memᴰ·append-cases fs i);
+      covers = λ f i. ⊎-elim (λ p. up f (h .covers f p) (λ x q. Memᴰ·append-left b q)) (λ p. up f (k .covers f p) (λ x q. Memᴰ·append-right a q)) (List·Memᴰ·append-cases fs i);
     }
   where
-    up : (f : File) {l : List File} → Topped l f → ((x : File) → x ∈ l → x ∈ (a ++ b)) → Topped m f
-    up f t p = through m f (t .top) (t .named) (t .high) (j .tops (t .top) (p (t .top) (t .within)))
+    up : (f : File) {l : List File} → Covered l f → ((x : File) → x ∈ l → x ∈ (a ++ b)) → Covered m f
+    up f t p = through m f (t .cover) (t .named) (t .high) (j .covers (t .cover) (p (t .cover) (t .within)))
 
 pub joined-append : (ts us : List (List File)) → joined (ts ++ us) ≡ joined ts ++ joined us
 joined-append [] us = refl

@@ -15,7 +15,7 @@ use Rattle.table.specs.Steps.Standing.{At}
 use Rattle.table.specs.declared.side.Side.{Side}
 use Rattle.table.proofs.WalkLaws.{Standing, standing, compared-there}
 use Rattle.table.proofs.UnionLaws.{union, union-equal, union-right, left-first, right-first}
-use Rattle.table.proofs.SideLaws.{shows-at, Told, neither, left, right, both, told}
+use Rattle.table.proofs.SideLaws.{shows-at, Told, told-none, told-left, told-right, told-both, told}
 use Rattle.merge.specs.Merged.{higherBy, higher}
 use Rattle.merge.specs.Steps.Next.{fromLeft, fromRight, higherStep, higherOf, nextBy, nextOf, stepBytes}
 use Rattle.merge.specs.declared.next.Step.{Step}
@@ -68,10 +68,10 @@ module _ {a : List ℕ} {i : ℕ} {b : List ℕ} {j : ℕ} where
   takes-right ls x u w h m = let p = standing w in taking _ p m refl refl refl u (p .next) (omega arith)
 
   takes : {fs gs : List File} {t : Side} → Told i j fs gs t → At a i fs → At b j gs → Steps a i fs b j gs (nextBy (higherOf a i b j) i j t)
-  takes neither u w = union-right higher []
-  takes (left f fs gs h) u w = takes-left gs j u w (omega arith) (left-first higher f fs gs h)
-  takes (right g fs gs h) u w = takes-right fs i u w (omega arith) (right-first higher g fs gs h)
-  takes (both f g fs gs e) u w = go (compareAt a (fieldsOf i f) b (fieldsOf j g)) (compared-there u w)
+  takes told-none u w = union-right higher []
+  takes (told-left f fs gs h) u w = takes-left gs j u w (omega arith) (left-first higher f fs gs h)
+  takes (told-right g fs gs h) u w = takes-right fs i u w (omega arith) (right-first higher g fs gs h)
+  takes (told-both f g fs gs e) u w = go (compareAt a (fieldsOf i f) b (fieldsOf j g)) (compared-there u w)
     where
       first : (o : Order) → o ≡ compareFiles f g → union higher (f ∷ fs) (g ∷ gs) ≡ higherBy o f g ∷ union higher fs gs
       first o q = union-equal higher f g fs gs e ∙ ap (λ (p : Order). higherBy p f g ∷ union higher fs gs) (sym q)

@@ -19,7 +19,7 @@ use Rattle.message.specs.Message.{Kind, isIndex, isRequest, isResponse, isPing,
 use Rattle.table.specs.Limits.{recordsLimit, bytesLimit}
 use Rattle.order.specs.Order.{isEqual, compareLists}
 use Rattle.table.specs.Table.{isGood, isWithin, records, tableOf, resultingTable}
-use Rattle.order.proofs.OrderLaws.{equal-same}
+use Rattle.order.proofs.SameLaws.{is-same}
 use Rattle.record.proofs.RisingLaws.{both-true}
 use Rattle.table.specs.Steps.Standing.{AllValid}
 use Rattle.table.proofs.RoomLaws.{not-given}
@@ -29,7 +29,6 @@ use Rattle.accept.specs.Accepting.{unrepeated, ofRecords, firstRecord, ofIndex,
 use Rattle.accept.specs.Steps.Sorted.{Distinct}
 use Rattle.accept.proofs.ResultLaws.{resulting-valid, accept-good}
 use Rattle.promises.specs.Accepting.{Sends, NoneNamed, Accepted}
-use Rattle.promises.proofs.HeldLaws.{is-equal}
 use Rattle.promises.proofs.BelongLaws.{none-named, named-none, resulting-only, resulting-all}
 use Rattle.promises.proofs.Spans.{from-start}
 
@@ -81,7 +80,7 @@ module _ (old repository l : List ℕ) (valid-old : AllValid (records old)) wher
           → (sent .0 ≡ repository) × Distinct (sent .1) × (records l ≡ fs)
       go true q e =
           let r = unrepeated-distinct [] (firstRecord (sent .0)) (sent .1) (resultingTable fs) l e in
-          (equal-same (sent .0) repository (is-equal (compareLists (sent .0) repository) q), r .2, table-records fs l (resulting-valid update (sent .1) (records old) v valid-old) (r .0))
+          (is-same (sent .0) repository q, r .2, table-records fs l (resulting-valid update (sent .1) (records old) v valid-old) (r .0))
       go false q e = not-given e
 
   kind-took : (k : Kind) (b : Body k) → Valid (body k) b → ofKind old repository k b ≡ gives l → Took old repository l k b

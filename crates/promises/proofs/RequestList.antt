@@ -55,8 +55,8 @@ module _ (local : List File) (peers : List (List File)) (rises : (k : ℕ) → k
         number = omega (arith, n);
         offset = e;
         size = s;
-        from-one = omega (arith, l .is);
-        to-last = omega (arith, l .is, l .small);
+        fromOne = omega (arith, l .is);
+        toLast = omega (arith, l .is, l .small);
         lists = lists-from l;
         lowest = none-lower l;
       }

@@ -27,8 +27,8 @@ use Rattle.table.specs.Steps.Standing.{At}
 use Rattle.table.proofs.WalkLaws.{at-start, standing}
 use Rattle.order.proofs.PartLaws.{part-beyond, part-cut}
 use Rattle.want.specs.Listing.{listed, hasThere, listsThere, blockWith}
-use Rattle.want.specs.Blocks.{blocksFrom, listedCount}
-use Rattle.want.specs.Places.{listsAt}
+use Rattle.want.specs.Steps.Blocks.{blocksFrom, listedCount}
+use Rattle.want.specs.Steps.Places.{listsAt}
 use Rattle.want.proofs.ListingLaws.{Heads, heads, none-here, listed-blocks}
 use Rattle.want.proofs.ThereLaws.{lists-by}
 use Rattle.serve.specs.Ruling.{isOurs, Ruling, serves, replies, emptyReply, rulingOn, rulingOf, servingAnswer, servingBuffer, Rules}

@@ -29,10 +29,10 @@ shows-at {t} {at} (f ∷ fs) w = subst (Shows t at (f ∷ fs)) (sym (standing w 
 
 -- of fs and gs, which are left at i and j, a side comes next
 pub data Told (i j : ℕ) : List File → List File → Side → Type 0 where
-  neither : Told i j [] [] Neither
-  left : (f : File) (fs gs : List File) → Above (f .name) gs → Told i j (f ∷ fs) gs (Left (fieldsOf i f))
-  right : (g : File) (fs gs : List File) → Above (g .name) fs → Told i j fs (g ∷ gs) (Right (fieldsOf j g))
-  both : (f g : File) (fs gs : List File) → compareLists (f .name) (g .name) ≡ Equal → Told i j (f ∷ fs) (g ∷ gs) (Both (fieldsOf i f) (fieldsOf j g))
+  told-none : Told i j [] [] Neither
+  told-left : (f : File) (fs gs : List File) → Above (f .name) gs → Told i j (f ∷ fs) gs (Left (fieldsOf i f))
+  told-right : (g : File) (fs gs : List File) → Above (g .name) fs → Told i j fs (g ∷ gs) (Right (fieldsOf j g))
+  told-both : (f g : File) (fs gs : List File) → compareLists (f .name) (g .name) ≡ Equal → Told i j (f ∷ fs) (g ∷ gs) (Both (fieldsOf i f) (fieldsOf j g))
 
 -- by what the outlines are
 pub side-by : (a b : List ℕ) {x y u v : Outline} {r : Side} → x ≡ u → y ≡ v → r ≡ sideOf a u b v → r ≡ sideOf a x b y
@@ -40,14 +40,14 @@ side-by a b {x} {y} {u} {v} e f h = h ∙ ap (λ (o : Outline). sideOf a o b v) 
 
 module _ {i j : ℕ} where
   told-two : (f g : File) (fs gs : List File) (o : Order) → compareLists (f .name) (g .name) ≡ o → Told i j (f ∷ fs) (g ∷ gs) (sideBy o (fieldsOf i f) (fieldsOf j g))
-  told-two f g fs gs Less e = left f fs (g ∷ gs) e
-  told-two f g fs gs Equal e = both f g fs gs e
-  told-two f g fs gs Greater e = right g (f ∷ fs) gs (greater-above (f .name) (g .name) e)
+  told-two f g fs gs Less e = told-left f fs (g ∷ gs) e
+  told-two f g fs gs Equal e = told-both f g fs gs e
+  told-two f g fs gs Greater e = told-right g (f ∷ fs) gs (greater-above (f .name) (g .name) e)
 
   pub told : {a b : List ℕ} {fs gs : List File} {x y : Outline} → Shows a i fs x → Shows b j gs y → Told i j fs gs (sideOf a x b y)
-  told shows-none shows-none = neither
-  told shows-none (shows-first g gs e) = right g [] gs tt
-  told (shows-first f fs e) shows-none = left f fs [] tt
+  told shows-none shows-none = told-none
+  told shows-none (shows-first g gs e) = told-right g [] gs tt
+  told (shows-first f fs e) shows-none = told-left f fs [] tt
   told {a} {b} (shows-first f fs e) (shows-first g gs h) =
       told-two f g fs gs (compareLists (part a (fieldsOf i f .name) (fieldsOf i f .stop)) (part b (fieldsOf j g .name) (fieldsOf j g .stop)))
       (sym (ap (λ (l : List ℕ). compareLists l (part b (fieldsOf j g .name) (fieldsOf j g .stop))) e ∙ ap (compareLists (f .name)) h))

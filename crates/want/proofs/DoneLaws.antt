@@ -15,9 +15,9 @@ use Rattle.table.specs.Table.{isGood, records}
 use Rattle.table.proofs.TableLaws.{good-table}
 use Rattle.merge.specs.Merged.{mergedOf}
 use Rattle.want.specs.Listing.{listed}
-use Rattle.want.specs.Blocks.{blocksFrom, listedCount}
+use Rattle.want.specs.Steps.Blocks.{blocksFrom, listedCount}
 use Rattle.want.specs.Wanted.{peerFrom, wantedBlocks, wantedFiles, requestList}
-use Rattle.want.specs.Places.{tableAt, placeAt, lowestFrom, peerAt, wantedCount, Five, listOf, wantedFrom}
+use Rattle.want.specs.Steps.Places.{tableAt, placeAt, lowestFrom, peerAt, wantedCount, Five, listOf, wantedFrom}
 use Rattle.want.specs.declared.list.Wanted.{Wanted}
 use Rattle.want.proofs.PlaceLaws.{element}
 use Rattle.want.proofs.CountLaws.{wanted-count, count-few, length-from, same-peers}

@@ -21,9 +21,9 @@ use Rattle.order.specs.Order.{part}
 use Rattle.table.specs.Table.{isGood, records}
 use Rattle.merge.specs.Merged.{mergedOf}
 use Rattle.want.specs.Listing.{isHeld, blockWith}
-use Rattle.want.specs.Blocks.{blockHere, listedCount}
+use Rattle.want.specs.Steps.Blocks.{blockHere, listedCount}
 use Rattle.want.specs.Wanted.{wantedBlock, wantedFiles, wantedBytes, listBytes}
-use Rattle.want.specs.Places.{tableAt, placeAt, lowestFrom, Five, listOf, wantedHere, wantedFrom}
+use Rattle.want.specs.Steps.Places.{tableAt, placeAt, lowestFrom, Five, listOf, wantedHere, wantedFrom}
 use Rattle.want.specs.declared.list.Wanted.{Wanted}
 use Rattle.table.proofs.TableLaws.{word-bytes}
 use Rattle.want.proofs.PlaceLaws.{element}

@@ -13,7 +13,7 @@ use Rattle.record.proofs.RisingLaws.{and-true}
 use Rattle.order.specs.Order.{isEqual, compareLists}
 use Rattle.order.proofs.SameLaws.{differ}
 use Rattle.want.specs.Listing.{isSame, blockWith}
-use Rattle.want.specs.Blocks.{blockHere}
+use Rattle.want.specs.Steps.Blocks.{blockHere}
 
 -- not of 32 bytes, or they end otherwise
 pub differ-end : (a b : List ℕ) → length a ≡ 32 → {r : Bool} → r ≡ (eqb (length b) 32 && eqb (getD a 31 0) (getD b 31 0)) → r ≡ false → false ≡ isEqual (compareLists a b)

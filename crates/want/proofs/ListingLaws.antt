@@ -21,7 +21,7 @@ use Rattle.record.proofs.FileLaws.{encoding-parts}
 use Rattle.table.specs.Steps.Standing.{bytesOf, At}
 use Rattle.table.proofs.WalkLaws.{at-end, standing}
 use Rattle.want.specs.Listing.{isCurrent, listed}
-use Rattle.want.specs.Blocks.{blockHere, blocksFrom, listedCount}
+use Rattle.want.specs.Steps.Blocks.{blockHere, blocksFrom, listedCount}
 
 -- the Length of a block that is there, by the answer that was given
 

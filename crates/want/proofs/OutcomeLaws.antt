@@ -9,7 +9,7 @@ use Rattle.xdr.specs.Filling.{gives, refuses}
 use Rattle.table.specs.Table.{isGood, allGood}
 use Rattle.record.proofs.RisingLaws.{both-true}
 use Rattle.want.specs.Wanted.{listBytes, requestOutcome}
-use Rattle.want.specs.Places.{tableAt, Five, listOf}
+use Rattle.want.specs.Steps.Places.{tableAt, Five, listOf}
 use Rattle.want.proofs.SideLaws.{by-five}
 use Rattle.want.proofs.EntryLaws.{bytes-length}
 

@@ -17,7 +17,7 @@ use Rattle.table.proofs.TableLaws.{good-table}
 use Rattle.table.specs.Steps.Standing.{At}
 use Rattle.table.proofs.WalkLaws.{at-start, standing}
 use Rattle.want.specs.Listing.{isSame, listed, hasBlock, isHeld}
-use Rattle.want.specs.Blocks.{blockHere, blocksFrom, listedCount}
+use Rattle.want.specs.Steps.Blocks.{blockHere, blocksFrom, listedCount}
 use Rattle.want.specs.Found.{foundAmong, foundFrom, foundIn}
 use Rattle.want.specs.declared.search.Found.{Found}
 use Rattle.want.specs.declared.search.Found.the-variants as F

@@ -26,9 +26,9 @@ use Rattle.merge.specs.Highest.{joined}
 use Rattle.merge.proofs.HighestLaws.{_∈_, AllOK, merged-highest}
 use Rattle.merge.proofs.MergeLaws.{all-ok}
 use Rattle.want.specs.Listing.{listed, isCurrent, hasThere, listsThere}
-use Rattle.want.specs.Blocks.{blocksFrom, listedCount}
+use Rattle.want.specs.Steps.Blocks.{blocksFrom, listedCount}
 use Rattle.want.specs.Wanted.{peerFrom}
-use Rattle.want.specs.Places.{tableAt, placeAt, lowestFrom, pastName, listsAt, peerAt, Five}
+use Rattle.want.specs.Steps.Places.{tableAt, placeAt, lowestFrom, pastName, listsAt, peerAt, Five}
 use Rattle.want.proofs.ListingLaws.{listed-few, heads, none-here, listed-blocks, listed-within}
 use Rattle.want.proofs.ThereLaws.{past-none, past-by, lists-none, lists-by}
 use Rattle.want.proofs.PlaceLaws.{peer-next, peer-none}

@@ -15,8 +15,8 @@ use Rattle.record.specs.declared.outline.Outline.the-variants as O
 use Rattle.order.specs.Order.{isEqual, compareLists, part}
 use Rattle.order.specs.declared.compare.Order.{Order}
 use Rattle.want.specs.Listing.{isCurrent, isSame, hasThere}
-use Rattle.want.specs.Blocks.{blockHere, blocksFrom, listedCount}
-use Rattle.want.specs.Places.{pastBy, pastName, listsBy, listsAt}
+use Rattle.want.specs.Steps.Blocks.{blockHere, blocksFrom, listedCount}
+use Rattle.want.specs.Steps.Places.{pastBy, pastName, listsBy, listsAt}
 use Rattle.want.proofs.ListingLaws.{listed-few}
 
 -- at offset `from`, before block j: what is asked of all blocks is asked of those left

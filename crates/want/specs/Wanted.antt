@@ -43,9 +43,9 @@ abbrev pub Earlier : Wanted → Wanted → Type 0
 Earlier v w = (v .file < w .file) ⊎ ((v .file ≡ w .file) × (v .block < w .block))
 
 -- each entry is earlier than all after it
-abbrev pub InOrder : List Wanted → Type 0
-InOrder [] = Unit {0}
-InOrder (w ∷ ws) = ((v : Wanted) → List·Memᴰ v ws → Earlier w v) × InOrder ws
+abbrev pub Ordered : List Wanted → Type 0
+Ordered [] = Unit {0}
+Ordered (w ∷ ws) = ((v : Wanted) → List·Memᴰ v ws → Earlier w v) × Ordered ws
 
 -- 24 bytes a block
 abbrev pub wantedBytes : Wanted → List ℕ

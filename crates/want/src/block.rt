@@ -6,7 +6,7 @@ ghost use Prim.Native.Nat.{_+_, _≤_};
 ghost use lib.ListN.{length, getD, take, drop};
 ghost use Rattle.record.specs.Outline.{wordAt, blocksSize, blockPlace};
 ghost use Rattle.want.specs.Listing.{isCurrent, isSame, hasThere, blockWith};
-ghost use Rattle.want.specs.Blocks.{blockHere, blocksFrom, listedCount};
+ghost use Rattle.want.specs.Steps.Blocks.{blockHere, blocksFrom, listedCount};
 use record::BlockOutline;
 use record::Fields;
 

@@ -46,7 +46,7 @@ Distinct [] = Unit {0}
 Distinct (f ∷ fs) = (isNamed (f .name) fs ≡ false) × Distinct fs
 
 -- all records of the array in order
-pub record InOrder (s places : List ℕ) : Type 0 where
+pub record SortedPlaces (s places : List ℕ) : Type 0 where
   pub array : IsArray s
   pub standing : Places s places (byName (records s) [])
   pub distinct : Distinct (records s)
@@ -54,5 +54,5 @@ pub record InOrder (s places : List ℕ) : Type 0 where
 
 -- what sorting answers and leaves: the places in order, or the place of the first record whose name stood before
 abbrev pub SortedTo : (s places : List ℕ) → Sorting → Type 0
-SortedTo s places (S.Sorted n) = (n ≤ length places) × InOrder s (take n places)
+SortedTo s places (S.Sorted n) = (n ≤ length places) × SortedPlaces s (take n places)
 SortedTo s places (S.Repeated p) = (p ≤ length s) × ((base : ℕ) (next : Outcome) → unrepeated [] (base + 4) (records s) next ≡ refuses 13 (base + p))

@@ -22,7 +22,7 @@ good c = sym (c .before .is-good .ensures) ∙ not-false _ (c .if1 .left)
 
 -- what was found
 list : (c : tie.After-struct-known) → Listing (now (c .before .before .before .before .before .before .before .before .before .before .before .args .message)) (c .before .before .found .given .0 .0) (c .before .before .found .given .0 .1 .0)
-list c = found-list (now (c .before .before .before .before .before .before .before .before .before .before .before .args .message)) (c .before .before .before .before .find .ensures) (c .before .before .found .given .1)
+list c = found-list (now (c .before .before .before .before .before .before .before .before .before .before .before .args .message)) (c .before .before .before .before .read-index .ensures) (c .before .before .found .given .1)
 
 -- whether its Repository is the one expected
 repository : (c : tie.After-is-equal) → c .is-equal .result ≡ isEqual (compareLists (list (c .before .before .before) .sent .0) (now (c .before .before .before .before .before .before .before .before .before .before .before .before .before .before .args .repository)))
@@ -40,8 +40,8 @@ refused-requires c κs = search needs
 returns : tie.Need-returns
 returns c = let a = c .before .before .before .before .before .before .before .args in fills-refused (now (a .out)) (old-bad (now (a .old)) (now (a .message)) (now (a .repository)) (sym (c .before .before .is-good .ensures) ∙ not-true _ (c .before .if1 .taken))) (c .refused .ensures)
 
-find-requires : tie.Need-find-requires
-find-requires c κs = search needs
+read-index-requires : tie.Need-read-index-requires
+read-index-requires c κs = search needs
 
 enum-known-found : tie.Need-enum-known-found
 enum-known-found c = search needs
@@ -53,7 +53,7 @@ refusal-requires : tie.Need-refusal-requires
 refusal-requires c κs = search needs
 
 returns-2 : tie.Need-returns-2
-returns-2 c = let a = c .before .before .before .before .before .before .before .before .before .before .args in fills-refused (now (a .out)) (message-refused (now (a .old)) (now (a .message)) (now (a .repository)) (good (c .before .before .before .before)) (c .before .before .before .find .ensures) (c .before .enum-told .given .1) (c .refusal .ensures)) refl
+returns-2 c = let a = c .before .before .before .before .before .before .before .before .before .before .args in fills-refused (now (a .out)) (message-refused (now (a .old)) (now (a .message)) (now (a .repository)) (good (c .before .before .before .before)) (c .before .before .before .read-index .ensures) (c .before .enum-told .given .1) (c .refusal .ensures)) refl
 
 add-stop : tie.Need-add-stop
 add-stop c = omega (arith, c .before .before .before .before .before .before .before .before .before .before .before .good, repository-fits (λ i. c .before .before .before .before .before .before .before .before .before .shared-slice-known2 .given i .fits) (list c))
@@ -107,7 +107,7 @@ accept-spec =
     is-good-requires
     refused-requires
     returns
-    find-requires
+    read-index-requires
     enum-known-found
     enum-told
     refusal-requires

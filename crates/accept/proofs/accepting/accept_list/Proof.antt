@@ -6,7 +6,7 @@ use denote.Ref.{now}
 use lib.ListN.{length, take}
 use Rattle.xdr.proofs.FillingLaws.{fills-refused, fills-same}
 use Rattle.table.specs.Table.{resultingTable}
-use Rattle.accept.specs.Steps.Sorted.{resultOf, InOrder, SortedTo}
+use Rattle.accept.specs.Steps.Sorted.{resultOf, SortedPlaces, SortedTo}
 use Rattle.accept.specs.declared.accepting.Sorting.the-variants.{Sorted, Repeated}
 use borrow.Author.Needs.{needs}
 use Rattle.accept.proofs.accepting.accept_list.Statement.{statement}
@@ -47,7 +47,7 @@ part-fill-end c = omega (arith, ordered (c .before) .0)
 fill-requires : tie.Need-fill-requires
 fill-requires c κs =
     let same : c .before .before .before .before .n .given .0 .0 ≡ c .before .before .before .before .n .given .0 .0 - 0 = omega arith in
-    (subst (λ (n : ℕ). InOrder (now (c .before .before .before .before .before .before .before .before .before .before .before .before .args .s)) (take n (c .before .before .before .before .before .before .before .sort .last .1 .0))) same (ordered (c .before .before .before) .1), c .before .before .before .before .before .before .before .before .before .before .before .before .pre .1)
+    (subst (λ (n : ℕ). SortedPlaces (now (c .before .before .before .before .before .before .before .before .before .before .before .before .args .s)) (take n (c .before .before .before .before .before .before .before .sort .last .1 .0))) same (ordered (c .before .before .before) .1), c .before .before .before .before .before .before .before .before .before .before .before .before .pre .1)
 
 returns : tie.Need-returns
 returns c =

@@ -4,8 +4,8 @@ use mathlib.Core.Path.{refl}
 use denote.Ref.{now}
 use Rattle.record.specs.Outline.{blockPlace}
 use Rattle.table.specs.Table.{records}
-use Rattle.want.specs.Blocks.{blockHere}
-use Rattle.want.specs.Places.{tableAt, peerAt}
+use Rattle.want.specs.Steps.Blocks.{blockHere}
+use Rattle.want.specs.Steps.Places.{tableAt, peerAt}
 use Rattle.want.proofs.PlaceLaws.{element}
 use Rattle.want.proofs.EntryLaws.{good-first, held-first, wanted-same, block-held, room-wanted, block-wanted}
 use borrow.Author.Needs.{needs}

@@ -1,6 +1,6 @@
 -- `want::places::is_first` meets its contract.
 use mathlib.Core.Path.{sym, ap, _∙_}
-use Rattle.want.specs.Places.{isFirst}
+use Rattle.want.specs.Steps.Places.{isFirst}
 use borrow.Author.Needs.{needs}
 use Rattle.want.proofs.places.is_first.Statement.{statement}
 use Rattle.want.proofs.places.is_first.Tie as tie

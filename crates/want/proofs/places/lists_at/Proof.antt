@@ -4,7 +4,7 @@ use mathlib.Core.Path.{ap, _∙_}
 use native.Mathlib.Omega.{arith}
 use denote.Ref.{now}
 use Rattle.want.specs.Listing.{hasThere, blockWith}
-use Rattle.want.specs.Blocks.{blocksFrom}
+use Rattle.want.specs.Steps.Blocks.{blocksFrom}
 use Rattle.want.proofs.ThereLaws.{outline-inside, lists-none, lists-by}
 use borrow.Author.Needs.{needs}
 use Rattle.want.proofs.places.lists_at.Statement.{statement}

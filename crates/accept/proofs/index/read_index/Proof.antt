@@ -1,9 +1,9 @@
--- `accept::found::find` meets its contract.
+-- `accept::index::read_index` meets its contract.
 use mathlib.Core.Path.{sym, ap, _∙_}
-use Rattle.accept.specs.Steps.Found.{foundIn}
+use Rattle.accept.specs.Steps.Index.{indexIn}
 use borrow.Author.Needs.{needs}
-use Rattle.accept.proofs.found.find.Statement.{statement}
-use Rattle.accept.proofs.found.find.Tie as tie
+use Rattle.accept.proofs.index.read_index.Statement.{statement}
+use Rattle.accept.proofs.index.read_index.Tie as tie
 
 read-requires : tie.Need-read-requires
 read-requires c κs = search needs
@@ -48,31 +48,31 @@ enum-known-r : tie.Need-enum-known-r
 enum-known-r c = search needs
 
 returns : tie.Need-returns
-returns c = ap foundIn (sym (c .before .x .given .1) ∙ c .before .before .before .read .ensures)
+returns c = ap indexIn (sym (c .before .x .given .1) ∙ c .before .before .before .read .ensures)
 
 returns-2 : tie.Need-returns-2
-returns-2 c = c .other .ensures ∙ ap foundIn (sym (c .before .enum-told .given .1) ∙ c .before .before .before .read .ensures)
+returns-2 c = c .other .ensures ∙ ap indexIn (sym (c .before .enum-told .given .1) ∙ c .before .before .before .read .ensures)
 
 returns-3 : tie.Need-returns-3
-returns-3 c = c .other2 .ensures ∙ ap foundIn (sym (c .before .enum-told2 .given .1) ∙ c .before .before .before .read .ensures)
+returns-3 c = c .other2 .ensures ∙ ap indexIn (sym (c .before .enum-told2 .given .1) ∙ c .before .before .before .read .ensures)
 
 returns-4 : tie.Need-returns-4
-returns-4 c = c .other3 .ensures ∙ ap foundIn (sym (c .before .enum-told3 .given .1) ∙ c .before .before .before .read .ensures)
+returns-4 c = c .other3 .ensures ∙ ap indexIn (sym (c .before .enum-told3 .given .1) ∙ c .before .before .before .read .ensures)
 
 returns-5 : tie.Need-returns-5
-returns-5 c = c .other4 .ensures ∙ ap foundIn (sym (c .before .enum-told4 .given .1) ∙ c .before .before .before .read .ensures)
+returns-5 c = c .other4 .ensures ∙ ap indexIn (sym (c .before .enum-told4 .given .1) ∙ c .before .before .before .read .ensures)
 
 returns-6 : tie.Need-returns-6
-returns-6 c = ap foundIn (sym (c .before .x2 .given .1) ∙ c .before .before .before .read .ensures)
+returns-6 c = ap indexIn (sym (c .before .x2 .given .1) ∙ c .before .before .before .read .ensures)
 
 returns-7 : tie.Need-returns-7
-returns-7 c = c .other5 .ensures ∙ ap foundIn (sym (c .before .enum-told5 .given .1) ∙ c .before .before .before .read .ensures)
+returns-7 c = c .other5 .ensures ∙ ap indexIn (sym (c .before .enum-told5 .given .1) ∙ c .before .before .before .read .ensures)
 
 returns-8 : tie.Need-returns-8
-returns-8 c = ap foundIn (sym (c .before .r .given .1) ∙ c .before .before .before .read .ensures)
+returns-8 c = ap indexIn (sym (c .before .r .given .1) ∙ c .before .before .before .read .ensures)
 
-pub find-spec : {M : Type 1} → statement M
-find-spec =
+pub read-index-spec : {M : Type 1} → statement M
+read-index-spec =
     tie.close
     (tie.spec
     read-requires

@@ -1,9 +1,9 @@
--- `accept::found::Found::refusal` meets its contract: by the variant that it is.
+-- `accept::index::Index::refusal` meets its contract: by the variant that it is.
 use mathlib.Core.Path.{sym, ap}
-use Rattle.accept.specs.Steps.Found.{foundRefusal}
+use Rattle.accept.specs.Steps.Index.{indexRefusal}
 use borrow.Author.Needs.{needs}
-use Rattle.accept.proofs.found.Found.refusal.Statement.{statement}
-use Rattle.accept.proofs.found.Found.refusal.Tie as tie
+use Rattle.accept.proofs.index.Index.refusal.Statement.{statement}
+use Rattle.accept.proofs.index.Index.refusal.Tie as tie
 
 enum-told : tie.Need-enum-told
 enum-told c = search needs
@@ -12,7 +12,7 @@ enum-known-self : tie.Need-enum-known-self
 enum-known-self c = search needs
 
 returns : tie.Need-returns
-returns c = ap foundRefusal (sym (c .enum-told .given .1))
+returns c = ap indexRefusal (sym (c .enum-told .given .1))
 
 returns-2 : tie.Need-returns-2
 returns-2 c = search needs

@@ -17,7 +17,7 @@ use Rattle.merge.specs.Steps.Next.{nextOf}
 use Rattle.merge.specs.declared.next.Next.{Next}
 use Rattle.merge.specs.declared.next.Next.the-variants.{End, More}
 use Rattle.want.specs.Listing.{isHeld, hasThere}
-use Rattle.want.specs.Blocks.{blockHere, blocksFrom, listedCount}
+use Rattle.want.specs.Steps.Blocks.{blockHere, blocksFrom, listedCount}
 use Rattle.want.specs.Wanted.{wantedBlock, wantedBlocks, requestList}
 use Rattle.want.specs.declared.list.Wanted.{Wanted}
 
