@@ -27,10 +27,10 @@ use Rattle.table.specs.Table.{table, isGood, records, tableOf}
 use Rattle.table.specs.Steps.Standing.{AllValid}
 use Rattle.table.proofs.TableLaws.{valid-parts, array-records}
 use Rattle.accept.specs.Accepting.{ofRecords, ofIndex, ofKind, ofReading, acceptOutcome}
-use Rattle.accept.specs.Steps.Index.{indexIn, indexRefusal}
+use Rattle.message.specs.Kinds.{indexIn, indexRefusal}
 use Rattle.accept.specs.Steps.Sorted.{IsArray, ofArray}
-use Rattle.accept.specs.declared.index.Index.{Index}
-use Rattle.accept.specs.declared.index.Index.the-variants as F
+use Rattle.message.specs.declared.kind.IndexIn.{IndexIn}
+use Rattle.message.specs.declared.kind.IndexIn.the-variants as F
 
 -- what was found of a body of some kind
 record Body-found (k : Kind) (b : Body k) (next : ℕ) (m : List ℕ) (update : Bool) (x : IndexSpan) : Type 0 where
@@ -65,7 +65,7 @@ pub record Listing (m : List ℕ) (update : Bool) (x : IndexSpan) : Type 0 where
   pub reads : Reads index m 4 (taken sent next)
   pub span : x ≡ indexSpan sent next
 
-pub found-list : (m : List ℕ) {f : Index} {update : Bool} {x : IndexSpan} → f ≡ indexIn (messageAnswer (readAt message m 0)) → f ≡ F.Taken update x → Listing m update x
+pub found-list : (m : List ℕ) {f : IndexIn} {update : Bool} {x : IndexSpan} → f ≡ indexIn (messageAnswer (readAt message m 0)) → f ≡ F.Taken update x → Listing m update x
 found-list m {f} {update} {x} e q = go (readAt message m 0) refl
   where
     go : (r : Reading Sent) → readAt message m 0 ≡ r → Listing m update x
@@ -86,7 +86,7 @@ found-list m {f} {update} {x} e q = go (readAt message m 0) refl
 -- a refusal
 
 other : {r : Refusal} → F.Refused (record { number = 18; place = 0 }) ≡ F.Refused r → refuses 18 0 ≡ refuses (r .number) (r .place)
-other e = ap (λ (u : Index). refuses (indexRefusal u .number) (indexRefusal u .place)) e
+other e = ap (λ (u : IndexIn). refuses (indexRefusal u .number) (indexRefusal u .place)) e
 
 body-refused : (k : Kind) (b : Body k) (id next : ℕ) {r : Refusal} → indexIn (bodyAnswer k id (taken b next)) ≡ F.Refused r
     → (old expected : List ℕ) → ofKind old expected k b ≡ refuses (r .number) (r .place)
@@ -98,7 +98,7 @@ body-refused isPong b id next e old expected = other e
 body-refused isIndexUpdate b id next e old expected = no-refusal e
 body-refused isOptions b id next e old expected = other e
 
-found-refused : (m : List ℕ) {f : Index} {r g : Refusal} → f ≡ indexIn (messageAnswer (readAt message m 0)) → f ≡ F.Refused r → g ≡ indexRefusal f
+found-refused : (m : List ℕ) {f : IndexIn} {r g : Refusal} → f ≡ indexIn (messageAnswer (readAt message m 0)) → f ≡ F.Refused r → g ≡ indexRefusal f
     → (old expected : List ℕ) → ofReading old expected (readAt message m 0) ≡ refuses (g .number) (g .place)
 found-refused m {f} {r} {g} e q s old expected = go (readAt message m 0) refl ∙ ap (λ (u : Refusal). refuses (u .number) (u .place)) (sym (s ∙ ap indexRefusal q))
   where
@@ -108,7 +108,7 @@ found-refused m {f} {r} {g} e q s old expected = go (readAt message m 0) refl �
         ∙ body-refused (kindOf (typeOf (v .0))) (v .1) (idOf (v .0)) next (ap (λ (x : Reading Sent). indexIn (messageAnswer x)) (sym h) ∙ sym e ∙ q) old expected
     go (unread k p) h =
         ap (ofReading old expected) h
-        ∙ ap (λ (u : Index). refuses (indexRefusal u .number) (indexRefusal u .place)) (ap (λ (x : Reading Sent). indexIn (messageAnswer x)) (sym h) ∙ sym e ∙ q)
+        ∙ ap (λ (u : IndexIn). refuses (indexRefusal u .number) (indexRefusal u .place)) (ap (λ (x : Reading Sent). indexIn (messageAnswer x)) (sym h) ∙ sym e ∙ q)
 
 -- an array that was read at a place
 
@@ -200,7 +200,7 @@ module _ (old m expected : List ℕ) where
   unfolding acceptOutcome
   old-bad e = rw e refl
 
-  pub message-refused : {f : Index} {r g : Refusal} → isGood old ≡ true → f ≡ indexIn (messageAnswer (readAt message m 0)) → f ≡ F.Refused r → g ≡ indexRefusal f
+  pub message-refused : {f : IndexIn} {r g : Refusal} → isGood old ≡ true → f ≡ indexIn (messageAnswer (readAt message m 0)) → f ≡ F.Refused r → g ≡ indexRefusal f
       → acceptOutcome old m expected ≡ refuses (g .number) (g .place)
   unfolding acceptOutcome
   message-refused h e q s = rw h (found-refused m e q s old expected)

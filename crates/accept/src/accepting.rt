@@ -4,12 +4,12 @@ ghost use mathlib.Core.Bool.{true, cond};
 ghost use Prim.Native.Nat.{_+_, _<_};
 ghost use lib.ListN.{length};
 ghost use Rattle.xdr.specs.Filling.{Fills};
+ghost use Rattle.message.specs.Answers.{said};
+ghost use Rattle.message.specs.Kinds.{indexIn};
 ghost use Rattle.table.specs.Table.{isGood, resultingTable};
 ghost use Rattle.merge.specs.Steps.Notes.{Noted};
 ghost use Rattle.accept.specs.Accepting.{acceptOutcome};
 ghost use Rattle.accept.specs.Steps.Sorted.{IsArray, resultOf, ofArray, insertedAt, SortedPlaces, SortedTo};
-use crate::index::Index;
-use crate::index::read_index;
 use crate::next::next_at;
 use crate::next::place_of;
 use crate::next::taken_by;
@@ -19,6 +19,7 @@ use merge::next::Next;
 use merge::notes::Size;
 use merge::notes::note;
 use merge::notes::put_table;
+use message::IndexIn;
 use record::Outline;
 use xdr::Filling;
 use xdr::Refusal;
@@ -124,6 +125,13 @@ fn accept_list(s: &[u8], start: usize, old: &[u8], update: bool, out: &mut [u8])
     }
 }
 
+// The Index or IndexUpdate at the front of some bytes.
+fn read_index(s: &[u8]) -> IndexIn
+    ensures { λ r. ⌜ r ≡ indexIn (said (now (s .entry))) ⌝ }
+{
+    message::index_in(message::read(s))
+}
+
 // The sender's new table: of the records of an Index, or of an IndexUpdate and the old records that it doesn't mention, in the first bytes of
 // the buffer.
 pub fn accept(old: &[u8], message: &[u8], repository: &[u8], out: &mut [u8]) -> Filling
@@ -133,7 +141,7 @@ pub fn accept(old: &[u8], message: &[u8], repository: &[u8], out: &mut [u8]) -> 
         return xdr::refused(15);
     }
     let found = read_index(message);
-    let Index::Taken(update, x) = found else {
+    let IndexIn::Taken(update, x) = found else {
         return Filling::Refused(found.refusal());
     };
     let stop = x.repository.start + x.repository.length;

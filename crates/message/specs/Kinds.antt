@@ -1,6 +1,7 @@
 -- The message of the type that a call takes: another type is refused with 18, and a refused reading as it is.
 use mathlib.Core.Bool.{true, false}
 use Rattle.xdr.specs.Answers.{atStart}
+use Rattle.xdr.specs.declared.answer.Refusal.{Refusal}
 use Rattle.message.specs.declared.answer.Message.{Message}
 use Rattle.message.specs.declared.answer.Message.the-variants as M
 use Rattle.message.specs.declared.kind.IndexIn.{IndexIn}
@@ -20,6 +21,11 @@ indexIn (M.Pong id end) = I.Refused (atStart 18)
 indexIn (M.IndexUpdate id x) = I.Taken true x
 indexIn (M.Options id x) = I.Refused (atStart 18)
 indexIn (M.Refused r) = I.Refused r
+
+-- the refusal, or number 0 where there is none
+abbrev pub indexRefusal : IndexIn → Refusal
+indexRefusal (I.Taken update x) = atStart 0
+indexRefusal (I.Refused r) = r
 
 -- a Request with its ID
 abbrev pub requestIn : Message → RequestIn

@@ -1,6 +1,6 @@
 // The message of the type that a call takes: another type is refused with 18, and a refused reading as it is.
 ghost use mathlib.Core.Path.{_≡_};
-ghost use Rattle.message.specs.Kinds.{indexIn, requestIn, responseIn};
+ghost use Rattle.message.specs.Kinds.{indexIn, indexRefusal, requestIn, responseIn};
 use crate::answer::IndexSpan;
 use crate::answer::Message;
 use crate::answer::RequestSpan;
@@ -11,6 +11,21 @@ use xdr::Refusal;
 pub enum IndexIn {
     Taken(bool, IndexSpan),
     Refused(Refusal),
+}
+
+impl IndexIn {
+    // The refusal, or number 0 where there is none.
+    pub fn refusal(self) -> Refusal
+        ensures { λ r. ⌜ r ≡ indexRefusal self ⌝ }
+    {
+        match self {
+            IndexIn::Taken(_, _) => Refusal {
+                number: 0,
+                place: 0,
+            },
+            IndexIn::Refused(r) => r,
+        }
+    }
 }
 
 // A Request with its ID, or a refusal.

@@ -1,9 +1,9 @@
--- `accept::index::Index::refusal` meets its contract: by the variant that it is.
+-- `message::kind::IndexIn::refusal` meets its contract: by the variant that it is.
 use mathlib.Core.Path.{sym, ap}
-use Rattle.accept.specs.Steps.Index.{indexRefusal}
+use Rattle.message.specs.Kinds.{indexRefusal}
 use borrow.Author.Needs.{needs}
-use Rattle.accept.proofs.index.Index.refusal.Statement.{statement}
-use Rattle.accept.proofs.index.Index.refusal.Tie as tie
+use Rattle.message.proofs.kind.IndexIn.refusal.Statement.{statement}
+use Rattle.message.proofs.kind.IndexIn.refusal.Tie as tie
 
 enum-told : tie.Need-enum-told
 enum-told c = search needs
