@@ -12,7 +12,10 @@ use Rattle.xdr.specs.Reading.{Reading, taken, refused, shifted}
 use Rattle.xdr.specs.Number.{IsBytes}
 use Rattle.xdr.specs.Format.{read, readAt, encode, Valid}
 use Rattle.xdr.specs.Fields.{word}
-use Rattle.xdr.specs.Buffer.{filled}
+use Rattle.xdr.specs.Filling.{Outcome, gives, refuses, inRoom, fillingAnswer, bufferAfter, Fills}
+use Rattle.xdr.specs.declared.answer.Refusal.{Refusal}
+use Rattle.xdr.specs.declared.filling.Filling.{Filling}
+use Rattle.xdr.specs.declared.filling.Filling.the-variants as F
 use Rattle.xdr.proofs.Steps.{shifted-zero}
 use Rattle.xdr.proofs.Corollaries.{read-exactly}
 use Rattle.xdr.proofs.RoundTrip.{round}
@@ -23,8 +26,8 @@ use Rattle.message.specs.Limits.{idLimit}
 use Rattle.message.specs.Header.{headerOf, versionOf, reservedOf, idOf, typeOf, header}
 use Rattle.message.specs.Message.{Kind, isIndex, isRequest, isResponse, isPing, isPong, isIndexUpdate, isOptions, kindOf, Body, body, Sent, message}
 use Rattle.message.specs.Answers.{bodyAnswer, messageAnswer, said}
-use Rattle.message_write.specs.Writing.{messageBytes, fitted, writing, writtenBuffer}
-use Rattle.promises.specs.Fields.{fieldBytes}
+use Rattle.message_write.specs.Writing.{messageBytes, asRead, writing}
+use Rattle.message_write.specs.Fields.{fieldBytes}
 
 -- what a writer is given for a body is the body's encoding
 given : (k : Kind) (b : Body k) → fieldBytes k b ≡ encode (body k) b
@@ -55,16 +58,16 @@ header-again h v =
     (omega arith, omega arith)
 
 -- writing, where the bytes that would be written are read as a message
-accepted : (id type : ℕ) (b : List ℕ) (room : ℕ) (m : Sent) (n : ℕ) → id ≤ 4095 → read message (messageBytes id type b) ≡ taken m n → n ≤ room
-    → writing id type b room ≡ taken (take n (messageBytes id type b)) n
+accepted : (id type : ℕ) (b : List ℕ) (m : Sent) (n : ℕ) → id ≤ 4095 → read message (messageBytes id type b) ≡ taken m n
+    → writing message id type b ≡ gives (take n (messageBytes id type b))
 unfolding writing
-accepted id type b room m n h e r = simp (le-leb id 4095 h, e, le-leb n room r)
+accepted id type b m n h e = simp (le-leb id 4095 h, e)
 
--- what was read is written back as the same bytes, into any room that is large enough, whatever follows the arrays that are given
-pub read-writes-back : (s : List ℕ) (m : Sent) (n room : ℕ) (t : List ℕ) → IsBytes s → read message s ≡ taken m n → n ≤ room
-    → writing (idOf (m .0)) (typeOf (m .0)) (fieldBytes (kindOf (typeOf (m .0))) (m .1) ++ t) room ≡ taken (take n s) n
+-- what was read is written back as the same bytes, whatever follows the arrays that are given
+pub read-writes-back : (s : List ℕ) (m : Sent) (n : ℕ) (t : List ℕ) → IsBytes s → read message s ≡ taken m n
+    → writing message (idOf (m .0)) (typeOf (m .0)) (fieldBytes (kindOf (typeOf (m .0))) (m .1) ++ t) ≡ gives (take n s)
 unfolding Valid encode
-read-writes-back s m n room t b e h =
+read-writes-back s m n t b e =
     let q = read-exactly message s m n b e in
     let hd = header-again (m .0) (q .1 .0) in
     let M : List ℕ = messageBytes (idOf (m .0)) (typeOf (m .0)) (fieldBytes (kindOf (typeOf (m .0))) (m .1) ++ t) in
@@ -72,29 +75,34 @@ read-writes-back s m n room t b e h =
     let within-s : n ≤ length s = rw e at (within message s) in
     let long : length (encode message m) ≡ n = ap length (q .0) ∙ length-take-le n s within-s in
     let again : read message M ≡ taken m n = ap (read message) same ∙ round message m t (q .1) ∙ ap (λ (k : ℕ). taken m k) long in
-    accepted (idOf (m .0)) (typeOf (m .0)) (fieldBytes (kindOf (typeOf (m .0))) (m .1) ++ t) room m n (hd .1) again h
-    ∙ ap (λ (l : List ℕ). taken l n) (ap (take n) same ∙ take-at (encode message m) t n long ∙ q .0)
+    accepted (idOf (m .0)) (typeOf (m .0)) (fieldBytes (kindOf (typeOf (m .0))) (m .1) ++ t) m n (hd .1) again
+    ∙ ap gives (ap (take n) same ∙ take-at (encode message m) t n long ∙ q .0)
 
--- writing that is accepted: the bytes that would be written are read as a message, and as many of them as it takes are written
-accepted-by : (id type : ℕ) (b : List ℕ) (room : ℕ) (l : List ℕ) (n : ℕ) → writing id type b room ≡ taken l n
-    → (m : Sent) × (read message (messageBytes id type b) ≡ taken m n) × (l ≡ take n (messageBytes id type b))
+-- writing that is accepted: the ID is in its limit, the bytes that would be written are read as a message, and as many of them as it takes are written
+record Accepted (id type : ℕ) (b l : List ℕ) : Type 0 where
+  low : id ≤ 4095
+  says : Sent
+  reads : read message (messageBytes id type b) ≡ taken says (length l)
+  bytes : l ≡ take (length l) (messageBytes id type b)
+
+accepted-by : (id type : ℕ) (b l : List ℕ) → writing message id type b ≡ gives l → Accepted id type b l
 unfolding writing
-accepted-by id type b room l n e = by-id (leb id idLimit) e
+accepted-by id type b l e = by-id (leb id idLimit) refl e
   where
     M : List ℕ
     M = messageBytes id type b
 
-    by-room : (m : Sent) (k : ℕ) (c : Bool) → cond c (taken (take k M) k) (refused 14 0) ≡ taken l n → (k ≡ n) × (l ≡ take n M)
-    by-room m k true e = let same : k ≡ n = cc in (same, sym (cc) ∙ ap (λ (i : ℕ). take i M) same)
-    by-room m k false e = let z : _≡_ {A = ℕ} 0 1 = cc in absurd (omega arith)
+    by-reading : id ≤ 4095 → (r : Reading Sent) → read message M ≡ r → asRead M r ≡ gives l → Accepted id type b l
+    by-reading h (taken m k) q e =
+        let w : take k M ≡ l = cc in
+        let room : k ≤ length M = rw q at (within message M) in
+        let long : k ≡ length l = sym (length-take-le k M room) ∙ ap length w in
+        record { low = h; says = m; reads = q ∙ ap (λ (i : ℕ). taken m i) long; bytes = sym w ∙ ap (λ (i : ℕ). take i M) long }
+    by-reading h (refused k p) q e = let z : _≡_ {A = ℕ} 0 1 = cc in absurd (omega arith)
 
-    by-reading : (r : Reading Sent) → read message M ≡ r → fitted room M r ≡ taken l n → (m : Sent) × (read message M ≡ taken m n) × (l ≡ take n M)
-    by-reading (taken m k) q e = let w = by-room m k (leb k room) e in (m, q ∙ ap (λ (i : ℕ). taken m i) (w .0), w .1)
-    by-reading (refused k p) q e = let z : _≡_ {A = ℕ} 0 1 = cc in absurd (omega arith)
-
-    by-id : (c : Bool) → cond c (fitted room M (read message M)) (refused 5 0) ≡ taken l n → (m : Sent) × (read message M ≡ taken m n) × (l ≡ take n M)
-    by-id true e = by-reading (read message M) refl e
-    by-id false e = let z : _≡_ {A = ℕ} 0 1 = cc in absurd (omega arith)
+    by-id : (c : Bool) → leb id idLimit ≡ c → cond c (asRead M (read message M)) (refuses 5 0) ≡ gives l → Accepted id type b l
+    by-id true q e = by-reading (leb-true id idLimit q) (read message M) refl e
+    by-id false q e = let z : _≡_ {A = ℕ} 0 1 = cc in absurd (omega arith)
 
 wide-file : Wide file
 unfolding Wide
@@ -114,60 +122,66 @@ wide-message : Wide message
 unfolding Wide
 wide-message = (omega arith, λ h. wide-body (kindOf (typeOf h)))
 
--- what was written reads back as the same fields and the same length, whatever follows it
-pub written-reads-back : (id type : ℕ) (b : Body (kindOf (typeOf (headerOf id type)))) (t : List ℕ) (room : ℕ) (l : List ℕ) (n : ℕ)
-    → writing id type (fieldBytes (kindOf (typeOf (headerOf id type))) b ++ t) room ≡ taken l n
-    → (u : List ℕ) → read message (l ++ u) ≡ taken (headerOf id type, b) n
-written-reads-back id type b t room l n e u =
-    let x : Sent = (headerOf id type, b) in
-    let q = accepted-by id type (fieldBytes (kindOf (typeOf (headerOf id type))) b ++ t) room l n e in
+-- what was written reads back as the same fields, whatever follows it
+pub written-reads-back : (id type : ℕ) (b : Body (kindOf (typeOf (headerOf id type)))) (t l : List ℕ)
+    → writing message id type (fieldBytes (kindOf (typeOf (headerOf id type))) b ++ t) ≡ gives l
+    → (u : List ℕ) → read message (l ++ u) ≡ taken (headerOf id type, b) (length l)
+written-reads-back id type b t l e u =
+    let q = accepted-by id type (fieldBytes (kindOf (typeOf (headerOf id type))) b ++ t) l e in
     let same = given-whole id type (headerOf id type) b t refl in
-    go (readBack message x) refl (told message x wide-message .fate) (q .0)
-    (sym (told message x wide-message .reads t) ∙ ap (read message) (sym same) ∙ q .1) (q .2 ∙ ap (take n) same)
+    go (readBack message x) refl (told message x wide-message .fate) (q .says)
+    (sym (told message x wide-message .reads t) ∙ ap (read message) (sym same) ∙ q .reads) (q .bytes ∙ ap (take (length l)) same)
   where
     x : Sent
     x = (headerOf id type, b)
 
-    go : (r : Reading Sent) → readBack message x ≡ r → Fate x (length (encode message x)) r → (m : Sent) → readBack message x ≡ taken m n
-        → l ≡ take n (encode message x ++ t) → read message (l ++ u) ≡ taken x n
+    go : (r : Reading Sent) → readBack message x ≡ r → Fate x (length (encode message x)) r → (m : Sent) → readBack message x ≡ taken m (length l)
+        → l ≡ take (length l) (encode message x ++ t) → read message (l ++ u) ≡ taken x (length l)
     go r p whole m e f =
-        let long : length (encode message x) ≡ n = cc in
-        let bytes : l ≡ encode message x = f ∙ take-at (encode message x) t n long in
+        let long : length (encode message x) ≡ length l = cc in
+        let bytes : l ≡ encode message x = f ∙ take-at (encode message x) t (length l) long in
         ap (λ (y : List ℕ). read message (y ++ u)) bytes ∙ told message x wide-message .reads u ∙ p ∙ ap (λ (k : ℕ). taken x k) long
     go r p (fault k j) m e f = let z : _≡_ {A = ℕ} 0 1 = cc in absurd (omega arith)
 
 -- its ID and its type are those that were given
-pub written-header : (id type : ℕ) (b : List ℕ) (room : ℕ) (l : List ℕ) (n : ℕ) → type ≤ 7 → writing id type b room ≡ taken l n
-    → (idOf (headerOf id type) ≡ id) × (typeOf (headerOf id type) ≡ type)
-unfolding writing
-written-header id type b room l n h = by-id (leb id idLimit) refl
-  where
-    by-id : (c : Bool) → leb id idLimit ≡ c → cond c (fitted room (messageBytes id type b) (read message (messageBytes id type b))) (refused 5 0) ≡ taken l n
-        → (idOf (headerOf id type) ≡ id) × (typeOf (headerOf id type) ≡ type)
-    by-id true q e = let small = leb-true id idLimit q in (omega arith, omega arith)
-    by-id false q e = let z : _≡_ {A = ℕ} 0 1 = cc in absurd (omega arith)
+pub written-header : (id type : ℕ) (b l : List ℕ) → type ≤ 7 → writing message id type b ≡ gives l → (idOf (headerOf id type) ≡ id) × (typeOf (headerOf id type) ≡ type)
+written-header id type b l h e = let small = accepted-by id type b l e .low in (omega arith, omega arith)
 
 -- so reading it answers the ID and the kind that were given, with the spans of their fields
-pub written-answers : (id type : ℕ) (b : Body (kindOf type)) (t : List ℕ) (room : ℕ) (l : List ℕ) (n : ℕ) → type ≤ 7
-    → writing id type (fieldBytes (kindOf type) b ++ t) room ≡ taken l n
-    → (u : List ℕ) → said (l ++ u) ≡ bodyAnswer (kindOf type) id (taken b n)
+pub written-answers : (id type : ℕ) (b : Body (kindOf type)) (t l : List ℕ) → type ≤ 7 → writing message id type (fieldBytes (kindOf type) b ++ t) ≡ gives l
+    → (u : List ℕ) → said (l ++ u) ≡ bodyAnswer (kindOf type) id (taken b (length l))
 unfolding readAt
-written-answers id type b t room l n h e u =
-    let q = written-header id type (fieldBytes (kindOf type) b ++ t) room l n h e in
-    subst Answers (q .1) (λ b e. ap messageAnswer (shifted-zero (read message (l ++ u)) ∙ written-reads-back id type b t room l n e u) ∙ ap (λ (i : ℕ). bodyAnswer (kindOf (typeOf (headerOf id type))) i (taken b n)) (q .0)) b e
+written-answers id type b t l h e u =
+    let q = written-header id type (fieldBytes (kindOf type) b ++ t) l h e in
+    subst Answered (q .1) (λ b e. ap messageAnswer (shifted-zero (read message (l ++ u)) ∙ written-reads-back id type b t l e u) ∙ ap (λ (i : ℕ). bodyAnswer (kindOf (typeOf (headerOf id type))) i (taken b (length l))) (q .0)) b e
   where
-    Answers : ℕ → Type 0
-    Answers k = (b : Body (kindOf k)) → writing id type (fieldBytes (kindOf k) b ++ t) room ≡ taken l n → messageAnswer (shifted 0 (read message (l ++ u))) ≡ bodyAnswer (kindOf k) id (taken b n)
+    Answered : ℕ → Type 0
+    Answered k = (b : Body (kindOf k)) → writing message id type (fieldBytes (kindOf k) b ++ t) ≡ gives l
+        → messageAnswer (shifted 0 (read message (l ++ u))) ≡ bodyAnswer (kindOf k) id (taken b (length l))
 
--- an accepted writing changes only the first bytes of the buffer, as many as it reports; a refused one changes none
-pub only-first-bytes : (id type : ℕ) (b out l : List ℕ) (n : ℕ) → writing id type b (length out) ≡ taken l n
-    → (length l ≡ n) × (take n (writtenBuffer out (writing id type b (length out))) ≡ l) × (drop n (writtenBuffer out (writing id type b (length out))) ≡ drop n out)
-only-first-bytes id type b out l n e =
-    let q = accepted-by id type b (length out) l n e in
-    let room : n ≤ length (messageBytes id type b) = rw (q .1) at (within message (messageBytes id type b)) in
-    let long : length l ≡ n = ap length (q .2) ∙ length-take-le n (messageBytes id type b) room in
-    let held : writtenBuffer out (writing id type b (length out)) ≡ filled out l = ap (writtenBuffer out) e in
-    (long, ap (take n) held ∙ take-at l (drop (length l) out) n long, ap (drop n) held ∙ drop-at l (drop (length l) out) n long ∙ ap (λ (k : ℕ). drop k out) long)
+-- a call that fills a buffer changes only its first bytes, as many as it reports; a refused one changes none
+pub only-first-bytes : {x : Outcome} {out after : List ℕ} {answer : Filling} {n : ℕ} → Fills x out answer after → answer ≡ F.Filled n
+    → (x ≡ gives (take n after)) × (drop n after ≡ drop n out)
+only-first-bytes {x} {out} {after} {answer} {n} p e = go x refl
+  where
+    by-room : (l : List ℕ) → x ≡ gives l → (c : Bool) → F.Filled n ≡ fillingAnswer (cond c (gives l) (refuses 14 0)) → after ≡ bufferAfter (cond c (gives l) (refuses 14 0)) out
+        → (x ≡ gives (take n after)) × (drop n after ≡ drop n out)
+    by-room l q true f g =
+        let long : length l ≡ n = cc in
+        (q ∙ ap gives (sym (ap (take n) g ∙ take-at l (drop (length l) out) n long)), ap (drop n) g ∙ drop-at l (drop (length l) out) n long ∙ ap (λ (k : ℕ). drop k out) long)
+    by-room l q false f g = let z : _≡_ {A = ℕ} 0 1 = cc in absurd (omega arith)
 
-pub refused-unchanged : (id type : ℕ) (b out : List ℕ) (k p : ℕ) → writing id type b (length out) ≡ refused k p → writtenBuffer out (writing id type b (length out)) ≡ out
-refused-unchanged id type b out k p e = ap (writtenBuffer out) e
+    go : (y : Outcome) → x ≡ y → (x ≡ gives (take n after)) × (drop n after ≡ drop n out)
+    go (gives l) q =
+        by-room l q (leb (length l) (length out)) (sym e ∙ p .answered ∙ ap (λ (y : Outcome). fillingAnswer (inRoom (length out) y)) q)
+        (p .buffer ∙ ap (λ (y : Outcome). bufferAfter (inRoom (length out) y) out) q)
+    go (refuses k j) q =
+        let f : F.Filled n ≡ F.Refused (record { number = k; place = j }) = sym e ∙ p .answered ∙ ap (λ (y : Outcome). fillingAnswer (inRoom (length out) y)) q in
+        let z : _≡_ {A = ℕ} 0 1 = cc in absurd (omega arith)
+
+pub refused-unchanged : {x : Outcome} {out after : List ℕ} {answer : Filling} {r : Refusal} → Fills x out answer after → answer ≡ F.Refused r → after ≡ out
+refused-unchanged {x} {out} {after} {answer} {r} p e = go (inRoom (length out) x) (sym e ∙ p .answered) (p .buffer)
+  where
+    go : (y : Outcome) → F.Refused r ≡ fillingAnswer y → after ≡ bufferAfter y out → after ≡ out
+    go (gives l) f g = let z : _≡_ {A = ℕ} 0 1 = cc in absurd (omega arith)
+    go (refuses k j) f g = g

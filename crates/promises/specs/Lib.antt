@@ -1,4 +1,3 @@
-pub mod Fields
 pub mod Vectors
 pub mod Memory
 pub mod Merges

@@ -3,15 +3,16 @@
 use Prim.Native.Nat.{ℕ}
 use mathlib.Core.List.{List, []}
 use mathlib.Core.Bool.{Bool, cond, _&&_}
+use mathlib.Core.Path.{_≡_}
 use lib.ListN.{length, take, drop}
+use Rattle.xdr.specs.Filling.{Outcome, gives, refuses, inRoom, fillingAnswer, bufferAfter}
 use Rattle.message.specs.Answers.{said}
+use Rattle.message.specs.Message.{message}
 use Rattle.message.specs.declared.answer.Span.{Span}
 use Rattle.message.specs.declared.answer.RequestSpan.{RequestSpan}
 use Rattle.message.specs.declared.answer.Message.{Message}
 use Rattle.message.specs.declared.answer.Message.the-variants as M
-use Rattle.message_write.specs.Writing.{writing, responseBytes, writtenAnswer, writtenBuffer}
-use Rattle.message_write.specs.declared.answer.Written.{Written}
-use Rattle.message_write.specs.declared.answer.Written.the-variants as W
+use Rattle.message_write.specs.Writing.{writing, responseBytes}
 use Rattle.order.specs.Order.{isEqual, compareLists}
 use Rattle.table.specs.Table.{isGood, records}
 use Rattle.want.specs.Listing.{listsThere, blockWith}
@@ -30,11 +31,10 @@ isOurs t repository m x =
     isEqual (compareLists (spanBytes m (x .repository)) repository)
     && listsThere (records t) (spanBytes m (x .name)) (x .offset) (blockWith (x .length) (spanBytes m (x .hash)))
 
--- what is to be done: serve so many bytes of a file at an offset, reply with no data, or refuse
+-- what is to be done: serve so many bytes of a file at an offset; or fill in the reply with no data, or refuse
 pub data Ruling : Type 0 where
-  serves : (name : Span) → (offset length : ℕ) → Ruling
-  replies : (id : ℕ) → Ruling
-  refuses : (number place : ℕ) → Ruling
+  serves : (name : Span) → (offset size : ℕ) → Ruling
+  fills : Outcome → Ruling
 
 -- no Request, but a refusal at place 0
 abbrev pub otherOf : (number : ℕ) → Asking
@@ -53,26 +53,24 @@ askingOf (M.Refused r) = A.Other r
 
 -- by what was read: a Request, or a refusal
 abbrev pub rulingBy : (t repository m : List ℕ) → Asking → Ruling
-rulingBy t repository m (A.Asked id x) = cond (isOurs t repository m x) (serves (x .name) (x .offset) (x .length)) (replies id)
-rulingBy t repository m (A.Other r) = refuses (r .number) (r .place)
+rulingBy t repository m (A.Asked id x) = cond (isOurs t repository m x) (serves (x .name) (x .offset) (x .length)) (fills (writing message id 3 (responseBytes [])))
+rulingBy t repository m (A.Other r) = fills (refuses (r .number) (r .place))
 
 -- the table is good (15) first
 unfoldable pub rulingOf : (t repository m : List ℕ) → Ruling
-rulingOf t repository m = cond (isGood t) (rulingBy t repository m (askingOf (said m))) (refuses 15 0)
+rulingOf t repository m = cond (isGood t) (rulingBy t repository m (askingOf (said m))) (fills (refuses 15 0))
 
--- what is answered of a reply: how many bytes it took, or 14
-abbrev pub replyAnswer : Written → Serving
-replyAnswer (W.Filled n) = S.Replied n
-replyAnswer (W.Refused r) = S.Refused r
-
--- what is answered
+-- what is answered, with a buffer of so many bytes
 abbrev pub servingAnswer : Ruling → (room : ℕ) → Serving
-servingAnswer (serves name offset length) room = S.Served name offset length
-servingAnswer (replies id) room = replyAnswer (writtenAnswer (writing id 3 (responseBytes []) room))
-servingAnswer (refuses number place) room = S.Refused (record { number = number; place = place })
+servingAnswer (serves name offset size) room = S.Served name offset size
+servingAnswer (fills o) room = S.Unserved (fillingAnswer (inRoom room o))
 
--- what the buffer then holds: only a reply writes
-abbrev pub servingBuffer : Ruling → List ℕ → List ℕ
-servingBuffer (serves name offset length) out = out
-servingBuffer (replies id) out = writtenBuffer out (writing id 3 (responseBytes []) (length out))
-servingBuffer (refuses number place) out = out
+-- what goes into the buffer: nothing where the Request is served
+abbrev pub filledBy : Ruling → Outcome
+filledBy (serves name offset size) = gives []
+filledBy (fills o) = o
+
+-- the promise: answer and buffer, by the ruling and the buffer that was lent
+pub record Rules (u : Ruling) (out : List ℕ) (answer : Serving) (after : List ℕ) : Type 0 where
+  pub answered : answer ≡ servingAnswer u (length out)
+  pub buffer : after ≡ bufferAfter (inRoom (length out) (filledBy u)) out
