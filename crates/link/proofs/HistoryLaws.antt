@@ -10,6 +10,7 @@ use lib.Dec.{eqb, leb}
 use borrow.Author.Tests.{eq-eqb, ne-eqb, eqb-true, leb-true}
 use Rattle.xdr.specs.Filling.{Outcome, gives, refuses, inRoom}
 use Rattle.xdr.specs.declared.answer.Refusal.{Refusal}
+use Rattle.message.specs.declared.answer.Span.{Span}
 use Rattle.message.specs.declared.answer.ResponseSpan.{ResponseSpan}
 use Rattle.message.specs.declared.answer.Message.{Message}
 use Rattle.message.specs.declared.answer.Message.the-variants as M
@@ -66,7 +67,7 @@ stays q e g h n =
       keeps = λ es. sym (ap (λ (l : List Request). kept (e ∷ es) (outstanding q) ++ kept es l) n ∙ append-nil (kept (e ∷ es) (outstanding q)) ∙ kept-past e es (outstanding q) h);
     }
 
-room-given : (room : ℕ) (o : Outcome) (l : List ℕ) → inRoom room o ≡ gives l → o ≡ gives l
+pub room-given : (room : ℕ) (o : Outcome) (l : List ℕ) → inRoom room o ≡ gives l → o ≡ gives l
 room-given room (gives m) l e = go (leb (length m) room) e
   where
     go : (t : Bool) → cond t (gives m) (refuses 14 0) ≡ gives l → gives m ≡ gives l
@@ -183,3 +184,35 @@ opened-good w f =
       orderly = orderly-made (emptyLink w) (record { low = leb-true 1 w (v .0); high = leb-true w 16 (v .1); held = omega arith; next-id = omega arith; ordered = refl });
       long = refl;
     }
+
+-- the window stays
+window-kept : (c : LinkCall) (q : Link) → afterCall q c .window ≡ q .window
+window-kept (issue held limit r n o size h room) q = go (inRoom room (issuing held limit q (requestBytes r n o size h) size))
+  where
+    go : (x : Outcome) → issuedLink q size x .window ≡ q .window
+    go (gives l) = refl
+    go (refuses k p) = refl
+window-kept (answer m) q = by-message m
+  where
+    by-oldest : (id : ℕ) (d : Span) (rs : List Request) → settledBy q rs id d .link .window ≡ q .window
+    by-oldest id d [] = refl
+    by-oldest id d (r ∷ rs) = go (eqb (r .id) id)
+      where
+        go : (t : Bool) → (cond {A = LinkAnswered} t (record { link = withoutOldest q; release = released r d }) (keptWith q (numbered 20))) .link .window ≡ q .window
+        go true = refl
+        go false = refl
+
+    by-message : (m : Message) → answeredBy q m .link .window ≡ q .window
+    by-message (M.Response id x) = by-oldest id (x .«data») (outstanding q)
+    by-message (M.Refused r) = refl
+    by-message (M.Index id x) = refl
+    by-message (M.Request id x) = refl
+    by-message (M.Ping id end) = refl
+    by-message (M.Pong id end) = refl
+    by-message (M.IndexUpdate id x) = refl
+    by-message (M.Options id x) = refl
+window-kept drop q = refl
+
+pub windows-kept : (cs : List LinkCall) (q : Link) → final q cs .window ≡ q .window
+windows-kept [] q = refl
+windows-kept (c ∷ cs) q = windows-kept cs (afterCall q c) ∙ window-kept c q

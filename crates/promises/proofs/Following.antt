@@ -1,22 +1,23 @@
 -- Bytes after the end of a message change no answer of any call that is given the message.
 use Prim.Native.Nat.{ℕ}
-use mathlib.Core.List.{List, _++_}
+use mathlib.Core.List.{List, [], _++_}
 use mathlib.Core.Path.{_≡_, refl, sym, ap, _∙_}
 use mathlib.Core.Bool.{Bool, true, false, cond}
 use borrow.Author.Tests.{eqb-true}
-use lib.ListN.{length}
 use lib.Dec.{eqb}
 use Rattle.xdr.specs.Reading.{Reading, taken, refused}
 use Rattle.xdr.specs.Format.{read, readAt}
 use Rattle.xdr.proofs.Steady.{cutShort, steady}
 use Rattle.xdr.proofs.Steps.{Reads}
+use Rattle.xdr.specs.Filling.{refuses}
 use Rattle.message.specs.Header.{typeOf, idOf}
 use Rattle.message.specs.Message.{Kind, isIndex, isRequest, isResponse, isPing, isPong, isIndexUpdate, isOptions, kindOf, Body, body, Sent, message}
 use Rattle.message.specs.Answers.{requestSpan, bodyAnswer, messageAnswer}
+use Rattle.message_write.specs.Writing.{responseBytes, writing}
 use Rattle.table.specs.Table.{isGood}
-use Rattle.xdr.specs.Filling.{refuses}
+use Rattle.table.specs.Filling.{refused as refusedCall}
 use Rattle.accept.specs.Accepting.{ofReading, acceptOutcome}
-use Rattle.serve.specs.Ruling.{isOurs, Ruling, serves, replies, emptyReply, rulingOn, rulingOf, servingAnswer, servingBuffer}
+use Rattle.serve.specs.Ruling.{isOurs, Ruling, serves, fills, rulingOn, rulingOf}
 use Rattle.message.specs.Kinds.{requestIn}
 use Rattle.queue.specs.Queue.{answerOf}
 use Rattle.promises.specs.Following.{IsEnough, Unchanged}
@@ -48,7 +49,7 @@ module _ (s t : List ℕ) (same : read message (s ++ t) ≡ read message s) wher
         let x = requestSpan b n in
         let ours : isOurs table repository (s ++ t) x ≡ isOurs table repository s x =
         ours-by-fields table repository (s ++ t) x b n (request-fields g) ∙ sym (ours-by-fields table repository s x b n (request-fields h)) in
-        ap (λ (v : Bool). cond v (serves (x .name) (x .offset) (x .size)) (replies (emptyReply id))) ours
+        ap (λ (v : Bool). cond v (serves (x .name) (x .offset) (x .size)) (fills (writing message id 3 (responseBytes [])))) ours
     by-kind isResponse b id n g h = refl
     by-kind isPing b id n g h = refl
     by-kind isPong b id n g h = refl
@@ -62,7 +63,7 @@ module _ (s t : List ℕ) (same : read message (s ++ t) ≡ read message s) wher
     ruling-same : rulingOf table repository (s ++ t) ≡ rulingOf table repository s
     unfolding rulingOf
     ruling-same =
-        ap (λ (u : Ruling). cond (isGood table) u (replies (refuses 15 0)))
+        ap (λ (u : Ruling). cond (isGood table) u (fills (refuses 15 0)))
         (ap (λ (r : Reading Sent). rulingOn table repository (s ++ t) (requestIn (messageAnswer r))) (read-same ∙ from-start s)
         ∙ by-reading (read message s) refl
         ∙ ap (λ (r : Reading Sent). rulingOn table repository s (requestIn (messageAnswer r))) (sym (from-start s)))
@@ -75,9 +76,7 @@ following-unchanged s t h =
     let e = read-same s t same in
     record {
       reading = ap messageAnswer e;
-      accepting = λ old repository. ap (λ (r : Reading Sent). cond (isGood old) (ofReading old repository r) (refuses 15 0)) e;
+      accepting = λ old repository room. ap (λ (r : Reading Sent). cond (isGood old) (ofReading old repository room r) (refusedCall 15 0)) e;
       answering = λ q. ap (λ (r : Reading Sent). answerOf q (messageAnswer r)) e;
-      serving = λ table repository out.
-          let u = ruling-same s t same table repository in
-          (ap (λ (r : Ruling). servingAnswer r (length out)) u, ap (λ (r : Ruling). servingBuffer r out) u);
+      serving = λ table repository. ruling-same s t same table repository;
     }

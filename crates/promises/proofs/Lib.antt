@@ -5,8 +5,6 @@ pub mod Numbers
 mod MemoryLaws
 pub mod Merges
 pub mod SampleMerges
-pub mod ListCalls
-pub mod ListHistory
 pub mod Requests
 mod HeldLaws
 pub mod RequestList

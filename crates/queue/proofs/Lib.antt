@@ -1,2 +1,3 @@
 -- Laws of queues.
 pub mod QueueLaws
+pub mod Unchanged

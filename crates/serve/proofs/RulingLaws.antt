@@ -1,24 +1,26 @@
 -- Looking a name up in a table, the bytes of spans, and the ruling by what was read.
 use Prim.Native.Nat.{ℕ, _+_, _-_, _≤_, _<_}
-use mathlib.Core.List.{List}
+use mathlib.Core.List.{List, []}
 use mathlib.Core.Path.{_≡_, refl, sym, ap, subst, _∙_}
 use mathlib.Core.Bool.{Bool, true, false, cond}
 use native.Mathlib.Omega.{arith}
 use lib.ListN.{length, take, drop}
 use Rattle.xdr.specs.Number.{IsBytes}
+use Rattle.xdr.proofs.FillingLaws.{in-room}
 use Rattle.record.specs.Block.{Block}
 use Rattle.record.specs.File.{File}
 use Rattle.record.specs.Outline.{outlineOf, fieldsOf}
 use Rattle.record.specs.declared.outline.Fields.{Fields}
 use Rattle.record.specs.declared.outline.Outline.{Outline}
 use Rattle.record.specs.declared.outline.Outline.the-variants as O
+use Rattle.xdr.specs.Filling.{Outcome, refuses, bufferAfter, Fills}
+use Rattle.xdr.specs.declared.filling.Filling.{Filling}
 use Rattle.message.specs.Answers.{spanBytes, said}
+use Rattle.message.specs.Message.{message}
+use Rattle.message_write.specs.Writing.{writing, responseBytes}
+use Rattle.message.specs.declared.answer.Span.{Span}
 use Rattle.message.specs.declared.answer.RequestSpan.{RequestSpan}
 use Rattle.message.specs.declared.answer.Message.{Message}
-use Rattle.message.specs.Kinds.{requestIn}
-use Rattle.message.specs.declared.kind.RequestIn.{RequestIn}
-use Rattle.message.specs.declared.kind.RequestIn.the-variants as Q
-use Rattle.xdr.specs.Filling.{refuses}
 use Rattle.order.specs.Order.{isEqual, compareLists, part}
 use Rattle.order.specs.declared.compare.Order.{Order}
 use Rattle.table.specs.Table.{isGood, records}
@@ -31,8 +33,12 @@ use Rattle.want.specs.Steps.Blocks.{blocksFrom, listedCount}
 use Rattle.want.specs.Steps.Places.{listsAt}
 use Rattle.want.proofs.ListingLaws.{Heads, heads, none-here, listed-blocks}
 use Rattle.want.proofs.ThereLaws.{lists-by}
-use Rattle.serve.specs.Ruling.{isOurs, Ruling, serves, replies, emptyReply, rulingOn, rulingOf, servingAnswer, servingBuffer, Rules}
+use Rattle.serve.specs.Ruling.{isOurs, Ruling, serves, fills, rulingOn, rulingOf, Rules}
+use Rattle.message.specs.Kinds.{requestIn}
+use Rattle.message.specs.declared.kind.RequestIn.{RequestIn}
+use Rattle.message.specs.declared.kind.RequestIn.the-variants as Q
 use Rattle.serve.specs.declared.ruling.Serving.{Serving}
+use Rattle.serve.specs.declared.ruling.Serving.the-variants as S
 
 -- the record of a name is not among those passed
 pub record Looking (t name : List ℕ) (at : ℕ) : Type 0 where
@@ -115,12 +121,17 @@ module _ (t repository m : List ℕ) (x : RequestSpan) {l : List ℕ} {o : Order
 
 -- the answer and the buffer, by the ruling
 
-module _ (t repository m out : List ℕ) where
-  pub ruled : {u : Ruling} {r : Serving} {o : List ℕ} → rulingOf t repository m ≡ u → r ≡ servingAnswer u (length out) → o ≡ servingBuffer u out
-      → Rules (rulingOf t repository m) out r o
-  ruled e p q = record { answered = p ∙ ap (λ (u : Ruling). servingAnswer u (length out)) (sym e); buffer = q ∙ ap (λ (u : Ruling). servingBuffer u out) (sym e) }
+pub served-so : (out : List ℕ) (name : Span) (offset size : ℕ) → Rules (serves name offset size) out (S.Served name offset size) out
+served-so out name offset size = record { answered = refl; buffer = ap (λ (y : Outcome). bufferAfter y out) (sym (in-room [] (length out) (omega arith))) }
 
-  pub table-bad : isGood t ≡ false → rulingOf t repository m ≡ replies (refuses 15 0)
+pub filled-in : {x : Outcome} {out : List ℕ} {w : Filling} {o : List ℕ} → Fills x out w o → Rules (fills x) out (S.Unserved w) o
+filled-in p = record { answered = ap S.Unserved (p .answered); buffer = p .buffer }
+
+module _ (t repository m out : List ℕ) where
+  pub ruled : {u : Ruling} {r : Serving} {o : List ℕ} → rulingOf t repository m ≡ u → Rules u out r o → Rules (rulingOf t repository m) out r o
+  ruled {u} {r} {o} e p = subst (λ (v : Ruling). Rules v out r o) (sym e) p
+
+  pub table-bad : isGood t ≡ false → rulingOf t repository m ≡ fills (refuses 15 0)
   unfolding rulingOf
   table-bad e = rw e refl
 
@@ -132,5 +143,5 @@ module _ (t repository m out : List ℕ) where
     pub ours-served : r ≡ true → rulingOn t repository m (Q.Taken id x) ≡ serves (x .name) (x .offset) (x .size)
     ours-served f = rw (sym e ∙ f) refl
 
-    pub ours-not : r ≡ false → rulingOn t repository m (Q.Taken id x) ≡ replies (emptyReply id)
+    pub ours-not : r ≡ false → rulingOn t repository m (Q.Taken id x) ≡ fills (writing message id 3 (responseBytes []))
     ours-not f = rw (sym e ∙ f) refl

@@ -4,7 +4,7 @@ ghost use mathlib.Core.Bool.{true};
 ghost use Rattle.table.specs.Table.{isGood, records};
 ghost use Rattle.message.specs.Answers.{spanBytes};
 ghost use Rattle.want.specs.Listing.{listsThere, blockWith};
-ghost use Rattle.serve.specs.Ruling.{isOurs as isOursOf, replies, emptyReply, rulingOf, Rules};
+ghost use Rattle.serve.specs.Ruling.{isOurs as isOursOf, rulingOf, Rules};
 use message::RequestIn;
 use message::RequestSpan;
 use message::Span;
@@ -12,11 +12,10 @@ use record::Outline;
 use xdr::Filling;
 use xdr::Refusal;
 
-// To serve: the file's name, the offset and the length. Or how many bytes of a reply were filled in, or a refusal.
+// To serve: the file's name, the offset and the Length. Or how many bytes of a reply were filled in, or a refusal.
 pub enum Serving {
     Served(Span, u64, u32),
-    Replied(usize),
-    Refused(Refusal),
+    Unserved(Filling),
 }
 
 // Whether a good table lists a block there.
@@ -72,31 +71,22 @@ fn is_ours(table: &[u8], repository: &[u8], message: &[u8], x: RequestSpan) -> b
     )
 }
 
-// A Response with no data.
-fn reply(message: &[u8], id: u32, out: &mut [u8]) -> Serving
-    ensures { λ r. ⌜ Rules (replies (emptyReply id)) (now (out .entry)) r (now (out .exit)) ⌝ }
-{
-    match message_write::write_response(out, id, &message[0..0]) {
-        Filling::Filled(n) => Serving::Replied(n),
-        Filling::Refused(r) => Serving::Refused(r),
-    }
-}
-
 // The ruling on a message: whether it is to be served out of our table, or a reply with no data in the first bytes of the buffer.
 pub fn serve(table: &[u8], repository: &[u8], message: &[u8], out: &mut [u8]) -> Serving
-    ensures { λ r. ⌜ Rules (rulingOf (now (table .entry)) (now (repository .entry)) (now (message .entry))) (now (out .entry)) r (now (out .exit)) ⌝ }
+    ensures { λ r. ⌜ Rules (rulingOf (now (table .entry)) (now (repository .entry)) (now (message .entry)))
+        (now (out .entry)) r (now (out .exit)) ⌝ }
 {
     if !table::is_good(table) {
-        return Serving::Refused(Refusal::at_start(15));
+        return Serving::Unserved(xdr::refused(15));
     }
     match message::request_in(message::read(message)) {
-        RequestIn::Refused(r) => Serving::Refused(r),
+        RequestIn::Refused(r) => Serving::Unserved(Filling::Refused(r)),
         RequestIn::Taken(id, x) => {
             if is_ours(table, repository, message, x) {
                 let name = x.name;
                 return Serving::Served(name, x.offset, x.size);
             }
-            reply(message, id, out)
+            Serving::Unserved(message_write::write_response(out, id, &message[0..0]))
         }
     }
 }
