@@ -15,7 +15,6 @@ use Rattle.message.specs.Message.{Kind, isIndex, isRequest, isResponse, isPing,
 use Rattle.message.specs.Answers.{requestSpan, bodyAnswer, messageAnswer}
 use Rattle.message_write.specs.Writing.{responseBytes, writing}
 use Rattle.table.specs.Table.{isGood}
-use Rattle.table.specs.Filling.{refused as refusedCall}
 use Rattle.accept.specs.Accepting.{ofReading, acceptOutcome}
 use Rattle.serve.specs.Ruling.{isOurs, Ruling, serves, fills, rulingOn, rulingOf}
 use Rattle.message.specs.Kinds.{requestIn}
@@ -76,7 +75,7 @@ following-unchanged s t h =
     let e = read-same s t same in
     record {
       reading = ap messageAnswer e;
-      accepting = λ old repository room. ap (λ (r : Reading Sent). cond (isGood old) (ofReading old repository room r) (refusedCall 15 0)) e;
+      accepting = λ old repository. ap (λ (r : Reading Sent). cond (isGood old) (ofReading old repository r) (refuses 15 0)) e;
       answering = λ q. ap (λ (r : Reading Sent). answerOf q (messageAnswer r)) e;
       serving = λ table repository. ruling-same s t same table repository;
     }
