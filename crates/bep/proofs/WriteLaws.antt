@@ -2,11 +2,10 @@
 use Prim.Native.Nat.{ℕ}
 use mathlib.Core.List.{List}
 use mathlib.Core.Path.{_≡_, ap, _∙_}
-use Rattle.message_write.specs.Writing.{writtenAnswer, writtenBuffer}
-use Rattle.message_write.specs.declared.answer.Written.{Written}
-use Rattle.bep.specs.Writers.{writtenNumber, writtenWords, writingInto, Wrote}
+use Rattle.xdr.specs.Filling.{Outcome, Fills}
+use Rattle.xdr.specs.declared.filling.Filling.{Filling}
+use Rattle.bep.specs.Writers.{writtenNumber, writtenWords, Wrote}
 
-pub wrote : {id type : ℕ} {body before : List ℕ} {w : Written} {number : ℕ} {words after : List ℕ}
-    → (w ≡ writtenAnswer (writingInto id type body before)) × (after ≡ writtenBuffer before (writingInto id type body before))
-    → (number ≡ writtenNumber w) × (words ≡ writtenWords w) → Wrote id type body before number words after
-wrote e g = record { number-is = g .0 ∙ ap writtenNumber (e .0); words-are = g .1 ∙ ap writtenWords (e .0); buffer-is = e .1 }
+pub wrote : {o : Outcome} {before : List ℕ} {w : Filling} {number : ℕ} {words after : List ℕ} → Fills o before w after
+    → (number ≡ writtenNumber w) × (words ≡ writtenWords w) → Wrote o before number words after
+wrote e g = record { number-is = g .0 ∙ ap writtenNumber (e .answered); words-are = g .1 ∙ ap writtenWords (e .answered); buffer-is = e .buffer }
