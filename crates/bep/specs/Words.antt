@@ -27,7 +27,7 @@ indexWords type id x =
 -- Request: words 3 and 4 are the Repository, 5 and 6 the Name, 7 the Offset, 8 the Length, 9 and 10 the Hash
 abbrev pub requestWords : (id : ℕ) → RequestSpan → List ℕ
 requestWords id x =
-    x .end ∷ 2 ∷ id ∷ x .repository .start ∷ x .repository .length ∷ x .name .start ∷ x .name .length ∷ x .offset ∷ x .length ∷ x .hash .start ∷ x .hash .length ∷ []
+    x .end ∷ 2 ∷ id ∷ x .repository .start ∷ x .repository .length ∷ x .name .start ∷ x .name .length ∷ x .offset ∷ x .size ∷ x .hash .start ∷ x .hash .length ∷ []
 
 -- Response: words 3 and 4 are the Data
 abbrev pub responseWords : (id : ℕ) → ResponseSpan → List ℕ

@@ -45,7 +45,7 @@ fn request_words(id: u32, x: RequestSpan) -> [u64; 11]
         name.start as u64,
         name.length as u64,
         x.offset,
-        x.length as u64,
+        x.size as u64,
         hash.start as u64,
         hash.length as u64,
     ]

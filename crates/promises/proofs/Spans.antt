@@ -17,7 +17,7 @@ use Rattle.xdr.proofs.Corollaries.{read-exactly}
 use Rattle.message.specs.Header.{typeOf, idOf}
 use Rattle.message.specs.Message.{Kind, isIndex, isRequest, isResponse, isPing, isPong, isIndexUpdate, isOptions, kindOf, Body, body, Sent, index, request, response, message}
 use Rattle.message.specs.Answers.{indexSpan, requestSpan, responseSpan, optionsSpan, bodyAnswer, messageAnswer, said}
-use Rattle.promises.specs.Spans.{IndexFields, RequestFields, ResponseFields, OptionsFields, Answers}
+use Rattle.promises.specs.Spans.{IndexFields, RequestFields, ResponseFields, OptionsFields, SaysFields}
 
 -- a string or an opaque stands after its length word
 string-there : {k : ℕ} {limited : ℕ → Bool} {s : List ℕ} {at : ℕ} {l : List ℕ} {m : ℕ} → Reads (bytes (checked k limited word)) s at (taken l m) → take (length l) (drop (at + 4) s) ≡ l
@@ -76,7 +76,7 @@ module _ {s : List ℕ} {next : ℕ} where
   options-fields : {l : Body isOptions} → IsBytes s → Reads (body isOptions) s 4 (taken l next) → OptionsFields s (optionsSpan l next) l next
   options-fields b h = record { options-are = encoded-there b h; count-is = refl; end-is = refl }
 
-  by-kind : (k : Kind) (p : Body k) (id : ℕ) → IsBytes s → Reads (body k) s 4 (taken p next) → Answers s id k p next (bodyAnswer k id (taken p next))
+  by-kind : (k : Kind) (p : Body k) (id : ℕ) → IsBytes s → Reads (body k) s 4 (taken p next) → SaysFields s id k p next (bodyAnswer k id (taken p next))
   by-kind isIndex p id b h = (indexSpan p next, refl, index-fields b h)
   by-kind isRequest p id b h = (requestSpan p next, refl, request-fields h)
   by-kind isResponse p id b h = (responseSpan p next, refl, response-fields h)
@@ -99,8 +99,8 @@ body-there {s} {m} {n} e =
 
 -- every message that is read
 pub spans-are-fields : (s : List ℕ) (m : Sent) (n : ℕ) → IsBytes s → read message s ≡ taken m n
-    → Answers s (idOf (m .0)) (kindOf (typeOf (m .0))) (m .1) n (said s)
+    → SaysFields s (idOf (m .0)) (kindOf (typeOf (m .0))) (m .1) n (said s)
 spans-are-fields s m n b e =
     let k : Kind = kindOf (typeOf (m .0)) in
-    subst (λ (r : Reading Sent). Answers s (idOf (m .0)) k (m .1) n (messageAnswer r)) (sym (from-start s ∙ e))
+    subst (λ (r : Reading Sent). SaysFields s (idOf (m .0)) k (m .1) n (messageAnswer r)) (sym (from-start s ∙ e))
     (by-kind k (m .1) (idOf (m .0)) b (body-there e))

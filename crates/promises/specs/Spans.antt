@@ -44,11 +44,11 @@ pub record OptionsFields (s : List ℕ) (x : OptionsSpan) (b : Body isOptions) (
   pub end-is : x .end ≡ end
 
 -- the answer for a message of each kind with an ID, by what its body says and the place after it
-abbrev pub Answers : (s : List ℕ) (id : ℕ) (k : Kind) → Body k → (end : ℕ) → Message → Type 0
-Answers s id isIndex b end a = (x : IndexSpan) × (a ≡ M.Index id x) × IndexFields s x b end
-Answers s id isRequest b end a = (x : RequestSpan) × (a ≡ M.Request id x) × RequestFields s x b end
-Answers s id isResponse b end a = (x : ResponseSpan) × (a ≡ M.Response id x) × ResponseFields s x b end
-Answers s id isPing b end a = a ≡ M.Ping id end
-Answers s id isPong b end a = a ≡ M.Pong id end
-Answers s id isIndexUpdate b end a = (x : IndexSpan) × (a ≡ M.IndexUpdate id x) × IndexFields s x b end
-Answers s id isOptions b end a = (x : OptionsSpan) × (a ≡ M.Options id x) × OptionsFields s x b end
+abbrev pub SaysFields : (s : List ℕ) (id : ℕ) (k : Kind) → Body k → (end : ℕ) → Message → Type 0
+SaysFields s id isIndex b end a = (x : IndexSpan) × (a ≡ M.Index id x) × IndexFields s x b end
+SaysFields s id isRequest b end a = (x : RequestSpan) × (a ≡ M.Request id x) × RequestFields s x b end
+SaysFields s id isResponse b end a = (x : ResponseSpan) × (a ≡ M.Response id x) × ResponseFields s x b end
+SaysFields s id isPing b end a = a ≡ M.Ping id end
+SaysFields s id isPong b end a = a ≡ M.Pong id end
+SaysFields s id isIndexUpdate b end a = (x : IndexSpan) × (a ≡ M.IndexUpdate id x) × IndexFields s x b end
+SaysFields s id isOptions b end a = (x : OptionsSpan) × (a ≡ M.Options id x) × OptionsFields s x b end

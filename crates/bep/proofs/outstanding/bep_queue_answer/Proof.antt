@@ -13,13 +13,13 @@ answer-requires c κs = search needs
 packed-requires : tie.Need-packed-requires
 packed-requires c κs = search needs
 
-give-answering-requires : tie.Need-give-answering-requires
-give-answering-requires c κs = search needs
+give-release-requires : tie.Need-give-release-requires
+give-release-requires c κs = search needs
 
 returns : tie.Need-returns
-returns c = answers (c .before .before .before .before .before .unpacked .ensures) (c .before .before .before .before .answer .ensures) (c .before .before .packed .ensures) (c .give-answering .ensures)
+returns c = answers (c .before .before .before .before .before .unpacked .ensures) (c .before .before .before .before .answer .ensures) (c .before .before .packed .ensures) (c .give-release .ensures)
 
 pub bep-queue-answer-spec : {M : Type 1} → statement M
 bep-queue-answer-spec =
     tie.close
-    (tie.spec unpacked-requires answer-requires packed-requires give-answering-requires returns)
+    (tie.spec unpacked-requires answer-requires packed-requires give-release-requires returns)

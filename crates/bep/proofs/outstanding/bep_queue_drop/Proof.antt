@@ -15,17 +15,17 @@ drop-link-requires c κs = search needs
 packed-requires : tie.Need-packed-requires
 packed-requires c κs = search needs
 
-change-number-requires : tie.Need-change-number-requires
-change-number-requires c κs = search needs
+verdict-number-requires : tie.Need-verdict-number-requires
+verdict-number-requires c κs = search needs
 
 returns : tie.Need-returns
 returns c =
     becomes
     (c .before .before .before .drop-link .ensures ∙ ap dropOf (c .before .before .before .before .unpacked .ensures))
-    (c .change-number .ensures)
+    (c .verdict-number .ensures)
     (c .before .packed .ensures)
 
 pub bep-queue-drop-spec : {M : Type 1} → statement M
 bep-queue-drop-spec =
     tie.close
-    (tie.spec unpacked-requires drop-link-requires packed-requires change-number-requires returns)
+    (tie.spec unpacked-requires drop-link-requires packed-requires verdict-number-requires returns)

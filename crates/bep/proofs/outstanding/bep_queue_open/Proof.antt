@@ -10,12 +10,12 @@ open-with-requires c κs = search needs
 packed-requires : tie.Need-packed-requires
 packed-requires c κs = search needs
 
-change-number-requires : tie.Need-change-number-requires
-change-number-requires c κs = search needs
+verdict-number-requires : tie.Need-verdict-number-requires
+verdict-number-requires c κs = search needs
 
 returns : tie.Need-returns
-returns c = becomes (c .before .before .before .open-with .ensures) (c .change-number .ensures) (c .before .packed .ensures)
+returns c = becomes (c .before .before .before .open-with .ensures) (c .verdict-number .ensures) (c .before .packed .ensures)
 
 pub bep-queue-open-spec : {M : Type 1} → statement M
 bep-queue-open-spec =
-    tie.close (tie.spec open-with-requires packed-requires change-number-requires returns)
+    tie.close (tie.spec open-with-requires packed-requires verdict-number-requires returns)

@@ -5,7 +5,7 @@ use mathlib.Core.List.{_++_}
 use native.Mathlib.Omega.{arith}
 use lib.ListN.{replicate}
 use borrow.Author.Needs.{needs}
-use Rattle.queue.specs.Requests.{blank}
+use Rattle.link.specs.Requests.{blank}
 use Rattle.bep.specs.Queues.{tabulated, entryAt}
 use Rattle.bep.proofs.PackLaws.{tabulated-more}
 use Rattle.bep.proofs.outstanding.unpacked.Statement.{statement}

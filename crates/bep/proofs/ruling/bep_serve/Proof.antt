@@ -15,10 +15,7 @@ same-length : tie.Need-same-length
 same-length c = search needs
 
 returns : tie.Need-returns
-returns c =
-    let e = c .before .before .before .before .serve .ensures in
-    let g = c .give-serving .ensures in
-    record { number-is = g .0 ∙ ap servingNumber (e .answered); words-are = g .1 ∙ ap servingWords (e .answered); buffer-is = e .buffer }
+returns c = let e = c .before .before .before .before .serve .ensures in let g = c .give-serving .ensures in record { number-is = g .0 ∙ ap servingNumber (e .answered); words-are = g .1 ∙ ap servingWords (e .answered); buffer-is = e .buffer }
 
 pub bep-serve-spec : {M : Type 1} → statement M
 bep-serve-spec = tie.close (tie.spec serve-requires give-serving-requires same-length returns)
