@@ -11,9 +11,8 @@ use lib.Seq.{drop-cons}
 use Rattle.xdr.specs.Format.{encode}
 use Rattle.record.specs.File.{File, file}
 use Rattle.record.specs.Outline.{outlineOf, fieldsOf}
-use Rattle.record.specs.declared.outline.Outline.{Outline}
 use Rattle.table.specs.Newest.{bit}
-use Rattle.table.specs.Steps.Side.{sideOf}
+use Rattle.table.specs.Steps.Side.{sideAt}
 use Rattle.table.specs.Steps.Standing.{At}
 use Rattle.table.specs.declared.side.Side.{Side}
 use Rattle.table.proofs.WalkLaws.{at-last, standing}
@@ -30,10 +29,9 @@ use Rattle.accept.specs.Steps.Sorted.{Places}
 use Rattle.accept.proofs.PlaceLaws.{Stood}
 
 -- by the answers that were given and what they are
-pub next-by : (s : List ℕ) (at : ℕ) (old : List ℕ) (j : ℕ) {x y : Outline} {t u : Side} {r : Next}
-    → x ≡ outlineOf s at → y ≡ outlineOf old j → t ≡ sideOf s x old y → t ≡ u → r ≡ nextBy (replacingStep at) at j u → r ≡ nextOver s at old j
+pub next-by : (s : List ℕ) (at : ℕ) (old : List ℕ) (j : ℕ) {t u : Side} {r : Next} → t ≡ sideAt s at old j → t ≡ u → r ≡ nextBy (replacingStep at) at j u → r ≡ nextOver s at old j
 unfolding nextOver
-next-by s at old j e f g h k = side-next (replacingStep at) s at old j e f g h k
+next-by s at old j e f k = side-next (replacingStep at) s at old j e f k
 
 -- what is left of the places
 

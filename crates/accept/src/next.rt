@@ -22,12 +22,7 @@ pub fn place_of(s: &[u8], places: &[usize], i: usize) -> usize
 pub fn next_at(s: &[u8], at: usize, old: &[u8], j: usize) -> Next
     ensures { λ r. ⌜ r ≡ nextOver (now (s .entry)) at (now (old .entry)) j ⌝ }
 {
-    match table::side_of(
-        s,
-        record::outline_at(s, at),
-        old,
-        record::outline_at(old, j),
-    ) {
+    match table::side_at(s, at, old, j) {
         Side::Neither => Next::End,
         Side::Left(f) => from_left(at, f.past, j),
         Side::Right(g) => from_right(j, g.past, at),

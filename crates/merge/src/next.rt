@@ -61,7 +61,7 @@ fn higher(a: &[u8], i: usize, f: Fields, b: &[u8], j: usize, g: Fields) -> Next
 pub fn next_at(a: &[u8], i: usize, b: &[u8], j: usize) -> Next
     ensures { λ r. ⌜ r ≡ nextOf (now (a .entry)) i (now (b .entry)) j ⌝ }
 {
-    match table::side_of(a, record::outline_at(a, i), b, record::outline_at(b, j)) {
+    match table::side_at(a, i, b, j) {
         Side::Neither => Next::End,
         Side::Left(f) => from_left(i, f.past, j),
         Side::Right(g) => from_right(j, g.past, i),

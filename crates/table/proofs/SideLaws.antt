@@ -13,7 +13,7 @@ use Rattle.order.specs.declared.compare.Order.the-variants.{Less, Equal, Greate
 use Rattle.order.proofs.OrderLaws.{greater-above}
 use Rattle.record.proofs.RisingLaws.{Above}
 use Rattle.table.specs.Steps.Standing.{At}
-use Rattle.table.specs.Steps.Side.{sideBy, sideOf}
+use Rattle.table.specs.Steps.Side.{sideBy, sideOfTwo, sideOf, sideAt}
 use Rattle.table.specs.declared.side.Side.{Side}
 use Rattle.table.specs.declared.side.Side.the-variants.{Neither, Left, Right, Both}
 use Rattle.table.proofs.WalkLaws.{at-end, standing}
@@ -34,9 +34,12 @@ pub data Told (i j : ℕ) : List File → List File → Side → Type 0 where
   told-right : (g : File) (fs gs : List File) → Above (g .name) fs → Told i j fs (g ∷ gs) (Right (fieldsOf j g))
   told-both : (f g : File) (fs gs : List File) → compareLists (f .name) (g .name) ≡ Equal → Told i j (f ∷ fs) (g ∷ gs) (Both (fieldsOf i f) (fieldsOf j g))
 
--- by what the outlines are
-pub side-by : (a b : List ℕ) {x y u v : Outline} {r : Side} → x ≡ u → y ≡ v → r ≡ sideOf a u b v → r ≡ sideOf a x b y
-side-by a b {x} {y} {u} {v} e f h = h ∙ ap (λ (o : Outline). sideOf a o b v) (sym e) ∙ ap (λ (o : Outline). sideOf a x b o) (sym f)
+-- by the answers that were given and what they are
+pub side-by : (a : List ℕ) (i : ℕ) (b : List ℕ) (j : ℕ) {x y u v : Outline} {r : Side} → x ≡ outlineOf a i → x ≡ u → y ≡ outlineOf b j → y ≡ v → r ≡ sideOf a u b v → r ≡ sideAt a i b j
+side-by a i b j {u = u} {v = v} e f g h k = k ∙ ap (λ (o : Outline). sideOf a o b v) (sym f ∙ e) ∙ ap (λ (o : Outline). sideOf a (outlineOf a i) b o) (sym h ∙ g)
+
+pub two-by : (a : List ℕ) (f : Fields) (b : List ℕ) (g : Fields) {x o : Order} → x ≡ compareLists (part a (f .name) (f .stop)) (part b (g .name) (g .stop)) → x ≡ o → sideBy o f g ≡ sideOfTwo a f b g
+two-by a f b g e h = ap (λ (o : Order). sideBy o f g) (sym h ∙ e)
 
 module _ {i j : ℕ} where
   told-two : (f g : File) (fs gs : List File) (o : Order) → compareLists (f .name) (g .name) ≡ o → Told i j (f ∷ fs) (g ∷ gs) (sideBy o (fieldsOf i f) (fieldsOf j g))

@@ -7,4 +7,4 @@ pub use good::is_good;
 pub use good::within_limits;
 pub use newest::compare_records;
 pub use side::Side;
-pub use side::side_of;
+pub use side::side_at;

@@ -1,6 +1,6 @@
 // Whose record comes next in a walk over two tables.
 ghost use mathlib.Core.Path.{_≡_};
-ghost use Rattle.table.specs.Steps.Side.{sideOf, sideOfTwo};
+ghost use Rattle.table.specs.Steps.Side.{sideAt, sideOfTwo};
 use order::Order;
 use record::Fields;
 use record::Outline;
@@ -24,16 +24,16 @@ fn side_of_two(a: &[u8], f: Fields, b: &[u8], g: Fields) -> Side
     }
 }
 
-// By the outlines at a place of each.
-pub fn side_of(a: &[u8], x: Outline, b: &[u8], y: Outline) -> Side
-    ensures { λ r. ⌜ r ≡ sideOf (now (a .entry)) x (now (b .entry)) y ⌝ }
+// By the records at a place of each.
+pub fn side_at(a: &[u8], i: usize, b: &[u8], j: usize) -> Side
+    ensures { λ r. ⌜ r ≡ sideAt (now (a .entry)) i (now (b .entry)) j ⌝ }
 {
-    match x {
-        Outline::Short => match y {
+    match record::outline_at(a, i) {
+        Outline::Short => match record::outline_at(b, j) {
             Outline::Short => Side::Neither,
             Outline::Whole(g) => Side::Right(g),
         },
-        Outline::Whole(f) => match y {
+        Outline::Whole(f) => match record::outline_at(b, j) {
             Outline::Short => Side::Left(f),
             Outline::Whole(g) => side_of_two(a, f, b, g),
         },

@@ -4,9 +4,8 @@ use mathlib.Core.List.{List}
 use mathlib.Core.Bool.{cond}
 use lib.ListN.{length, getD}
 use lib.Dec.{ltb}
-use Rattle.record.specs.Outline.{outlineOf}
 use Rattle.record.specs.declared.outline.Fields.{Fields}
-use Rattle.table.specs.Steps.Side.{sideOf}
+use Rattle.table.specs.Steps.Side.{sideAt}
 use Rattle.merge.specs.Steps.Next.{fromLeft, nextBy}
 use Rattle.merge.specs.declared.next.Next.{Next}
 
@@ -20,4 +19,4 @@ replacingStep at f g = fromLeft at (f .past) (g .past)
 
 -- the next record where the message's stands at a place, and the old table has come to j
 unfoldable pub nextOver : (s : List ℕ) → (at : ℕ) → (old : List ℕ) → (j : ℕ) → Next
-nextOver s at old j = nextBy (replacingStep at) at j (sideOf s (outlineOf s at) old (outlineOf old j))
+nextOver s at old j = nextBy (replacingStep at) at j (sideAt s at old j)

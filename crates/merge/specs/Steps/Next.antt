@@ -2,11 +2,10 @@
 use Prim.Native.Nat.{ℕ}
 use mathlib.Core.List.{List}
 use mathlib.Core.Bool.{true, false, cond}
-use Rattle.record.specs.Outline.{outlineOf}
 use Rattle.record.specs.declared.outline.Fields.{Fields}
 use Rattle.order.specs.Order.{part}
 use Rattle.table.specs.Newest.{compareAt}
-use Rattle.table.specs.Steps.Side.{sideOf}
+use Rattle.table.specs.Steps.Side.{sideAt}
 use Rattle.table.specs.declared.side.Side.{Side}
 use Rattle.table.specs.declared.side.Side.the-variants.{Neither, Left, Right, Both}
 use Rattle.order.specs.declared.compare.Order.{Order}
@@ -42,7 +41,7 @@ nextBy both i j (Both f g) = both f g
 
 -- the next record where a merge has come to i and j
 unfoldable pub nextOf : List ℕ → ℕ → List ℕ → ℕ → Next
-nextOf a i b j = nextBy (higherOf a i b j) i j (sideOf a (outlineOf a i) b (outlineOf b j))
+nextOf a i b j = nextBy (higherOf a i b j) i j (sideAt a i b j)
 
 -- the bytes that are taken
 abbrev pub stepBytes : List ℕ → List ℕ → Step → List ℕ

@@ -1,6 +1,7 @@
 -- For a walk over two tables: whose record comes next, by their names.
 use mathlib.Core.List.{List}
 use Prim.Native.Nat.{ℕ}
+use Rattle.record.specs.Outline.{outlineOf}
 use Rattle.record.specs.declared.outline.Fields.{Fields}
 use Rattle.record.specs.declared.outline.Outline.{Outline}
 use Rattle.record.specs.declared.outline.Outline.the-variants as O
@@ -20,9 +21,13 @@ sideBy Greater f g = Right g
 abbrev pub sideOfTwo : List ℕ → Fields → List ℕ → Fields → Side
 sideOfTwo a f b g = sideBy (compareLists (part a (f .name) (f .stop)) (part b (g .name) (g .stop))) f g
 
--- by the outlines at a place of each
+-- by the outlines of what stands at a place of each
 abbrev pub sideOf : List ℕ → Outline → List ℕ → Outline → Side
 sideOf a O.Short b O.Short = Neither
 sideOf a O.Short b (O.Whole g) = Right g
 sideOf a (O.Whole f) b O.Short = Left f
 sideOf a (O.Whole f) b (O.Whole g) = sideOfTwo a f b g
+
+-- where a walk has come to i and j
+abbrev pub sideAt : List ℕ → ℕ → List ℕ → ℕ → Side
+sideAt a i b j = sideOf a (outlineOf a i) b (outlineOf b j)

@@ -6,14 +6,8 @@ use borrow.Author.Needs.{needs}
 use Rattle.accept.proofs.next.next_at.Statement.{statement}
 use Rattle.accept.proofs.next.next_at.Tie as tie
 
-outline-at-requires : tie.Need-outline-at-requires
-outline-at-requires c κs = search needs
-
-outline-at-requires-2 : tie.Need-outline-at-requires-2
-outline-at-requires-2 c κs = search needs
-
-side-of-requires : tie.Need-side-of-requires
-side-of-requires c κs = search needs
+side-at-requires : tie.Need-side-at-requires
+side-at-requires c κs = search needs
 
 enum-told : tie.Need-enum-told
 enum-told c = search needs
@@ -37,36 +31,22 @@ from-left-requires-2 : tie.Need-from-left-requires-2
 from-left-requires-2 c κs = search needs
 
 returns : tie.Need-returns
-returns c =
-    let e = c .before .before in
-    let s = e .before .before .before .before .before .args in
-    next-by (now (s .s)) (s .at) (now (s .old)) (s .j) (e .before .before .outline-at .ensures) (e .before .outline-at2 .ensures) (e .side-of .ensures) (c .enum-told .given .1) refl
+returns c = let s = c .before .before .before .before .before .args in next-by (now (s .s)) (s .at) (now (s .old)) (s .j) (c .before .before .side-at .ensures) (c .enum-told .given .1) refl
 
 returns-2 : tie.Need-returns-2
-returns-2 c =
-    let e = c .before .before .before .before in
-    let s = e .before .before .before .before .before .args in
-    next-by (now (s .s)) (s .at) (now (s .old)) (s .j) (e .before .before .outline-at .ensures) (e .before .outline-at2 .ensures) (e .side-of .ensures) (c .before .before .f .given .1) (c .from-left .ensures)
+returns-2 c = let s = c .before .before .before .before .before .before .before .args in next-by (now (s .s)) (s .at) (now (s .old)) (s .j) (c .before .before .before .before .side-at .ensures) (c .before .before .f .given .1) (c .from-left .ensures)
 
 returns-3 : tie.Need-returns-3
-returns-3 c =
-    let e = c .before .before .before .before in
-    let s = e .before .before .before .before .before .args in
-    next-by (now (s .s)) (s .at) (now (s .old)) (s .j) (e .before .before .outline-at .ensures) (e .before .outline-at2 .ensures) (e .side-of .ensures) (c .before .before .g .given .1) (c .from-right .ensures)
+returns-3 c = let s = c .before .before .before .before .before .before .before .args in next-by (now (s .s)) (s .at) (now (s .old)) (s .j) (c .before .before .before .before .side-at .ensures) (c .before .before .g .given .1) (c .from-right .ensures)
 
 returns-4 : tie.Need-returns-4
-returns-4 c =
-    let e = c .before .before .before .before in
-    let s = e .before .before .before .before .before .args in
-    next-by (now (s .s)) (s .at) (now (s .old)) (s .j) (e .before .before .outline-at .ensures) (e .before .outline-at2 .ensures) (e .side-of .ensures) (c .before .before .f2 .given .1) (c .from-left2 .ensures)
+returns-4 c = let s = c .before .before .before .before .before .before .before .args in next-by (now (s .s)) (s .at) (now (s .old)) (s .j) (c .before .before .before .before .side-at .ensures) (c .before .before .f2 .given .1) (c .from-left2 .ensures)
 
 pub next-at-spec : {M : Type 1} → statement M
 next-at-spec =
     tie.close
     (tie.spec
-    outline-at-requires
-    outline-at-requires-2
-    side-of-requires
+    side-at-requires
     enum-told
     enum-known-f
     from-left-requires

@@ -1,7 +1,6 @@
 -- `table::side::side_of_two` meets its contract.
-use mathlib.Core.Path.{sym, ap, _∙_}
-use Rattle.order.specs.declared.compare.Order.{Order}
-use Rattle.table.specs.Steps.Side.{sideBy}
+use denote.Ref.{now}
+use Rattle.table.proofs.SideLaws.{two-by}
 use borrow.Author.Needs.{needs}
 use Rattle.table.proofs.side.side_of_two.Statement.{statement}
 use Rattle.table.proofs.side.side_of_two.Tie as tie
@@ -19,13 +18,13 @@ enum-told-3 : tie.Need-enum-told-3
 enum-told-3 c = search needs
 
 returns : tie.Need-returns
-returns c = let s = c .before .before .before .before .before .args in ap (λ (o : Order). sideBy o (s .f) (s .g)) (sym (c .enum-told .given .1) ∙ c .before .before .compare-parts .ensures)
+returns c = let s = c .before .before .before .before .before .args in two-by (now (s .a)) (s .f) (now (s .b)) (s .g) (c .before .before .compare-parts .ensures) (c .enum-told .given .1)
 
 returns-2 : tie.Need-returns-2
-returns-2 c = let s = c .before .before .before .before .before .args in ap (λ (o : Order). sideBy o (s .f) (s .g)) (sym (c .enum-told2 .given .1) ∙ c .before .before .compare-parts .ensures)
+returns-2 c = let s = c .before .before .before .before .before .args in two-by (now (s .a)) (s .f) (now (s .b)) (s .g) (c .before .before .compare-parts .ensures) (c .enum-told2 .given .1)
 
 returns-3 : tie.Need-returns-3
-returns-3 c = let s = c .before .before .before .before .before .args in ap (λ (o : Order). sideBy o (s .f) (s .g)) (sym (c .enum-told3 .given .1) ∙ c .before .before .compare-parts .ensures)
+returns-3 c = let s = c .before .before .before .before .before .args in two-by (now (s .a)) (s .f) (now (s .b)) (s .g) (c .before .before .compare-parts .ensures) (c .enum-told3 .given .1)
 
 pub side-of-two-spec : {M : Type 1} → statement M
 side-of-two-spec =
