@@ -22,7 +22,7 @@ same-length : tie.Need-same-length
 same-length c = search needs
 
 returns : tie.Need-returns
-returns c = let a = c .before .before .before .before .before .before .before .before .before .before .before .before .before .before .args in issues (c .before .before .before .before .before .before .before .before .unpacked .ensures) (requestBytes (now (a .repository)) (now (a .name)) (a .offset) (a .length) (now (a .hash))) (c .before .before .before .before .before .before .issue .ensures) (c .before .before .packed .ensures) (c .give-issued .ensures)
+returns c = let a = c .before .before .before .before .before .before .before .before .before .before .before .before .before .before .args in issues (c .before .before .before .before .before .before .before .before .unpacked .ensures) (requestBytes (now (a .repository)) (now (a .name)) (a .offset) (a .size) (now (a .hash))) (c .before .before .before .before .before .before .issue .ensures) (c .before .before .packed .ensures) (c .give-issued .ensures)
 
 pub bep-queue-issue-spec : {M : Type 1} → statement M
 bep-queue-issue-spec =
