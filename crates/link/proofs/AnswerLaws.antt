@@ -6,13 +6,14 @@ use mathlib.Core.List.{List, [], _∷_}
 use native.Mathlib.Omega.{arith}
 use lib.ListN.{length}
 use lib.Dec.{eqb}
-use borrow.Author.Tests.{eq-eqb, ne-eqb}
+use borrow.Author.Tests.{eq-eqb, ne-eqb, eqb-true}
 use types.Run.{OneOf, miss}
 use denote.Enum.Declared.{tagOf}
 use Rattle.xdr.specs.Filling.{Outcome, gives, refuses, inRoom, fillingAnswer, bufferAfter}
 use Rattle.xdr.specs.declared.answer.Refusal.{Refusal}
 use Rattle.xdr.specs.declared.filling.Filling.the-variants as F
 use Rattle.message.specs.declared.answer.Span.{Span}
+use Rattle.message.specs.declared.answer.ResponseSpan.{ResponseSpan}
 use Rattle.message.specs.declared.answer.Message.{Message}
 use Rattle.message.proofs.answer.Message.{the-type}
 use Rattle.message.specs.declared.answer.Message.the-variants as M
@@ -48,33 +49,44 @@ answer-other q (M.IndexUpdate id x) h = refl
 answer-other q (M.Options id x) h = refl
 answer-other q (M.Refused r) h = absurd (miss (0 ∷ 1 ∷ 3 ∷ 4 ∷ 5 ∷ 6 ∷ []) 7 tt h)
 
+-- what an answer does: it is refused, or the oldest request is released by the Response to it
+pub data AnswerWas (q : Link) (m : Message) : LinkAnswered → Type 0 where
+  kept : (r : Refusal) → AnswerWas q m (keptWith q r)
+  freed : (id : ℕ) (x : ResponseSpan) (r : Request) (rs : List Request) → m ≡ M.Response id x → outstanding q ≡ r ∷ rs → r .id ≡ id
+      → AnswerWas q m (record { link = withoutOldest q; release = released r (x .«data») })
+
+pub answer-was : (q : Link) (m : Message) → AnswerWas q m (answeredBy q m)
+answer-was q (M.Response id x) = go (outstanding q) refl
+  where
+    by-id : (r : Request) (rs : List Request) → outstanding q ≡ r ∷ rs → (t : Bool) → eqb (r .id) id ≡ t
+        → AnswerWas q (M.Response id x) (cond t (record { link = withoutOldest q; release = released r (x .«data») }) (keptWith q (numbered 20)))
+    by-id r rs e true h = freed id x r rs refl e (eqb-true _ _ h)
+    by-id r rs e false h = kept (numbered 20)
+
+    go : (rs : List Request) → outstanding q ≡ rs → AnswerWas q (M.Response id x) (settledBy q rs id (x .«data»))
+    go [] e = kept (numbered 20)
+    go (r ∷ rs) e = by-id r rs e (eqb (r .id) id) refl
+answer-was q (M.Refused r) = kept r
+answer-was q (M.Index id x) = kept (numbered 18)
+answer-was q (M.Request id x) = kept (numbered 18)
+answer-was q (M.Ping id end) = kept (numbered 18)
+answer-was q (M.Pong id end) = kept (numbered 18)
+answer-was q (M.IndexUpdate id x) = kept (numbered 18)
+answer-was q (M.Options id x) = kept (numbered 18)
+
 -- a refused call changes nothing
 
-module _ (q : Link) (r : Refusal) where
-  unrefused : (b c : Bool) (x : Request) (d : Span) → cond b (R.NotAvailable (x .id) (x .size)) (cond c (R.Data (x .id) (x .size) d) (R.WrongSize (x .id) (x .size))) ≡ R.Refused r → _≡_ {A = ℕ} 0 1
-  unrefused true c x d e = cc
-  unrefused false true x d e = cc
-  unrefused false false x d e = cc
+pub answered-kept : (q : Link) (f : Refusal) (m : Message) → answeredBy q m .release ≡ R.Refused f → answeredBy q m .link ≡ q
+answered-kept q f m = go (answeredBy q m) (answer-was q m)
+  where
+    unrefused : (b c : Bool) (r : Request) (d : Span) → cond b (R.NotAvailable (r .id) (r .size)) (cond c (R.Data (r .id) (r .size) d) (R.WrongSize (r .id) (r .size))) ≡ R.Refused f → _≡_ {A = ℕ} 0 1
+    unrefused true c r d e = cc
+    unrefused false true r d e = cc
+    unrefused false false r d e = cc
 
-  released-kept : (b : Bool) (x : Request) (d : Span)
-      → cond {A = LinkAnswered} b (record { link = withoutOldest q; release = released x d }) (keptWith q (numbered 20)) .release ≡ R.Refused r
-      → cond {A = LinkAnswered} b (record { link = withoutOldest q; release = released x d }) (keptWith q (numbered 20)) .link ≡ q
-  released-kept true x d e = let z : _≡_ {A = ℕ} 0 1 = unrefused (eqb (d .length) 0) (eqb (d .length) (x .size)) x d e in absurd (omega arith)
-  released-kept false x d e = refl
-
-  settled-kept : (l : List Request) (id : ℕ) (d : Span) → settledBy q l id d .release ≡ R.Refused r → settledBy q l id d .link ≡ q
-  settled-kept [] id d e = refl
-  settled-kept (x ∷ l) id d e = released-kept (eqb (x .id) id) x d e
-
-  pub answered-kept : (m : Message) → answeredBy q m .release ≡ R.Refused r → answeredBy q m .link ≡ q
-  answered-kept (M.Index id x) e = refl
-  answered-kept (M.Request id x) e = refl
-  answered-kept (M.Response id x) e = settled-kept (outstanding q) id (x .«data») e
-  answered-kept (M.Ping id end) e = refl
-  answered-kept (M.Pong id end) e = refl
-  answered-kept (M.IndexUpdate id x) e = refl
-  answered-kept (M.Options id x) e = refl
-  answered-kept (M.Refused x) e = refl
+    go : (a : LinkAnswered) → AnswerWas q m a → a .release ≡ R.Refused f → a .link ≡ q
+    go a (kept r) e = refl
+    go a (freed id x r rs k o s) e = let z = unrefused (eqb (x .«data» .length) 0) (eqb (x .«data» .length) (r .size)) r (x .«data») e in absurd (omega arith)
 
 pub issued-kept : {o : Outcome} {q : Link} {size : ℕ} {out after : List ℕ} {r : LinkIssued} {f : Refusal} → Issues o q size out r after → r .filling ≡ F.Refused f
     → (r .link ≡ q) × (after ≡ out)

@@ -7,16 +7,14 @@ use mathlib.Core.List.{List, [], _∷_, _++_, append-assoc, append-nil}
 use lib.ListN.{length}
 use lib.Seq.{length-take-le}
 use lib.Dec.{eqb, leb}
-use borrow.Author.Tests.{eq-eqb, ne-eqb, eqb-true, leb-true}
+use borrow.Author.Tests.{eq-eqb, ne-eqb, leb-true}
 use Rattle.xdr.specs.Filling.{Outcome, gives, refuses, inRoom}
-use Rattle.xdr.specs.declared.answer.Refusal.{Refusal}
-use Rattle.message.specs.declared.answer.Span.{Span}
 use Rattle.message.specs.declared.answer.ResponseSpan.{ResponseSpan}
 use Rattle.message.specs.declared.answer.Message.{Message}
 use Rattle.message.specs.declared.answer.Message.the-variants as M
 use Rattle.message_write.specs.Writing.{requestBytes}
 use Rattle.link.specs.Requests.{isConsecutive}
-use Rattle.link.specs.OneLink.{outstanding, windowFits, numbered, emptyLink, issuing, appended, issuedLink, withoutOldest, released, keptWith, settledBy, answeredBy, emptied}
+use Rattle.link.specs.OneLink.{outstanding, windowFits, emptyLink, issuing, appended, issuedLink, withoutOldest, released, answeredBy, emptied}
 use Rattle.link.specs.History.{LinkCall, issue, answer, drop, Event, issueWas, answerWas, dropWas, afterCall, event, final, history, issued, settles, settled, kept, standing}
 use Rattle.link.specs.declared.request.Request.{Request}
 use Rattle.link.specs.declared.list.Link.{Link}
@@ -25,6 +23,7 @@ use Rattle.link.specs.declared.outcome.Release.the-variants as R
 use Rattle.link.proofs.RequestLaws.{both}
 use Rattle.link.proofs.LinkLaws.{Orderly, orderly-facts, orderly-made}
 use Rattle.link.proofs.IssueLaws.{issuing-tells}
+use Rattle.link.proofs.AnswerLaws.{AnswerWas, kept as refusedSo, freed, answer-was}
 use Rattle.link.proofs.Moves.{Good, nextRequest, outstanding-appended, good-appended, outstanding-without, good-without, good-emptied, Apart, first-apart}
 
 -- what is kept of some requests
@@ -125,30 +124,12 @@ module _ (q : Link) (id : ℕ) (x : ResponseSpan) (r : Request) (rs : List Reque
             ∙ sym (append-nil (kept (was ∷ es) (outstanding q)));
       }
 
-  abbrev ruled : Bool → LinkAnswered
-  ruled t = cond t (record { link = withoutOldest q; release = released r (x .«data») }) (keptWith q (numbered 20))
-
-  moved-ruled : (t : Bool) → eqb (r .id) id ≡ t → Moved q (answerWas (M.Response id x) (ruled t .release)) (ruled t .link)
-  moved-ruled true same = moved-oldest (eqb-true _ _ same)
-  moved-ruled false other = stays q (answerWas (M.Response id x) (R.Refused (numbered 20))) g (λ i. refl) refl
-
-moved-response : (q : Link) (id : ℕ) (x : ResponseSpan) (rs : List Request) → outstanding q ≡ rs → Good q
-    → Moved q (answerWas (M.Response id x) (settledBy q rs id (x .«data») .release)) (settledBy q rs id (x .«data») .link)
-moved-response q id x [] e g = stays q (answerWas (M.Response id x) (R.Refused (numbered 20))) g (λ i. refl) refl
-moved-response q id x (r ∷ rs) e g = moved-ruled q id x r rs e g (eqb (r .id) id) refl
-
-refused-answer : (q : Link) (m : Message) (r : Refusal) → Good q → Moved q (answerWas m (R.Refused r)) q
-refused-answer q m r g = stays q (answerWas m (R.Refused r)) g (λ i. refl) refl
-
 moved-answer : (q : Link) (m : Message) → Good q → Moved q (answerWas m (answeredBy q m .release)) (answeredBy q m .link)
-moved-answer q (M.Response id x) g = moved-response q id x (outstanding q) refl g
-moved-answer q (M.Refused r) g = refused-answer q (M.Refused r) r g
-moved-answer q (M.Index id x) g = refused-answer q (M.Index id x) (numbered 18) g
-moved-answer q (M.Request id x) g = refused-answer q (M.Request id x) (numbered 18) g
-moved-answer q (M.Ping id end) g = refused-answer q (M.Ping id end) (numbered 18) g
-moved-answer q (M.Pong id end) g = refused-answer q (M.Pong id end) (numbered 18) g
-moved-answer q (M.IndexUpdate id x) g = refused-answer q (M.IndexUpdate id x) (numbered 18) g
-moved-answer q (M.Options id x) g = refused-answer q (M.Options id x) (numbered 18) g
+moved-answer q m g = go (answeredBy q m) (answer-was q m)
+  where
+    go : (a : LinkAnswered) → AnswerWas q m a → Moved q (answerWas m (a .release)) (a .link)
+    go a (refusedSo r) = stays q (answerWas m (R.Refused r)) g (λ i. refl) refl
+    go a (freed id x r rs k o s) = subst (λ (y : Message). Moved q (answerWas y (released r (x .«data»))) (withoutOldest q)) (sym k) (moved-oldest q id x r rs o g s)
 
 moved-drop : (q : Link) → Good q → Moved q (dropWas true) (emptied q)
 moved-drop q g = record { good = good-emptied q g; keeps = λ es. sym (append-nil (kept (dropWas true ∷ es) (outstanding q)) ∙ kept-dropped (dropWas true) es (outstanding q) (λ id. refl)) }
@@ -192,25 +173,11 @@ window-kept (issue held limit r n o size h room) q = go (inRoom room (issuing he
     go : (x : Outcome) → issuedLink q size x .window ≡ q .window
     go (gives l) = refl
     go (refuses k p) = refl
-window-kept (answer m) q = by-message m
+window-kept (answer m) q = go (answeredBy q m) (answer-was q m)
   where
-    by-oldest : (id : ℕ) (d : Span) (rs : List Request) → settledBy q rs id d .link .window ≡ q .window
-    by-oldest id d [] = refl
-    by-oldest id d (r ∷ rs) = go (eqb (r .id) id)
-      where
-        go : (t : Bool) → (cond {A = LinkAnswered} t (record { link = withoutOldest q; release = released r d }) (keptWith q (numbered 20))) .link .window ≡ q .window
-        go true = refl
-        go false = refl
-
-    by-message : (m : Message) → answeredBy q m .link .window ≡ q .window
-    by-message (M.Response id x) = by-oldest id (x .«data») (outstanding q)
-    by-message (M.Refused r) = refl
-    by-message (M.Index id x) = refl
-    by-message (M.Request id x) = refl
-    by-message (M.Ping id end) = refl
-    by-message (M.Pong id end) = refl
-    by-message (M.IndexUpdate id x) = refl
-    by-message (M.Options id x) = refl
+    go : (a : LinkAnswered) → AnswerWas q m a → a .link .window ≡ q .window
+    go a (refusedSo r) = refl
+    go a (freed id x r rs k o s) = refl
 window-kept drop q = refl
 
 pub windows-kept : (cs : List LinkCall) (q : Link) → final q cs .window ≡ q .window

@@ -7,17 +7,14 @@ use mathlib.Core.Bool.{Bool, true, false, cond}
 use mathlib.Core.List.{List, [], _∷_, _++_}
 use lib.ListN.{length}
 use lib.Seq.{length-take-le}
-use lib.Dec.{eqb}
 use borrow.Author.Tests.{le-leb, lt-leb}
 use Rattle.xdr.specs.Filling.{Outcome, gives, refuses, inRoom}
 use Rattle.message.specs.Message.{message}
-use Rattle.message.specs.declared.answer.Span.{Span}
 use Rattle.message.specs.declared.answer.Message.{Message}
-use Rattle.message.specs.declared.answer.Message.the-variants as M
 use Rattle.message.specs.Answers.{said}
 use Rattle.message_write.specs.Writing.{requestBytes, writing}
 use Rattle.link.specs.Requests.{total}
-use Rattle.link.specs.OneLink.{windowFits, outstanding, numbered, emptyLink, issuing, appended, issuedLink, withoutOldest, released, keptWith, settledBy, answeredBy, emptied}
+use Rattle.link.specs.OneLink.{windowFits, outstanding, numbered, emptyLink, issuing, appended, issuedLink, answeredBy, emptied}
 use Rattle.link.specs.History as link
 use Rattle.link.specs.History.{LinkCall, Event, issueWas, answerWas, dropWas, standing}
 use Rattle.link.specs.declared.request.Request.{Request}
@@ -26,6 +23,7 @@ use Rattle.link.specs.declared.outcome.LinkAnswered.{LinkAnswered}
 use Rattle.link.specs.declared.outcome.Release.the-variants as R
 use Rattle.link.proofs.LinkLaws.{Orderly, orderly-facts}
 use Rattle.link.proofs.IssueLaws.{issuing-tells}
+use Rattle.link.proofs.AnswerLaws.{AnswerWas, kept, freed, answer-was}
 use Rattle.link.proofs.Moves.{Good, nextRequest, outstanding-appended, total-append, outstanding-without}
 use Rattle.link.proofs.HistoryLaws.{room-given, link-run, opened-good, windows-kept}
 use Rattle.queue.specs.Queue.{allowance, isSound, opening, issueOutcome, fromLink, answerOf, dropOf}
@@ -78,27 +76,14 @@ issue-within q r n o size h room (gives l) e g t =
     rw (out, total-append (outstanding q) (nextRequest q size)) (a .2)
 issue-within q r n o size h room (refuses k p) e g t = t
 
-ruled-within : (q : Link) (r : Request) (rs : List Request) (d : Span) (b : Bool) → outstanding q ≡ r ∷ rs → Good q → total (outstanding q) ≤ allowance
-    → total (outstanding ((cond {A = LinkAnswered} b (record { link = withoutOldest q; release = released r d }) (keptWith q (numbered 20))) .link)) ≤ allowance
-ruled-within q r rs d true e g t =
-    let u : total (r ∷ rs) ≤ allowance = subst (λ (l : List Request). total l ≤ allowance) e t in
-    rw (outstanding-without q r rs g e) (omega arith)
-ruled-within q r rs d false e g t = t
-
-settled-within : (q : Link) (id : ℕ) (d : Span) (rs : List Request) → outstanding q ≡ rs → Good q → total (outstanding q) ≤ allowance
-    → total (outstanding (settledBy q rs id d .link)) ≤ allowance
-settled-within q id d [] e g t = t
-settled-within q id d (r ∷ rs) e g t = ruled-within q r rs d (eqb (r .id) id) e g t
-
 answer-within : (q : Link) (m : Message) → Good q → total (outstanding q) ≤ allowance → total (outstanding (answeredBy q m .link)) ≤ allowance
-answer-within q (M.Response id x) g t = settled-within q id (x .«data») (outstanding q) refl g t
-answer-within q (M.Refused r) g t = t
-answer-within q (M.Index id x) g t = t
-answer-within q (M.Request id x) g t = t
-answer-within q (M.Ping id end) g t = t
-answer-within q (M.Pong id end) g t = t
-answer-within q (M.IndexUpdate id x) g t = t
-answer-within q (M.Options id x) g t = t
+answer-within q m g t = go (answeredBy q m) (answer-was q m)
+  where
+    go : (a : LinkAnswered) → AnswerWas q m a → total (outstanding (a .link)) ≤ allowance
+    go a (kept r) = t
+    go a (freed id x r rs k o s) =
+        let u : total (r ∷ rs) ≤ allowance = subst (λ (l : List Request). total l ≤ allowance) o t in
+        rw (outstanding-without q r rs g o) (omega arith)
 
 within : (q : RequestQueue) (c : Call) → Good (q .link) → total (outstanding (q .link)) ≤ allowance → total (outstanding (link.afterCall (q .link) (linkCall q c))) ≤ allowance
 within q (issue r n o size h room) g t = issue-within (q .link) r n o size h room (inRoom room (issuing (total (outstanding (q .link))) allowance (q .link) (requestBytes r n o size h) size)) refl g t
