@@ -24,8 +24,8 @@ pub fn next_at(s: &[u8], at: usize, old: &[u8], j: usize) -> Next
 {
     match table::side_at(s, at, old, j) {
         Side::Neither => Next::End,
-        Side::Left(f) => from_left(at, f.past, j),
-        Side::Right(g) => from_right(j, g.past, at),
+        Side::Left(x) => from_left(at, x, j),
+        Side::Right(y) => from_right(j, y, at),
         Side::Both(f, g) => from_left(at, f.past, g.past),
     }
 }

@@ -63,8 +63,8 @@ pub fn next_at(a: &[u8], i: usize, b: &[u8], j: usize) -> Next
 {
     match table::side_at(a, i, b, j) {
         Side::Neither => Next::End,
-        Side::Left(f) => from_left(i, f.past, j),
-        Side::Right(g) => from_right(j, g.past, i),
+        Side::Left(x) => from_left(i, x, j),
+        Side::Right(y) => from_right(j, y, i),
         Side::Both(f, g) => higher(a, i, f, b, j, g),
     }
 }

@@ -30,8 +30,8 @@ shows-at {t} {at} (f ∷ fs) w = subst (Shows t at (f ∷ fs)) (sym (standing w 
 -- of fs and gs, which are left at i and j, a side comes next
 pub data Told (i j : ℕ) : List File → List File → Side → Type 0 where
   told-none : Told i j [] [] Neither
-  told-left : (f : File) (fs gs : List File) → Above (f .name) gs → Told i j (f ∷ fs) gs (Left (fieldsOf i f))
-  told-right : (g : File) (fs gs : List File) → Above (g .name) fs → Told i j fs (g ∷ gs) (Right (fieldsOf j g))
+  told-left : (f : File) (fs gs : List File) → Above (f .name) gs → Told i j (f ∷ fs) gs (Left (fieldsOf i f .past))
+  told-right : (g : File) (fs gs : List File) → Above (g .name) fs → Told i j fs (g ∷ gs) (Right (fieldsOf j g .past))
   told-both : (f g : File) (fs gs : List File) → compareLists (f .name) (g .name) ≡ Equal → Told i j (f ∷ fs) (g ∷ gs) (Both (fieldsOf i f) (fieldsOf j g))
 
 -- by the answers that were given and what they are

@@ -5,11 +5,11 @@ use order::Order;
 use record::Fields;
 use record::Outline;
 
-// The first table's, the second's, or both, which have one name; or none is left.
+// The first table's up to a place, the second's, or both, which have one name; or none is left.
 pub enum Side {
     Neither,
-    Left(Fields),
-    Right(Fields),
+    Left(usize),
+    Right(usize),
     Both(Fields, Fields),
 }
 
@@ -18,9 +18,9 @@ fn side_of_two(a: &[u8], f: Fields, b: &[u8], g: Fields) -> Side
     ensures { λ r. ⌜ r ≡ sideOfTwo (now (a .entry)) f (now (b .entry)) g ⌝ }
 {
     match order::compare_parts(a, f.name, f.stop, b, g.name, g.stop) {
-        Order::Less => Side::Left(f),
+        Order::Less => Side::Left(f.past),
         Order::Equal => Side::Both(f, g),
-        Order::Greater => Side::Right(g),
+        Order::Greater => Side::Right(g.past),
     }
 }
 
@@ -31,10 +31,10 @@ pub fn side_at(a: &[u8], i: usize, b: &[u8], j: usize) -> Side
     match record::outline_at(a, i) {
         Outline::Short => match record::outline_at(b, j) {
             Outline::Short => Side::Neither,
-            Outline::Whole(g) => Side::Right(g),
+            Outline::Whole(g) => Side::Right(g.past),
         },
         Outline::Whole(f) => match record::outline_at(b, j) {
-            Outline::Short => Side::Left(f),
+            Outline::Short => Side::Left(f.past),
             Outline::Whole(g) => side_of_two(a, f, b, g),
         },
     }

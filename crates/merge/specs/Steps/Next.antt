@@ -35,8 +35,8 @@ higherOf a i b j f g = higherStep (compareAt a f b g) i (f .past) j (g .past)
 -- by whose record comes next at i and j; `both` is for two of one name
 abbrev pub nextBy : (both : Fields → Fields → Next) → (i j : ℕ) → Side → Next
 nextBy both i j Neither = End
-nextBy both i j (Left f) = fromLeft i (f .past) j
-nextBy both i j (Right g) = fromRight j (g .past) i
+nextBy both i j (Left x) = fromLeft i x j
+nextBy both i j (Right y) = fromRight j y i
 nextBy both i j (Both f g) = both f g
 
 -- the next record where a merge has come to i and j

@@ -13,9 +13,9 @@ use Rattle.table.specs.declared.side.Side.the-variants.{Neither, Left, R
 
 -- two records, by how their names compare
 abbrev pub sideBy : Order → (f g : Fields) → Side
-sideBy Less f g = Left f
+sideBy Less f g = Left (f .past)
 sideBy Equal f g = Both f g
-sideBy Greater f g = Right g
+sideBy Greater f g = Right (g .past)
 
 -- two records, each in its own bytes
 abbrev pub sideOfTwo : List ℕ → Fields → List ℕ → Fields → Side
@@ -24,8 +24,8 @@ sideOfTwo a f b g = sideBy (compareLists (part a (f .name) (f .stop)) (part b (g
 -- by the outlines of what stands at a place of each
 abbrev pub sideOf : List ℕ → Outline → List ℕ → Outline → Side
 sideOf a O.Short b O.Short = Neither
-sideOf a O.Short b (O.Whole g) = Right g
-sideOf a (O.Whole f) b O.Short = Left f
+sideOf a O.Short b (O.Whole g) = Right (g .past)
+sideOf a (O.Whole f) b O.Short = Left (f .past)
 sideOf a (O.Whole f) b (O.Whole g) = sideOfTwo a f b g
 
 -- where a walk has come to i and j
