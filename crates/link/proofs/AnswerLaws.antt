@@ -7,17 +7,15 @@ use native.Mathlib.Omega.{arith}
 use lib.ListN.{length}
 use lib.Dec.{eqb}
 use borrow.Author.Tests.{eq-eqb, ne-eqb, eqb-true}
-use types.Run.{OneOf, miss}
-use denote.Enum.Declared.{tagOf}
+use Rattle.xdr.specs.Answers.{atStart}
 use Rattle.xdr.specs.Filling.{Outcome, gives, refuses, inRoom, fillingAnswer, bufferAfter}
 use Rattle.xdr.specs.declared.answer.Refusal.{Refusal}
 use Rattle.xdr.specs.declared.filling.Filling.the-variants as F
 use Rattle.message.specs.declared.answer.Span.{Span}
 use Rattle.message.specs.declared.answer.ResponseSpan.{ResponseSpan}
-use Rattle.message.specs.declared.answer.Message.{Message}
-use Rattle.message.proofs.answer.Message.{the-type}
-use Rattle.message.specs.declared.answer.Message.the-variants as M
-use Rattle.link.specs.OneLink.{outstanding, numbered, issuedLink, Issues, withoutOldest, released, keptWith, settledBy, answeredBy}
+use Rattle.message.specs.declared.kind.ResponseIn.{ResponseIn}
+use Rattle.message.specs.declared.kind.ResponseIn.the-variants as P
+use Rattle.link.specs.OneLink.{outstanding, issuedLink, Issues, withoutOldest, released, keptWith, settledBy, answeredBy}
 use Rattle.link.specs.declared.request.Request.{Request}
 use Rattle.link.specs.declared.list.Link.{Link}
 use Rattle.link.specs.declared.outcome.LinkIssued.{LinkIssued}
@@ -26,57 +24,38 @@ use Rattle.link.specs.declared.outcome.Release.the-variants as R
 
 -- the requests, the oldest first
 
-pub settled-none : (q : Link) (id : ℕ) (d : Span) → outstanding q ≡ [] → keptWith q (numbered 20) ≡ settledBy q (outstanding q) id d
+pub settled-none : (q : Link) (id : ℕ) (d : Span) → outstanding q ≡ [] → keptWith q (atStart 20) ≡ settledBy q (outstanding q) id d
 settled-none q id d e = rw e refl
 
 module _ (q : Link) (id : ℕ) (d : Span) (r : Request) (rs : List Request) (e : outstanding q ≡ r ∷ rs) where
-  pub settled-other : (r .id ≡ id → ⊥) → keptWith q (numbered 20) ≡ settledBy q (outstanding q) id d
+  pub settled-other : (r .id ≡ id → ⊥) → keptWith q (atStart 20) ≡ settledBy q (outstanding q) id d
   settled-other h = rw (e, ne-eqb _ _ h) refl
 
   pub settled-oldest : r .id ≡ id → record { link = withoutOldest q; release = released r d } ≡ settledBy q (outstanding q) id d
   settled-oldest h = rw (e, eq-eqb _ _ h) refl
 
--- the whole call
-
--- a message of any other variant than Response and Refused
-pub answer-other : (q : Link) (m : Message) → OneOf (0 ∷ 1 ∷ 3 ∷ 4 ∷ 5 ∷ 6 ∷ []) (tagOf the-type m) → keptWith q (numbered 18) ≡ answeredBy q m
-answer-other q (M.Index id x) h = refl
-answer-other q (M.Request id x) h = refl
-answer-other q (M.Response id x) h = absurd (miss (0 ∷ 1 ∷ 3 ∷ 4 ∷ 5 ∷ 6 ∷ []) 2 tt h)
-answer-other q (M.Ping id end) h = refl
-answer-other q (M.Pong id end) h = refl
-answer-other q (M.IndexUpdate id x) h = refl
-answer-other q (M.Options id x) h = refl
-answer-other q (M.Refused r) h = absurd (miss (0 ∷ 1 ∷ 3 ∷ 4 ∷ 5 ∷ 6 ∷ []) 7 tt h)
-
 -- what an answer does: it is refused, or the oldest request is released by the Response to it
-pub data AnswerWas (q : Link) (m : Message) : LinkAnswered → Type 0 where
+pub data AnswerWas (q : Link) (m : ResponseIn) : LinkAnswered → Type 0 where
   kept : (r : Refusal) → AnswerWas q m (keptWith q r)
-  freed : (id : ℕ) (x : ResponseSpan) (r : Request) (rs : List Request) → m ≡ M.Response id x → outstanding q ≡ r ∷ rs → r .id ≡ id
+  freed : (id : ℕ) (x : ResponseSpan) (r : Request) (rs : List Request) → m ≡ P.Taken id x → outstanding q ≡ r ∷ rs → r .id ≡ id
       → AnswerWas q m (record { link = withoutOldest q; release = released r (x .«data») })
 
-pub answer-was : (q : Link) (m : Message) → AnswerWas q m (answeredBy q m)
-answer-was q (M.Response id x) = go (outstanding q) refl
+pub answer-was : (q : Link) (m : ResponseIn) → AnswerWas q m (answeredBy q m)
+answer-was q (P.Taken id x) = go (outstanding q) refl
   where
     by-id : (r : Request) (rs : List Request) → outstanding q ≡ r ∷ rs → (t : Bool) → eqb (r .id) id ≡ t
-        → AnswerWas q (M.Response id x) (cond t (record { link = withoutOldest q; release = released r (x .«data») }) (keptWith q (numbered 20)))
+        → AnswerWas q (P.Taken id x) (cond t (record { link = withoutOldest q; release = released r (x .«data») }) (keptWith q (atStart 20)))
     by-id r rs e true h = freed id x r rs refl e (eqb-true _ _ h)
-    by-id r rs e false h = kept (numbered 20)
+    by-id r rs e false h = kept (atStart 20)
 
-    go : (rs : List Request) → outstanding q ≡ rs → AnswerWas q (M.Response id x) (settledBy q rs id (x .«data»))
-    go [] e = kept (numbered 20)
+    go : (rs : List Request) → outstanding q ≡ rs → AnswerWas q (P.Taken id x) (settledBy q rs id (x .«data»))
+    go [] e = kept (atStart 20)
     go (r ∷ rs) e = by-id r rs e (eqb (r .id) id) refl
-answer-was q (M.Refused r) = kept r
-answer-was q (M.Index id x) = kept (numbered 18)
-answer-was q (M.Request id x) = kept (numbered 18)
-answer-was q (M.Ping id end) = kept (numbered 18)
-answer-was q (M.Pong id end) = kept (numbered 18)
-answer-was q (M.IndexUpdate id x) = kept (numbered 18)
-answer-was q (M.Options id x) = kept (numbered 18)
+answer-was q (P.Refused r) = kept r
 
 -- a refused call changes nothing
 
-pub answered-kept : (q : Link) (f : Refusal) (m : Message) → answeredBy q m .release ≡ R.Refused f → answeredBy q m .link ≡ q
+pub answered-kept : (q : Link) (f : Refusal) (m : ResponseIn) → answeredBy q m .release ≡ R.Refused f → answeredBy q m .link ≡ q
 answered-kept q f m = go (answeredBy q m) (answer-was q m)
   where
     unrefused : (b c : Bool) (r : Request) (d : Span) → cond b (R.NotAvailable (r .id) (r .size)) (cond c (R.Data (r .id) (r .size) d) (R.WrongSize (r .id) (r .size))) ≡ R.Refused f → _≡_ {A = ℕ} 0 1

@@ -10,8 +10,8 @@ use lib.Dec.{eqb, leb}
 use borrow.Author.Tests.{eq-eqb, ne-eqb, leb-true}
 use Rattle.xdr.specs.Filling.{Outcome, gives, refuses, inRoom}
 use Rattle.message.specs.declared.answer.ResponseSpan.{ResponseSpan}
-use Rattle.message.specs.declared.answer.Message.{Message}
-use Rattle.message.specs.declared.answer.Message.the-variants as M
+use Rattle.message.specs.declared.kind.ResponseIn.{ResponseIn}
+use Rattle.message.specs.declared.kind.ResponseIn.the-variants as P
 use Rattle.message_write.specs.Writing.{requestBytes}
 use Rattle.link.specs.Requests.{isConsecutive}
 use Rattle.link.specs.OneLink.{outstanding, windowFits, emptyLink, issuing, appended, issuedLink, withoutOldest, released, answeredBy, emptied}
@@ -89,7 +89,7 @@ moved-issue held limit q r n o size h room (gives l) e g =
 moved-issue held limit q r n o size h room (refuses k p) e g = stays q (issueWas (q .next) size (refuses k p)) g (λ id. refl) refl
 
 settles-released : (i id : ℕ) (x : ResponseSpan) (r : Request) (a b : Bool)
-    → settles i (answerWas (M.Response id x) (cond a (R.NotAvailable (r .id) (r .size)) (cond b (R.Data (r .id) (r .size) (x .«data»)) (R.WrongSize (r .id) (r .size))))) ≡ eqb id i
+    → settles i (answerWas (P.Taken id x) (cond a (R.NotAvailable (r .id) (r .size)) (cond b (R.Data (r .id) (r .size) (x .«data»)) (R.WrongSize (r .id) (r .size))))) ≡ eqb id i
 settles-released i id x r true b = refl
 settles-released i id x r false true = refl
 settles-released i id x r false false = refl
@@ -104,7 +104,7 @@ rest-length q r rs g e =
 -- an answer to the oldest
 module _ (q : Link) (id : ℕ) (x : ResponseSpan) (r : Request) (rs : List Request) (e : outstanding q ≡ r ∷ rs) (g : Good q) where
   abbrev was : Event
-  was = answerWas (M.Response id x) (released r (x .«data»))
+  was = answerWas (P.Taken id x) (released r (x .«data»))
 
   moved-oldest : r .id ≡ id → Moved q was (withoutOldest q)
   moved-oldest same =
@@ -124,12 +124,12 @@ module _ (q : Link) (id : ℕ) (x : ResponseSpan) (r : Request) (rs : List Reque
             ∙ sym (append-nil (kept (was ∷ es) (outstanding q)));
       }
 
-moved-answer : (q : Link) (m : Message) → Good q → Moved q (answerWas m (answeredBy q m .release)) (answeredBy q m .link)
+moved-answer : (q : Link) (m : ResponseIn) → Good q → Moved q (answerWas m (answeredBy q m .release)) (answeredBy q m .link)
 moved-answer q m g = go (answeredBy q m) (answer-was q m)
   where
     go : (a : LinkAnswered) → AnswerWas q m a → Moved q (answerWas m (a .release)) (a .link)
     go a (refusedSo r) = stays q (answerWas m (R.Refused r)) g (λ i. refl) refl
-    go a (freed id x r rs k o s) = subst (λ (y : Message). Moved q (answerWas y (released r (x .«data»))) (withoutOldest q)) (sym k) (moved-oldest q id x r rs o g s)
+    go a (freed id x r rs k o s) = subst (λ (y : ResponseIn). Moved q (answerWas y (released r (x .«data»))) (withoutOldest q)) (sym k) (moved-oldest q id x r rs o g s)
 
 moved-drop : (q : Link) → Good q → Moved q (dropWas true) (emptied q)
 moved-drop q g = record { good = good-emptied q g; keeps = λ es. sym (append-nil (kept (dropWas true ∷ es) (outstanding q)) ∙ kept-dropped (dropWas true) es (outstanding q) (λ id. refl)) }

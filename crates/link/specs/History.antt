@@ -5,8 +5,8 @@ use mathlib.Core.Bool.{Bool, true, false, cond, _||_}
 use mathlib.Core.List.{List, [], _∷_, _++_}
 use lib.Dec.{eqb}
 use Rattle.xdr.specs.Filling.{Outcome, gives, refuses, inRoom}
-use Rattle.message.specs.declared.answer.Message.{Message}
-use Rattle.message.specs.declared.answer.Message.the-variants as M
+use Rattle.message.specs.declared.kind.ResponseIn.{ResponseIn}
+use Rattle.message.specs.declared.kind.ResponseIn.the-variants as P
 use Rattle.message_write.specs.Writing.{requestBytes}
 use Rattle.link.specs.OneLink.{issuing, issuedLink, answeredBy, emptied}
 use Rattle.link.specs.declared.request.Request.{Request}
@@ -17,13 +17,13 @@ use Rattle.link.specs.declared.outcome.Release.the-variants as R
 -- a call, with what it is given besides the link: of an issue the bytes held, the limit and the buffer's length; of an answer what the message says
 pub data LinkCall : Type 0 where
   issue : (held limit : ℕ) (repository name : List ℕ) (offset size : ℕ) (hash : List ℕ) (room : ℕ) → LinkCall
-  answer : Message → LinkCall
+  answer : ResponseIn → LinkCall
   drop : LinkCall
 
 -- a call with what came of it: of an issue the ID, the Length, and the bytes written or the refusal; of a drop whether it was accepted
 pub data Event : Type 0 where
   issueWas : (id size : ℕ) → Outcome → Event
-  answerWas : Message → Release → Event
+  answerWas : ResponseIn → Release → Event
   dropWas : Bool → Event
 
 -- the link that a call hands back
@@ -63,15 +63,9 @@ isTaken (R.WrongSize id size) = true
 isTaken (R.Refused r) = false
 
 -- a message is the Response with an ID
-abbrev pub responds : (id : ℕ) → Message → Bool
-responds id (M.Response k x) = eqb k id
-responds id (M.Index k x) = false
-responds id (M.Request k x) = false
-responds id (M.Ping k end) = false
-responds id (M.Pong k end) = false
-responds id (M.IndexUpdate k x) = false
-responds id (M.Options k x) = false
-responds id (M.Refused r) = false
+abbrev pub responds : (id : ℕ) → ResponseIn → Bool
+responds id (P.Taken k x) = eqb k id
+responds id (P.Refused r) = false
 
 -- an event settles the request of an ID: the Response to it was taken, or the link was dropped
 abbrev pub settles : (id : ℕ) → Event → Bool

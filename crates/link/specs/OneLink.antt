@@ -5,13 +5,14 @@ use mathlib.Core.List.{List, [], _∷_, _++_}
 use mathlib.Core.Path.{_≡_}
 use lib.ListN.{length, take, drop, set, replicate}
 use lib.Dec.{leb, eqb}
+use Rattle.xdr.specs.Answers.{atStart}
 use Rattle.xdr.specs.Filling.{Outcome, gives, refuses, inRoom, Fills}
 use Rattle.xdr.specs.declared.answer.Refusal.{Refusal}
 use Rattle.message.specs.Limits.{idLimit}
 use Rattle.message.specs.Message.{message}
 use Rattle.message.specs.declared.answer.Span.{Span}
-use Rattle.message.specs.declared.answer.Message.{Message}
-use Rattle.message.specs.declared.answer.Message.the-variants as M
+use Rattle.message.specs.declared.kind.ResponseIn.{ResponseIn}
+use Rattle.message.specs.declared.kind.ResponseIn.the-variants as P
 use Rattle.message_write.specs.Writing.{writing}
 use Rattle.link.specs.Requests.{blank, after, isConsecutive}
 use Rattle.link.specs.declared.request.Request.{Request}
@@ -40,10 +41,6 @@ shapeFits q = windowFits (q .window) && (leb (q .count) (q .window) && leb (q .n
 -- a link in order: its shape fits, and its requests are consecutive
 unfoldable pub isOrderly : Link → Bool
 isOrderly q = shapeFits q && isConsecutive (outstanding q) (q .next)
-
--- a refusal at place 0
-abbrev pub numbered : ℕ → Refusal
-numbered k = record { number = k; place = 0 }
 
 -- a link with a window and no requests, whose next ID is 0
 abbrev pub emptyLink : (window : ℕ) → Link
@@ -102,19 +99,13 @@ keptWith q r = record { link = q; release = R.Refused r }
 
 -- a Response with an ID to some requests, the oldest first (20)
 abbrev pub settledBy : Link → List Request → (id : ℕ) → Span → LinkAnswered
-settledBy q [] id d = keptWith q (numbered 20)
-settledBy q (r ∷ rs) id d = cond (eqb (r .id) id) (record { link = withoutOldest q; release = released r d }) (keptWith q (numbered 20))
+settledBy q [] id d = keptWith q (atStart 20)
+settledBy q (r ∷ rs) id d = cond (eqb (r .id) id) (record { link = withoutOldest q; release = released r d }) (keptWith q (atStart 20))
 
--- any message (reading, then 18)
-abbrev pub answeredBy : Link → Message → LinkAnswered
-answeredBy q (M.Response id x) = settledBy q (outstanding q) id (x .«data»)
-answeredBy q (M.Refused r) = keptWith q r
-answeredBy q (M.Index id x) = keptWith q (numbered 18)
-answeredBy q (M.Request id x) = keptWith q (numbered 18)
-answeredBy q (M.Ping id end) = keptWith q (numbered 18)
-answeredBy q (M.Pong id end) = keptWith q (numbered 18)
-answeredBy q (M.IndexUpdate id x) = keptWith q (numbered 18)
-answeredBy q (M.Options id x) = keptWith q (numbered 18)
+-- a Response, or why there is none (reading, then 18)
+abbrev pub answeredBy : Link → ResponseIn → LinkAnswered
+answeredBy q (P.Taken id x) = settledBy q (outstanding q) id (x .«data»)
+answeredBy q (P.Refused r) = keptWith q r
 
 -- dropping the link releases everything; the next ID goes on
 abbrev pub emptied : Link → Link

@@ -8,7 +8,6 @@ pub mod request;
 
 pub use list::Link;
 pub use list::Tally;
-pub use list::refusal;
 pub use list::window_fits;
 pub use outcome::LinkAnswered;
 pub use outcome::LinkIssued;

@@ -3,9 +3,10 @@ ghost use Prim.Native.Nat.{_<_};
 ghost use mathlib.Core.Path.{_≡_};
 ghost use lib.ListN.{length};
 ghost use Rattle.message.specs.Answers.{said};
+ghost use Rattle.message.specs.Kinds.{responseIn};
 ghost use Rattle.message_write.specs.Writing.{requestBytes};
 ghost use Rattle.link.specs.Requests.{total};
-ghost use Rattle.link.specs.OneLink.{windowFits, outstanding, shapeFits, numbered, emptyLink, faultWithin, issuing, Issues, released, settledBy, answeredBy, emptied};
+ghost use Rattle.link.specs.OneLink.{windowFits, outstanding, shapeFits, emptyLink, faultWithin, issuing, Issues, released, settledBy, answeredBy, emptied};
 ghost use Rattle.link.specs.Steps.{orderlyBytes, barredAnswer, issuedBy};
 use crate::outcome::LinkAnswered;
 use crate::outcome::LinkIssued;
@@ -15,7 +16,7 @@ use crate::request::Request;
 use crate::request::following;
 use crate::request::shifted;
 use crate::request::stands_before;
-use message::Message;
+use message::ResponseIn;
 use message::Span;
 use xdr::Filling;
 use xdr::Refusal;
@@ -43,13 +44,6 @@ pub fn window_fits(window: u32) -> bool
         return false;
     }
     window <= Link::WINDOW_LIMIT
-}
-
-// A refusal at place 0.
-pub fn refusal(number: u32) -> Refusal
-    ensures { λ r. ⌜ r ≡ numbered number ⌝ }
-{
-    Refusal { number, place: 0 }
 }
 
 // What came of an answer with so much data to the oldest request.
@@ -228,14 +222,14 @@ impl Link {
         if self.count == 0 {
             return LinkAnswered {
                 link: self,
-                release: Release::Refused(refusal(20)),
+                release: Release::Refused(Refusal::at_start(20)),
             };
         }
         let oldest = self.entries[0];
         if oldest.id != id {
             return LinkAnswered {
                 link: self,
-                release: Release::Refused(refusal(20)),
+                release: Release::Refused(Refusal::at_start(20)),
             };
         }
         LinkAnswered {
@@ -251,17 +245,13 @@ impl Link {
 
     // Releases the oldest request by the Response to it.
     pub fn answer(self, message: &[u8]) -> LinkAnswered
-        ensures { λ r. ⌜ r ≡ answeredBy self (said (now (message .entry))) ⌝ }
+        ensures { λ r. ⌜ r ≡ answeredBy self (responseIn (said (now (message .entry)))) ⌝ }
     {
-        match message::read(message) {
-            Message::Response(id, x) => self.settle(id, x.data),
-            Message::Refused(r) => LinkAnswered {
+        match message::response_in(message::read(message)) {
+            ResponseIn::Taken(id, x) => self.settle(id, x.data),
+            ResponseIn::Refused(r) => LinkAnswered {
                 link: self,
                 release: Release::Refused(r),
-            },
-            _ => LinkAnswered {
-                link: self,
-                release: Release::Refused(refusal(18)),
             },
         }
     }

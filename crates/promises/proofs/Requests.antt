@@ -8,13 +8,16 @@ use mathlib.Core.List.{List, [], _∷_, _++_}
 use lib.ListN.{length}
 use lib.Seq.{length-take-le}
 use borrow.Author.Tests.{le-leb, lt-leb}
+use Rattle.xdr.specs.Answers.{atStart}
 use Rattle.xdr.specs.Filling.{Outcome, gives, refuses, inRoom}
 use Rattle.message.specs.Message.{message}
 use Rattle.message.specs.declared.answer.Message.{Message}
 use Rattle.message.specs.Answers.{said}
+use Rattle.message.specs.Kinds.{responseIn}
+use Rattle.message.specs.declared.kind.ResponseIn.{ResponseIn}
 use Rattle.message_write.specs.Writing.{requestBytes, writing}
 use Rattle.link.specs.Requests.{total}
-use Rattle.link.specs.OneLink.{windowFits, outstanding, numbered, emptyLink, issuing, appended, issuedLink, answeredBy, emptied}
+use Rattle.link.specs.OneLink.{windowFits, outstanding, emptyLink, issuing, appended, issuedLink, answeredBy, emptied}
 use Rattle.link.specs.History as link
 use Rattle.link.specs.History.{LinkCall, Event, issueWas, answerWas, dropWas, standing}
 use Rattle.link.specs.declared.request.Request.{Request}
@@ -37,7 +40,7 @@ use Rattle.promises.specs.History.{Call, issue, answer, drop, isAccepted
 -- a call as the link sees it
 abbrev linkCall : RequestQueue → Call → LinkCall
 linkCall q (issue r n o size h room) = link.issue (total (outstanding (q .link))) allowance r n o size h room
-linkCall q (answer s) = link.answer (said s)
+linkCall q (answer s) = link.answer (responseIn (said s))
 linkCall q drop = link.drop
 
 module _ (q : RequestQueue) (s : isSound q ≡ true) where
@@ -48,11 +51,11 @@ module _ (q : RequestQueue) (s : isSound q ≡ true) where
   same-issue : (b : List ℕ) (size : ℕ) → issueOutcome q b size ≡ issuing (total (outstanding (q .link))) allowance (q .link) b size
   same-issue b size = past-22 (issuing (total (outstanding (q .link))) allowance (q .link) b size) (refuses 22 0)
 
-  same-answer : (m : Message) → answerOf q m ≡ fromLink (answeredBy (q .link) m)
-  same-answer m = past-22 (fromLink (answeredBy (q .link) m)) (record { queue = q; release = R.Refused (numbered 22) })
+  same-answer : (m : Message) → answerOf q m ≡ fromLink (answeredBy (q .link) (responseIn m))
+  same-answer m = past-22 (fromLink (answeredBy (q .link) (responseIn m))) (record { queue = q; release = R.Refused (atStart 22) })
 
   same-drop : dropOf q ≡ record { queue = record { link = emptied (q .link) }; verdict = Ruled.Accepted }
-  same-drop = past-22 (record { queue = record { link = emptied (q .link) }; verdict = Ruled.Accepted }) (record { queue = q; verdict = Ruled.Refused (numbered 22) })
+  same-drop = past-22 (record { queue = record { link = emptied (q .link) }; verdict = Ruled.Accepted }) (record { queue = q; verdict = Ruled.Refused (atStart 22) })
 
   same-after : (c : Call) → afterCall q c .link ≡ link.afterCall (q .link) (linkCall q c)
   same-after (issue r n o size h room) = ap (λ (x : Outcome). issuedLink (q .link) size (inRoom room x)) (same-issue (requestBytes r n o size h) size)
@@ -61,7 +64,7 @@ module _ (q : RequestQueue) (s : isSound q ≡ true) where
 
   same-event : (c : Call) → event q c ≡ link.event (q .link) (linkCall q c)
   same-event (issue r n o size h room) = ap (λ (x : Outcome). issueWas (q .link .next) size (inRoom room x)) (same-issue (requestBytes r n o size h) size)
-  same-event (answer m) = ap (λ (x : Answered). answerWas (said m) (x .release)) (same-answer (said m))
+  same-event (answer m) = ap (λ (x : Answered). answerWas (responseIn (said m)) (x .release)) (same-answer (said m))
   same-event drop = ap (λ (x : Emptied). dropWas (isAccepted (x .verdict))) same-drop
 
 -- the total stays within the allowance
@@ -76,7 +79,7 @@ issue-within q r n o size h room (gives l) e g t =
     rw (out, total-append (outstanding q) (nextRequest q size)) (a .2)
 issue-within q r n o size h room (refuses k p) e g t = t
 
-answer-within : (q : Link) (m : Message) → Good q → total (outstanding q) ≤ allowance → total (outstanding (answeredBy q m .link)) ≤ allowance
+answer-within : (q : Link) (m : ResponseIn) → Good q → total (outstanding q) ≤ allowance → total (outstanding (answeredBy q m .link)) ≤ allowance
 answer-within q m g t = go (answeredBy q m) (answer-was q m)
   where
     go : (a : LinkAnswered) → AnswerWas q m a → total (outstanding (a .link)) ≤ allowance
@@ -87,7 +90,7 @@ answer-within q m g t = go (answeredBy q m) (answer-was q m)
 
 within : (q : RequestQueue) (c : Call) → Good (q .link) → total (outstanding (q .link)) ≤ allowance → total (outstanding (link.afterCall (q .link) (linkCall q c))) ≤ allowance
 within q (issue r n o size h room) g t = issue-within (q .link) r n o size h room (inRoom room (issuing (total (outstanding (q .link))) allowance (q .link) (requestBytes r n o size h) size)) refl g t
-within q (answer s) g t = answer-within (q .link) (said s) g t
+within q (answer s) g t = answer-within (q .link) (responseIn (said s)) g t
 within q drop g t = omega arith
 
 record Same (q : RequestQueue) (cs : List Call) : Type 0 where
@@ -116,7 +119,7 @@ same (c ∷ cs) q g t =
 -- an accepted opening
 module _ (window : ℕ) where
   abbrev openedBy : Bool → Emptied
-  openedBy t = cond t (record { queue = record { link = emptyLink window }; verdict = Ruled.Accepted }) (record { queue = record { link = emptyLink 0 }; verdict = Ruled.Refused (numbered 22) })
+  openedBy t = cond t (record { queue = record { link = emptyLink window }; verdict = Ruled.Accepted }) (record { queue = record { link = emptyLink 0 }; verdict = Ruled.Refused (atStart 22) })
 
   accepted-is : (t : Bool) → openedBy t .verdict ≡ Ruled.Accepted → t ≡ true
   accepted-is true e = refl

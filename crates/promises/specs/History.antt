@@ -6,6 +6,7 @@ use mathlib.Core.Path.{_≡_}
 use lib.ListN.{length}
 use Rattle.xdr.specs.Filling.{Outcome, inRoom}
 use Rattle.message.specs.Answers.{said}
+use Rattle.message.specs.Kinds.{responseIn}
 use Rattle.message_write.specs.Writing.{requestBytes}
 use Rattle.link.specs.Requests.{total}
 use Rattle.link.specs.OneLink.{outstanding, issuedLink}
@@ -35,7 +36,7 @@ afterCall q drop = dropOf q .queue
 -- the event that a call is
 abbrev pub event : RequestQueue → Call → Event
 event q (issue r n o size h room) = issueWas (q .link .next) size (inRoom room (issueOutcome q (requestBytes r n o size h) size))
-event q (answer s) = answerWas (said s) (answerOf q (said s) .release)
+event q (answer s) = answerWas (responseIn (said s)) (answerOf q (said s) .release)
 event q drop = dropWas (isAccepted (dropOf q .verdict))
 
 -- the queue after some calls

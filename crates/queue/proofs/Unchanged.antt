@@ -4,10 +4,12 @@ use native.Mathlib.Omega.{arith}
 use mathlib.Core.Path.{_≡_, refl, ap}
 use mathlib.Core.Bool.{Bool, true, false, cond}
 use mathlib.Core.List.{List}
+use Rattle.xdr.specs.Answers.{atStart}
 use Rattle.xdr.specs.declared.answer.Refusal.{Refusal}
 use Rattle.xdr.specs.declared.filling.Filling.the-variants as F
+use Rattle.message.specs.Kinds.{responseIn}
 use Rattle.message.specs.declared.answer.Message.{Message}
-use Rattle.link.specs.OneLink.{numbered, answeredBy, emptied, Issues}
+use Rattle.link.specs.OneLink.{answeredBy, emptied, Issues}
 use Rattle.link.specs.declared.list.Link.{Link}
 use Rattle.link.specs.declared.outcome.Release.the-variants as R
 use Rattle.link.proofs.AnswerLaws.{answered-kept, issued-kept}
@@ -29,15 +31,15 @@ module _ (q : RequestQueue) where
   pub refused-answer-changes-nothing : (m : Message) (f : Refusal) → answerOf q m .release ≡ R.Refused f → answerOf q m .queue ≡ q
   refused-answer-changes-nothing m f = go (isSound q)
     where
-      go : (t : Bool) → cond {A = Answered} t (fromLink (answeredBy (q .link) m)) (record { queue = q; release = R.Refused (numbered 22) }) .release ≡ R.Refused f
-          → cond {A = Answered} t (fromLink (answeredBy (q .link) m)) (record { queue = q; release = R.Refused (numbered 22) }) .queue ≡ q
-      go true e = ap withLink (answered-kept (q .link) f m e)
+      go : (t : Bool) → cond {A = Answered} t (fromLink (answeredBy (q .link) (responseIn m))) (record { queue = q; release = R.Refused (atStart 22) }) .release ≡ R.Refused f
+          → cond {A = Answered} t (fromLink (answeredBy (q .link) (responseIn m))) (record { queue = q; release = R.Refused (atStart 22) }) .queue ≡ q
+      go true e = ap withLink (answered-kept (q .link) f (responseIn m) e)
       go false e = refl
 
   pub refused-drop-changes-nothing : (f : Refusal) → dropOf q .verdict ≡ Verdict.Refused f → dropOf q .queue ≡ q
   refused-drop-changes-nothing f = go (isSound q)
     where
-      go : (t : Bool) → cond {A = Emptied} t (record { queue = withLink (emptied (q .link)); verdict = Verdict.Accepted }) (record { queue = q; verdict = Verdict.Refused (numbered 22) }) .verdict ≡ Verdict.Refused f
-          → cond {A = Emptied} t (record { queue = withLink (emptied (q .link)); verdict = Verdict.Accepted }) (record { queue = q; verdict = Verdict.Refused (numbered 22) }) .queue ≡ q
+      go : (t : Bool) → cond {A = Emptied} t (record { queue = withLink (emptied (q .link)); verdict = Verdict.Accepted }) (record { queue = q; verdict = Verdict.Refused (atStart 22) }) .verdict ≡ Verdict.Refused f
+          → cond {A = Emptied} t (record { queue = withLink (emptied (q .link)); verdict = Verdict.Accepted }) (record { queue = q; verdict = Verdict.Refused (atStart 22) }) .queue ≡ q
       go true e = let z : _≡_ {A = ℕ} 0 1 = cc in absurd (omega arith)
       go false e = refl

@@ -3,10 +3,12 @@ use Prim.Native.Nat.{ℕ}
 use mathlib.Core.Bool.{Bool, cond, _&&_}
 use mathlib.Core.List.{List}
 use lib.Dec.{leb}
+use Rattle.xdr.specs.Answers.{atStart}
 use Rattle.xdr.specs.Filling.{Outcome, refuses}
+use Rattle.message.specs.Kinds.{responseIn}
 use Rattle.message.specs.declared.answer.Message.{Message}
 use Rattle.link.specs.Requests.{total}
-use Rattle.link.specs.OneLink.{windowFits, outstanding, isOrderly, numbered, emptyLink, issuing, answeredBy, emptied}
+use Rattle.link.specs.OneLink.{windowFits, outstanding, isOrderly, emptyLink, issuing, answeredBy, emptied}
 use Rattle.link.specs.declared.list.Link.{Link}
 use Rattle.link.specs.declared.list.Tally.{Tally}
 use Rattle.link.specs.declared.list.Tally.the-variants.{Unsound, Bytes}
@@ -36,7 +38,7 @@ abbrev pub opening : (window : ℕ) → Emptied
 opening window =
     cond (windowFits window)
     (record { queue = record { link = emptyLink window }; verdict = Verdict.Accepted })
-    (record { queue = record { link = emptyLink 0 }; verdict = Verdict.Refused (numbered 22) })
+    (record { queue = record { link = emptyLink 0 }; verdict = Verdict.Refused (atStart 22) })
 
 -- issuing: the queue is sound (22), and then the link's own issue, which is told the bytes outstanding and the allowance
 abbrev pub issueOutcome : RequestQueue → (body : List ℕ) → (size : ℕ) → Outcome
@@ -52,14 +54,14 @@ fromLink a = record { queue = record { link = a .link }; release = a .release }
 
 -- an answer: the queue is sound (22), and then the link's own
 abbrev pub answerOf : RequestQueue → Message → Answered
-answerOf q m = cond (isSound q) (fromLink (answeredBy (q .link) m)) (record { queue = q; release = R.Refused (numbered 22) })
+answerOf q m = cond (isSound q) (fromLink (answeredBy (q .link) (responseIn m))) (record { queue = q; release = R.Refused (atStart 22) })
 
 -- dropping the link: the queue is sound (22)
 abbrev pub dropOf : RequestQueue → Emptied
 dropOf q =
     cond (isSound q)
     (record { queue = record { link = emptied (q .link) }; verdict = Verdict.Accepted })
-    (record { queue = q; verdict = Verdict.Refused (numbered 22) })
+    (record { queue = q; verdict = Verdict.Refused (atStart 22) })
 
 -- for the steps of the calls: the bytes outstanding of a sound queue, or that it is none
 abbrev pub soundBytes : RequestQueue → Tally

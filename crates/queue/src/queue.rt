@@ -13,6 +13,7 @@ use crate::outcome::Verdict;
 use link::Link;
 use link::Release;
 use link::Tally;
+use xdr::Refusal;
 
 // The outstanding requests, which are those of one link.
 pub struct RequestQueue {
@@ -38,7 +39,7 @@ impl RequestQueue {
                 queue: RequestQueue {
                     link: Link::empty(0),
                 },
-                verdict: Verdict::Refused(link::refusal(22)),
+                verdict: Verdict::Refused(Refusal::at_start(22)),
             };
         }
         Emptied {
@@ -139,7 +140,7 @@ impl RequestQueue {
         if !self.is_sound() {
             return Answered {
                 queue: self,
-                release: Release::Refused(link::refusal(22)),
+                release: Release::Refused(Refusal::at_start(22)),
             };
         }
         let answered = self.link.answer(message);
@@ -158,7 +159,7 @@ impl RequestQueue {
         if !self.is_sound() {
             return Emptied {
                 queue: self,
-                verdict: Verdict::Refused(link::refusal(22)),
+                verdict: Verdict::Refused(Refusal::at_start(22)),
             };
         }
         Emptied {

@@ -9,11 +9,11 @@ use Rattle.queue.proofs.queue.RequestQueue.answer.Tie as tie
 is-sound-requires : tie.Need-is-sound-requires
 is-sound-requires c κs = search needs
 
-refusal-requires : tie.Need-refusal-requires
-refusal-requires c κs = search needs
+at-start-requires : tie.Need-at-start-requires
+at-start-requires c κs = search needs
 
 returns : tie.Need-returns
-returns c = simp (c .refusal .ensures, sym (c .before .before .is-sound .ensures) ∙ not-true _ (c .before .if1 .taken))
+returns c = simp (c .at-start .ensures, sym (c .before .before .is-sound .ensures) ∙ not-true _ (c .before .if1 .taken))
 
 answer-requires : tie.Need-answer-requires
 answer-requires c κs = search needs
@@ -23,4 +23,4 @@ returns-2 c = simp (sym (c .before .before .before .is-sound .ensures) ∙ not-f
 
 pub answer-spec : {M : Type 1} → statement M
 answer-spec =
-    tie.close (tie.spec is-sound-requires refusal-requires returns answer-requires returns-2)
+    tie.close (tie.spec is-sound-requires at-start-requires returns answer-requires returns-2)

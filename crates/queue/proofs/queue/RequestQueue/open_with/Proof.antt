@@ -11,11 +11,11 @@ window-fits-requires c κs = search needs
 empty-requires : tie.Need-empty-requires
 empty-requires c κs = search needs
 
-refusal-requires : tie.Need-refusal-requires
-refusal-requires c κs = search needs
+at-start-requires : tie.Need-at-start-requires
+at-start-requires c κs = search needs
 
 returns : tie.Need-returns
-returns c = simp (c .before .empty .ensures, c .refusal .ensures, sym (c .before .before .before .window-fits .ensures) ∙ not-true _ (c .before .before .if1 .taken))
+returns c = simp (c .before .empty .ensures, c .at-start .ensures, sym (c .before .before .before .window-fits .ensures) ∙ not-true _ (c .before .before .if1 .taken))
 
 empty-requires-2 : tie.Need-empty-requires-2
 empty-requires-2 c κs = search needs
@@ -29,7 +29,7 @@ open-with-spec =
     (tie.spec
     window-fits-requires
     empty-requires
-    refusal-requires
+    at-start-requires
     returns
     empty-requires-2
     returns-2)
