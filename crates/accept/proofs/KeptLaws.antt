@@ -7,7 +7,7 @@ use Rattle.record.specs.File.{File}
 use Rattle.order.specs.Order.{isEqual, compareLists}
 use Rattle.order.specs.declared.compare.Order.{Order}
 use Rattle.order.specs.declared.compare.Order.the-variants.{Less, Equal, Greater}
-use Rattle.order.proofs.OrderLaws.{Below, turned, compare-turned, equal-same}
+use Rattle.order.proofs.OrderLaws.{Below, reversed, compare-reversed, equal-same}
 use Rattle.record.proofs.RisingLaws.{Above, Rising}
 use Rattle.table.specs.Insert.{insert}
 use Rattle.table.proofs.InsertLaws.{above-below, insert-less, insert-equal, insert-greater, insert-first, insert-rising}
@@ -34,7 +34,7 @@ kept-above n fs (g ∷ gs) a r = go (isNamed (g .name) fs) (kept-above n fs gs (
 beyond : (f : File) (fs gs : List File) → Above (f .name) gs → Rising gs → unmentioned (f ∷ fs) gs ≡ unmentioned fs gs
 beyond f fs [] a r = refl
 beyond f fs (g ∷ gs) a r =
-    ap (λ (o : Order). cond (cond (isEqual o) true (isNamed (g .name) fs)) (unmentioned (f ∷ fs) gs) (g ∷ unmentioned (f ∷ fs) gs)) (compare-turned (f .name) (g .name) ∙ ap turned a)
+    ap (λ (o : Order). cond (cond (isEqual o) true (isNamed (g .name) fs)) (unmentioned (f ∷ fs) gs) (g ∷ unmentioned (f ∷ fs) gs)) (compare-reversed (f .name) (g .name) ∙ ap reversed a)
     ∙ ap (λ (l : List File). cond (isNamed (g .name) fs) l (g ∷ l)) (beyond f fs gs (rest-above (f .name) g gs a r) (r .1))
 
 module _ (f : File) (fs : List File) (new : isNamed (f .name) fs ≡ false) where
@@ -57,12 +57,12 @@ module _ (f : File) (fs : List File) (new : isNamed (f .name) fs ≡ false) wher
       go Less e ih = goes-first (g ∷ gs) e r ∙ sym (stays (g ∷ gs)) ∙ ap (unmentioned fs) (sym (insert-less replacing f g gs e))
       go Equal e ih =
           let same : f .name ≡ g .name = equal-same (f .name) (g .name) e in
-          ap (λ (o : Order). insert replacing f (cond (cond (isEqual o) true (isNamed (g .name) fs)) (unmentioned (f ∷ fs) gs) (g ∷ unmentioned (f ∷ fs) gs))) (compare-turned (f .name) (g .name) ∙ ap turned e)
+          ap (λ (o : Order). insert replacing f (cond (cond (isEqual o) true (isNamed (g .name) fs)) (unmentioned (f ∷ fs) gs) (g ∷ unmentioned (f ∷ fs) gs))) (compare-reversed (f .name) (g .name) ∙ ap reversed e)
           ∙ goes-first gs (subst (λ (n : List ℕ). Above n gs) (sym same) (r .0)) (r .1)
           ∙ sym (stays gs)
           ∙ ap (unmentioned fs) (sym (insert-equal replacing f g gs e))
       go Greater e ih =
-          ap (λ (o : Order). insert replacing f (cond (cond (isEqual o) true (isNamed (g .name) fs)) (unmentioned (f ∷ fs) gs) (g ∷ unmentioned (f ∷ fs) gs))) (compare-turned (f .name) (g .name) ∙ ap turned e)
+          ap (λ (o : Order). insert replacing f (cond (cond (isEqual o) true (isNamed (g .name) fs)) (unmentioned (f ∷ fs) gs) (g ∷ unmentioned (f ∷ fs) gs))) (compare-reversed (f .name) (g .name) ∙ ap reversed e)
           ∙ other (isNamed (g .name) fs) e ih
           ∙ ap (unmentioned fs) (sym (insert-greater replacing f g gs e))
 

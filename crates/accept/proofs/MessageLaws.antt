@@ -18,7 +18,7 @@ use Rattle.xdr.proofs.Corollaries.{read-exactly}
 use Rattle.record.specs.File.{File}
 use Rattle.record.proofs.OutlineLaws.{word-read}
 use Rattle.message.specs.Header.{typeOf, idOf}
-use Rattle.message.specs.Message.{Kind, isIndex, isRequest, isResponse, isPing, isPong, isIndexUpdate, isOptions, kindOf, Body, body, Sent, index, message}
+use Rattle.message.specs.Message.{Kind, isIndex, isRequest, isResponse, isPing, isPong, isIndexUpdate, isOptions, kindOf, Body, body, MessageValue, index, message}
 use Rattle.message.specs.Answers.{past, indexSpan, bodyAnswer, messageAnswer}
 use Rattle.message.specs.declared.answer.IndexSpan.{IndexSpan}
 use Rattle.table.specs.Limits.{recordsLimit}
@@ -68,12 +68,12 @@ pub record Listing (m : List ℕ) (update : Bool) (x : IndexSpan) : Type 0 where
 pub found-list : (m : List ℕ) {f : IndexIn} {update : Bool} {x : IndexSpan} → f ≡ indexIn (messageAnswer (readAt message m 0)) → f ≡ F.Taken update x → Listing m update x
 found-list m {f} {update} {x} e q = go (readAt message m 0) refl
   where
-    go : (r : Reading Sent) → readAt message m 0 ≡ r → Listing m update x
+    go : (r : Reading MessageValue) → readAt message m 0 ≡ r → Listing m update x
     go (taken v next) h =
         let p = pair-parts (record { is = h }) in
         let at : p .0 ≡ 4 = ends-word (passed (passed (passed (p .1)))) .0 in
         let w = body-found (kindOf (typeOf (v .0))) (v .1) (idOf (v .0)) next m (subst (λ (k : ℕ). Reads (body (kindOf (typeOf (v .0)))) m k (taken (v .1) next)) at (p .2))
-        (ap (λ (r : Reading Sent). indexIn (messageAnswer r)) (sym h) ∙ sym e ∙ q) in
+        (ap (λ (r : Reading MessageValue). indexIn (messageAnswer r)) (sym h) ∙ sym e ∙ q) in
         record {
           sent = w .sent;
           next = next;
@@ -81,7 +81,7 @@ found-list m {f} {update} {x} e q = go (readAt message m 0) refl
           reads = w .reads;
           span = w .span;
         }
-    go (unread k p) h = no-list (ap (λ (r : Reading Sent). indexIn (messageAnswer r)) (sym h) ∙ sym e ∙ q)
+    go (unread k p) h = no-list (ap (λ (r : Reading MessageValue). indexIn (messageAnswer r)) (sym h) ∙ sym e ∙ q)
 
 -- a refusal
 
@@ -102,13 +102,13 @@ found-refused : (m : List ℕ) {f : IndexIn} {r g : Refusal} → f ≡ indexIn (
     → (old expected : List ℕ) → ofReading old expected (readAt message m 0) ≡ refuses (g .number) (g .place)
 found-refused m {f} {r} {g} e q s old expected = go (readAt message m 0) refl ∙ ap (λ (u : Refusal). refuses (u .number) (u .place)) (sym (s ∙ ap indexRefusal q))
   where
-    go : (x : Reading Sent) → readAt message m 0 ≡ x → ofReading old expected (readAt message m 0) ≡ refuses (r .number) (r .place)
+    go : (x : Reading MessageValue) → readAt message m 0 ≡ x → ofReading old expected (readAt message m 0) ≡ refuses (r .number) (r .place)
     go (taken v next) h =
         ap (ofReading old expected) h
-        ∙ body-refused (kindOf (typeOf (v .0))) (v .1) (idOf (v .0)) next (ap (λ (x : Reading Sent). indexIn (messageAnswer x)) (sym h) ∙ sym e ∙ q) old expected
+        ∙ body-refused (kindOf (typeOf (v .0))) (v .1) (idOf (v .0)) next (ap (λ (x : Reading MessageValue). indexIn (messageAnswer x)) (sym h) ∙ sym e ∙ q) old expected
     go (unread k p) h =
         ap (ofReading old expected) h
-        ∙ ap (λ (u : IndexIn). refuses (indexRefusal u .number) (indexRefusal u .place)) (ap (λ (x : Reading Sent). indexIn (messageAnswer x)) (sym h) ∙ sym e ∙ q)
+        ∙ ap (λ (u : IndexIn). refuses (indexRefusal u .number) (indexRefusal u .place)) (ap (λ (x : Reading MessageValue). indexIn (messageAnswer x)) (sym h) ∙ sym e ∙ q)
 
 -- an array that was read at a place
 

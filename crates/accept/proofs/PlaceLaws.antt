@@ -10,7 +10,7 @@ use lib.Dec.{leb}
 use Rattle.xdr.specs.Pad.{padded}
 use Rattle.record.specs.File.{File}
 use Rattle.record.specs.Outline.{wordAt, fieldsFrom, outlineFrom, outlineOf, fieldsOf}
-use Rattle.record.specs.declared.outline.Fields.{Fields}
+use Rattle.record.specs.declared.outline.RecordFields.{RecordFields}
 use Rattle.record.specs.declared.outline.Outline.{Outline}
 use Rattle.record.specs.declared.outline.Outline.the-variants as O
 use Rattle.order.specs.Order.{isEqual, compareLists, part}
@@ -32,7 +32,7 @@ use Rattle.accept.specs.declared.slot.Slot.the-variants.{Free, Repeated}
 abbrev pub Stood : List ℕ → ℕ → File → Type 0
 Stood s at f = (rest : List File) × At s at (f ∷ rest)
 
-outline-stop : (s : List ℕ) (at : ℕ) (g : Fields) → outlineOf s at ≡ O.Whole g → g .stop ≡ at + 4 + wordAt s at
+outline-stop : (s : List ℕ) (at : ℕ) (g : RecordFields) → outlineOf s at ≡ O.Whole g → g .stop ≡ at + 4 + wordAt s at
 unfolding outlineOf outlineFrom
 outline-stop s at g e = go (leb (fieldsFrom s (at + 4) (at + 4 + wordAt s at) (at + 4 + padded (wordAt s at)) .past) (length s)) e
   where

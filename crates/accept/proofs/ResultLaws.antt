@@ -15,7 +15,7 @@ use Rattle.xdr.proofs.Steps.{shifted-zero}
 use Rattle.xdr.proofs.Corollaries.{read-exactly}
 use Rattle.record.specs.File.{File, file}
 use Rattle.message.specs.Header.{typeOf}
-use Rattle.message.specs.Message.{Kind, isIndex, isRequest, isResponse, isPing, isPong, isIndexUpdate, isOptions, kindOf, Body, body, Sent, message}
+use Rattle.message.specs.Message.{Kind, isIndex, isRequest, isResponse, isPing, isPong, isIndexUpdate, isOptions, kindOf, Body, body, MessageValue, message}
 use Rattle.table.specs.Limits.{recordsLimit, bytesLimit}
 use Rattle.order.specs.Order.{isEqual, compareLists}
 use Rattle.table.specs.Table.{isGood, isWithin, records, tableOf, resultingTable}
@@ -139,7 +139,7 @@ module _ (old expected l : List ℕ) (b : IsBytes old) (g : isGood old ≡ true)
   unfolding readAt Valid
   reading-gave m c e = go (read message m) refl (ap (ofReading old expected) (sym (shifted-zero (read message m))) ∙ e)
     where
-      go : (r : Reading Sent) → read message m ≡ r → ofReading old expected r ≡ gives l → Result old l
+      go : (r : Reading MessageValue) → read message m ≡ r → ofReading old expected r ≡ gives l → Result old l
       go (taken v n) q h = kind-gave (kindOf (typeOf (v .0))) (v .1) (read-exactly message m v n c q .1 .1) h
       go (unread k p) q h = not-given h
 

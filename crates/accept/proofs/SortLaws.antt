@@ -10,7 +10,7 @@ use lib.Seq.{append-snoc}
 use Rattle.xdr.specs.Format.{encode}
 use Rattle.record.specs.File.{File, file}
 use Rattle.record.specs.Outline.{outlineOf, fieldsOf}
-use Rattle.record.specs.declared.outline.Fields.{Fields}
+use Rattle.record.specs.declared.outline.RecordFields.{RecordFields}
 use Rattle.record.specs.declared.outline.Outline.{Outline}
 use Rattle.record.specs.declared.outline.Outline.the-variants as O
 use Rattle.table.specs.Limits.{recordsLimit}
@@ -19,7 +19,7 @@ use Rattle.table.specs.Table.{records}
 use Rattle.xdr.specs.Filling.{Outcome, refuses}
 use Rattle.order.specs.declared.compare.Order.{Order}
 use Rattle.order.specs.declared.compare.Order.the-variants.{Less, Equal, Greater}
-use Rattle.order.proofs.OrderLaws.{turned, compare-turned}
+use Rattle.order.proofs.OrderLaws.{reversed, compare-reversed}
 use Rattle.record.proofs.RisingLaws.{Rising}
 use Rattle.table.specs.Steps.Standing.{At}
 use Rattle.table.proofs.WalkLaws.{array-start, standing, Headed, at-whole, at-short}
@@ -44,10 +44,10 @@ named-last : (n : List ℕ) (l : List File) (f : File) → isNamed n (l ++ f ∷
 named-last n [] f = refl
 named-last n (g ∷ l) f = ap (cond (isEqual (compareLists n (g .name))) true) (named-last n l f) ∙ named-swap (isEqual (compareLists n (g .name))) (isEqual (compareLists n (f .name))) (isNamed n l)
 
-turned-equal : (o : Order) → isEqual (turned o) ≡ isEqual o
-turned-equal Less = refl
-turned-equal Equal = refl
-turned-equal Greater = refl
+reversed-equal : (o : Order) → isEqual (reversed o) ≡ isEqual o
+reversed-equal Less = refl
+reversed-equal Equal = refl
+reversed-equal Greater = refl
 
 neither : (a b : Bool) → cond a true b ≡ false → (a ≡ false) × (b ≡ false)
 neither true b e = let z : _≡_ {A = ℕ} 0 1 = cc in absurd (omega arith)
@@ -57,7 +57,7 @@ distinct-last : (l : List File) (f : File) → Distinct l → isNamed (f .name) 
 distinct-last [] f d e = (refl, tt)
 distinct-last (g ∷ l) f d e =
     let q = neither (isEqual (compareLists (f .name) (g .name))) (isNamed (f .name) l) e in
-    let other : isEqual (compareLists (g .name) (f .name)) ≡ false = ap isEqual (compare-turned (f .name) (g .name)) ∙ turned-equal (compareLists (f .name) (g .name)) ∙ q .0 in
+    let other : isEqual (compareLists (g .name) (f .name)) ≡ false = ap isEqual (compare-reversed (f .name) (g .name)) ∙ reversed-equal (compareLists (f .name) (g .name)) ∙ q .0 in
     (named-last (g .name) l f ∙ rw (other, d .0) refl, distinct-last l f (d .1) (q .1))
 
 -- so far the first n records are in order
@@ -105,18 +105,18 @@ module _ {s places : List ℕ} {at n : ℕ} (a : IsArray s) (l : Sorting s place
         unrefused = λ base next. l .left base next ∙ ap (λ (u : List File). unrepeated (l .before) (base + at) u next) z;
       }
 
-  module _ {x : Outline} {g : Fields} (e : x ≡ outlineOf s at) (q : x ≡ O.Whole g) where
+  module _ {x : Outline} {g : RecordFields} (e : x ≡ outlineOf s at) (q : x ≡ O.Whole g) where
     -- the next record
     nr : Headed s at (l .rest) g
     nr = at-whole (l .here) e q
 
     past-is : g .past ≡ at + length (encode file (nr .head))
-    past-is = ap (λ (h : Fields). h .past) (nr .fields) ∙ standing (nr .stands) .sized
+    past-is = ap (λ (h : RecordFields). h .past) (nr .fields) ∙ standing (nr .stands) .sized
 
     pub sorting-grows : (at < g .past) × (g .past ≤ length s)
     sorting-grows =
         let p = standing (nr .stands) in
-        let m : g .past ≡ fieldsOf at (nr .head) .past = ap (λ (h : Fields). h .past) (nr .fields) in
+        let m : g .past ≡ fieldsOf at (nr .head) .past = ap (λ (h : RecordFields). h .past) (nr .fields) in
         (omega (arith, m), subst (λ (k : ℕ). k ≤ length s) (sym m) (p .next .inside))
 
     pub sorting-few : n < recordsLimit
@@ -158,7 +158,7 @@ module _ {s places : List ℕ} {at n : ℕ} (a : IsArray s) (l : Sorting s place
         done = l .done ++ nr .head ∷ [];
         rest = nr .tail;
         all = append-snoc (l .done) (nr .head) (nr .tail) ∙ ap (λ (r : List File). l .done ++ r) (sym (nr .is)) ∙ l .all;
-        here = subst (λ (p : ℕ). At s p (nr .tail)) (sym (ap (λ (h : Fields). h .past) (nr .fields))) (standing (nr .stands) .next);
+        here = subst (λ (p : ℕ). At s p (nr .tail)) (sym (ap (λ (h : RecordFields). h .past) (nr .fields))) (standing (nr .stands) .next);
         counted = length-append (l .done) (nr .head ∷ []) ∙ ap (λ (i : ℕ). i + 1) (l .counted);
         standing =
             subst (λ (p : List ℕ). Places s p (byName (l .done ++ nr .head ∷ []) [])) (sym (k ∙ ap (λ (p : List ℕ). take j p ++ (at ∷ drop j p)) (sym h)))

@@ -8,7 +8,7 @@ use Rattle.xdr.specs.Format.{readAt, encode}
 use Rattle.xdr.specs.Filling.{Outcome, refuses}
 use Rattle.record.specs.File.{File, file}
 use Rattle.message.specs.Header.{typeOf}
-use Rattle.message.specs.Message.{Kind, isIndex, isRequest, isResponse, isPing, isPong, isIndexUpdate, isOptions, kindOf, Body, Sent, message}
+use Rattle.message.specs.Message.{Kind, isIndex, isRequest, isResponse, isPing, isPong, isIndexUpdate, isOptions, kindOf, Body, MessageValue, message}
 use Rattle.message.specs.Answers.{past}
 use Rattle.order.specs.Order.{isEqual, compareLists}
 use Rattle.table.specs.Table.{isGood, records, resultingTable}
@@ -44,7 +44,7 @@ ofKind old expected isIndexUpdate sent = ofIndex true old expected sent
 ofKind old expected isOptions sent = refuses 18 0
 
 -- what was read, or the refusal of the reading as it is
-abbrev pub ofReading : (old expected : List ℕ) → Reading Sent → Outcome
+abbrev pub ofReading : (old expected : List ℕ) → Reading MessageValue → Outcome
 ofReading old expected (taken m next) = ofKind old expected (kindOf (typeOf (m .0))) (m .1)
 ofReading old expected (unread k p) = refuses k p
 

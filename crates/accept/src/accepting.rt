@@ -4,7 +4,7 @@ ghost use mathlib.Core.Bool.{true, cond};
 ghost use Prim.Native.Nat.{_+_, _<_};
 ghost use lib.ListN.{length};
 ghost use Rattle.xdr.specs.Filling.{Fills};
-ghost use Rattle.message.specs.Answers.{said};
+ghost use Rattle.message.specs.Answers.{messageIn};
 ghost use Rattle.message.specs.Kinds.{indexIn};
 ghost use Rattle.table.specs.Table.{isGood, resultingTable};
 ghost use Rattle.merge.specs.Steps.Notes.{Noted};
@@ -127,7 +127,7 @@ fn accept_list(s: &[u8], start: usize, old: &[u8], update: bool, out: &mut [u8])
 
 // The Index or IndexUpdate at the front of some bytes.
 fn read_index(s: &[u8]) -> IndexIn
-    ensures { λ r. ⌜ r ≡ indexIn (said (now (s .entry))) ⌝ }
+    ensures { λ r. ⌜ r ≡ indexIn (messageIn (now (s .entry))) ⌝ }
 {
     message::index_in(message::read(s))
 }

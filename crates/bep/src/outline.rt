@@ -6,14 +6,14 @@ ghost use Rattle.record.specs.Outline.{outlineOf};
 ghost use Rattle.record.specs.OptionOutline.{optionOf};
 ghost use Rattle.walker.specs.Walk.{stepAt};
 ghost use Rattle.bep.specs.Words.{fieldWords, fileWords, fileNumber, keyWords, optionWords, optionNumber, stepNumber, stepWords};
-use record::Fields;
+use record::RecordFields;
 use record::OptionFields;
 use record::OptionOutline;
 use record::Outline;
 use walker::Step;
 
 // A record's fields as words; the name's length is its end less its start.
-fn field_words(f: Fields) -> [u64; 8]
+fn field_words(f: RecordFields) -> [u64; 8]
     requires { ⌜ f .name ≤ f .stop ⌝ }
     ensures { λ r. ⌜ r ≡ fieldWords f ⌝ }
 {

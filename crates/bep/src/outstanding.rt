@@ -3,7 +3,7 @@
 // Any words may be given: those of a queue that is not sound are refused with 22 and left as they were.
 ghost use mathlib.Core.Path.{_≡_};
 ghost use lib.Seq.{paste};
-ghost use Rattle.message.specs.Answers.{said};
+ghost use Rattle.message.specs.Answers.{messageIn};
 ghost use Rattle.message_write.specs.Writing.{requestBytes};
 ghost use Rattle.queue.specs.Queue.{opening, dropOf};
 ghost use Rattle.bep.specs.Filling.{fillingNumber};
@@ -157,7 +157,7 @@ pub extern "C" fn bep_queue_answer(
     message: &[u8],
     answer: &mut [u64; 5],
 ) -> u32
-    ensures { λ r. ⌜ QueueAnswers (now (queue .entry)) (said (now (message .entry))) r (now (answer .exit)) (now (queue .exit)) ⌝ }
+    ensures { λ r. ⌜ QueueAnswers (now (queue .entry)) (messageIn (now (message .entry))) r (now (answer .exit)) (now (queue .exit)) ⌝ }
 {
     let before = unpacked(queue);
     let d = before.answer(message);

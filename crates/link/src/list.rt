@@ -2,7 +2,7 @@
 ghost use Prim.Native.Nat.{_<_};
 ghost use mathlib.Core.Path.{_≡_};
 ghost use lib.ListN.{length};
-ghost use Rattle.message.specs.Answers.{said};
+ghost use Rattle.message.specs.Answers.{messageIn};
 ghost use Rattle.message.specs.Kinds.{responseIn};
 ghost use Rattle.message_write.specs.Writing.{requestBytes};
 ghost use Rattle.link.specs.Requests.{total};
@@ -245,7 +245,7 @@ impl Link {
 
     // Releases the oldest request by the Response to it.
     pub fn answer(self, message: &[u8]) -> LinkAnswered
-        ensures { λ r. ⌜ r ≡ answeredBy self (responseIn (said (now (message .entry)))) ⌝ }
+        ensures { λ r. ⌜ r ≡ answeredBy self (responseIn (messageIn (now (message .entry)))) ⌝ }
     {
         match message::response_in(message::read(message)) {
             ResponseIn::Taken(id, x) => self.settle(id, x.data),

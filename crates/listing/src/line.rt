@@ -1,6 +1,6 @@
 // What a line is made of.
 use libc::STDOUT_FILENO;
-use record::Fields;
+use record::RecordFields;
 use walker::Step;
 
 pub fn text(s: &[u8]) {
@@ -49,7 +49,7 @@ fn modified(m: u64) {
 }
 
 // Deleted, invalid, or the blocks of the file and their bytes.
-fn contents(table: &[u8], f: Fields) {
+fn contents(table: &[u8], f: RecordFields) {
     if record::is_deleted(f.flags) {
         text(b" deleted");
         return;
@@ -62,7 +62,7 @@ fn contents(table: &[u8], f: Fields) {
     labelled(b" bytes ", record::offset_of(table, f.first, f.blocks));
 }
 
-fn line(table: &[u8], number: u32, f: Fields) {
+fn line(table: &[u8], number: u32, f: RecordFields) {
     labelled(b"", number as u64);
     text(b" ");
     name(order::part(table, f.name, f.stop));

@@ -11,7 +11,7 @@ use Rattle.table.specs.Newest.{compareFiles}
 use Rattle.order.specs.declared.compare.Order.{Order}
 use Rattle.order.specs.declared.compare.Order.the-variants.{Less, Equal, Greater}
 use Rattle.order.proofs.OrderLaws.{Below, equal-same, below-trans, below-irrefl, below-asym}
-use Rattle.table.proofs.NewestLaws.{at-least-itself, at-least-turned, at-least-trans, at-least-same}
+use Rattle.table.proofs.NewestLaws.{at-least-itself, at-least-reversed, at-least-trans, at-least-same}
 use Rattle.record.proofs.RisingLaws.{Above, Rising, rising-is, rising-test}
 use Rattle.table.specs.Insert.{placed, insert}
 use Rattle.table.proofs.InsertLaws.{insert-rising, insert-from}
@@ -46,7 +46,7 @@ through l f g e h t = record { cover = t .cover; within = t .within; named = t .
 
 higher-covers : (f g : File) (gs : List File) → f .name ≡ g .name → (o : Order) → compareFiles f g ≡ o → Covered (higherBy o f g ∷ gs) f × Covered (higherBy o f g ∷ gs) g
 higher-covers f g gs n Less e =
-    (record { cover = g; within = List·Memᴰ·head refl; named = sym n; high = at-least-turned f g e }, itself (g ∷ gs) g (List·Memᴰ·head refl))
+    (record { cover = g; within = List·Memᴰ·head refl; named = sym n; high = at-least-reversed f g e }, itself (g ∷ gs) g (List·Memᴰ·head refl))
 higher-covers f g gs n Equal e =
     (itself (f ∷ gs) f (List·Memᴰ·head refl), record { cover = f; within = List·Memᴰ·head refl; named = n; high = λ h. let z : _≡_ {A = ℕ} 0 1 = cc (sym e ∙ h) in omega arith })
 higher-covers f g gs n Greater e =

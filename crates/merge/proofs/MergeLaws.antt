@@ -66,12 +66,12 @@ module _ (a b : List File) where
   pub highest-two : Highest (a ++ b) (mergedOf (a ∷ b ∷ []))
   highest-two = subst (λ (l : List File). Highest l (mergedOf (a ∷ b ∷ []))) joined-two (merged-highest (a ∷ b ∷ []))
 
-  turned-round : Within (a ++ b) (b ++ a)
-  turned-round f m = ⊎-elim (λ k. Memᴰ·append-right b k) (λ k. Memᴰ·append-left a k) (List·Memᴰ·append-cases a m)
+  reversed-round : Within (a ++ b) (b ++ a)
+  reversed-round f m = ⊎-elim (λ k. Memᴰ·append-right b k) (λ k. Memᴰ·append-left a k) (List·Memᴰ·append-cases a m)
 
 pub merged-commutes : (a b : List File) → AllOK a → AllOK b → mergedOf (a ∷ b ∷ []) ≡ mergedOf (b ∷ a ∷ [])
 merged-commutes a b p q =
-    highest-same (a ++ b) (b ++ a) (mergedOf (a ∷ b ∷ [])) (mergedOf (b ∷ a ∷ [])) (both-ok b a q p) (highest-two a b) (highest-two b a) (turned-round a b) (turned-round b a)
+    highest-same (a ++ b) (b ++ a) (mergedOf (a ∷ b ∷ [])) (mergedOf (b ∷ a ∷ [])) (both-ok b a q p) (highest-two a b) (highest-two b a) (reversed-round a b) (reversed-round b a)
 
 pub merged-idempotent : (a : List File) → Rising a → AllOK a → mergedOf (a ∷ a ∷ []) ≡ a
 merged-idempotent a r ok =

@@ -2,7 +2,7 @@
 ghost use mathlib.Core.Path.{_≡_};
 ghost use Rattle.merge.specs.Steps.Next.{fromLeft, fromRight, higherOf, nextOf};
 use order::Order;
-use record::Fields;
+use record::RecordFields;
 use table::Side;
 
 // A record that is taken: of the first table or of the second, at start..end; the merge goes on at i of the first and j of the second.
@@ -47,7 +47,7 @@ pub fn from_right(j: usize, y: usize, i: usize) -> Next
 }
 
 // Of two records of one name the higher.
-fn higher(a: &[u8], i: usize, f: Fields, b: &[u8], j: usize, g: Fields) -> Next
+fn higher(a: &[u8], i: usize, f: RecordFields, b: &[u8], j: usize, g: RecordFields) -> Next
     ensures { λ r. ⌜ r ≡ higherOf (now (a .entry)) i (now (b .entry)) j f g ⌝ }
 {
     match table::compare_records(a, f, b, g) {

@@ -8,7 +8,7 @@ use Rattle.xdr.specs.Pad.{padded}
 use Rattle.record.specs.File.{File}
 use Rattle.record.specs.KeyValue.{KeyValue}
 use Rattle.message.specs.Header.{typeOf, idOf}
-use Rattle.message.specs.Message.{RequestBody, Kind, isIndex, isRequest, isResponse, isPing, isPong, isIndexUpdate, isOptions, kindOf, Body, Sent, message}
+use Rattle.message.specs.Message.{RequestBody, Kind, isIndex, isRequest, isResponse, isPing, isPong, isIndexUpdate, isOptions, kindOf, Body, MessageValue, message}
 use Rattle.message.specs.declared.answer.Span.{Span}
 use Rattle.message.specs.declared.answer.IndexSpan.{IndexSpan}
 use Rattle.message.specs.declared.answer.RequestSpan.{RequestSpan}
@@ -96,10 +96,10 @@ bodyAnswer isOptions id (taken l next) = M.Options id (optionsSpan l next)
 bodyAnswer isOptions id (refused n p) = refusal n p
 
 -- what reading a message answers
-abbrev pub messageAnswer : Reading Sent → Message
+abbrev pub messageAnswer : Reading MessageValue → Message
 messageAnswer (taken m next) = bodyAnswer (kindOf (typeOf (m .0))) (idOf (m .0)) (taken (m .1) next)
 messageAnswer (refused n p) = refusal n p
 
 -- what bytes say that are given as a message: it is read from their start
-abbrev pub said : List ℕ → Message
-said s = messageAnswer (readAt message s 0)
+abbrev pub messageIn : List ℕ → Message
+messageIn s = messageAnswer (readAt message s 0)

@@ -75,9 +75,9 @@ body isIndexUpdate = index
 body isOptions = options optionsLimit
 
 -- a message as a value: its header word and what its body says
-abbrev pub Sent : Type 0
-Sent = (h : ℕ) × Body (kindOf (typeOf h))
+abbrev pub MessageValue : Type 0
+MessageValue = (h : ℕ) × Body (kindOf (typeOf h))
 
 -- a message: the header, and the body of the kind that its type names
-abbrev pub message : Format Sent
+abbrev pub message : Format MessageValue
 message = pair header λ h. body (kindOf (typeOf h))

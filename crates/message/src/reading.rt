@@ -4,7 +4,7 @@ ghost use Rattle.xdr.specs.Format.{readAt};
 ghost use Prim.Native.Nat.{_≤_};
 ghost use lib.ListN.{length};
 ghost use Rattle.record.specs.KeyValue.{options};
-ghost use Rattle.message.specs.Answers.{indexAnswer, indexMessage, updateMessage, bodyAnswer, said};
+ghost use Rattle.message.specs.Answers.{indexAnswer, indexMessage, updateMessage, bodyAnswer, messageIn};
 ghost use Rattle.message.specs.Limits.{optionsLimit};
 ghost use Rattle.message.specs.Message.{isRequest, isResponse, isOptions, index, request, response};
 use crate::answer::IndexRead;
@@ -159,7 +159,7 @@ fn read_options(s: &[u8], id: u32) -> Message
 
 // The message at the front of some bytes: whatever follows its end belongs to the next one.
 pub fn read(s: &[u8]) -> Message
-    ensures { λ r. ⌜ r ≡ said (now (s .entry)) ⌝ }
+    ensures { λ r. ⌜ r ≡ messageIn (now (s .entry)) ⌝ }
 {
     let head = read_header(s);
     let Word::Taken(h, _) = head else {

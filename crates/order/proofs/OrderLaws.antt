@@ -44,23 +44,23 @@ compares m n o e = subst (Compares m n) e (go (decLt m n) (decLt n m))
     go (no h) (no k) = subst (Compares m n) (sym (number-same m n (omega arith))) (omega arith)
 
 -- the other way round
-abbrev pub turned : Order → Order
-turned Less = Greater
-turned Equal = Equal
-turned Greater = Less
+abbrev pub reversed : Order → Order
+reversed Less = Greater
+reversed Equal = Equal
+reversed Greater = Less
 
-turned-number : (m n : ℕ) → compareNumbers n m ≡ turned (compareNumbers m n)
-turned-number m n = go (compareNumbers m n) refl
+reversed-number : (m n : ℕ) → compareNumbers n m ≡ reversed (compareNumbers m n)
+reversed-number m n = go (compareNumbers m n) refl
   where
-    go : (o : Order) → compareNumbers m n ≡ o → compareNumbers n m ≡ turned o
+    go : (o : Order) → compareNumbers m n ≡ o → compareNumbers n m ≡ reversed o
     go Less e = number-greater n m (compares m n Less e)
     go Equal e = number-same n m (sym (compares m n Equal e))
     go Greater e = number-less n m (compares m n Greater e)
 
-turned-else : (o p : Order) → orElse (turned o) (turned p) ≡ turned (orElse o p)
-turned-else Less p = refl
-turned-else Equal p = refl
-turned-else Greater p = refl
+reversed-else : (o p : Order) → orElse (reversed o) (reversed p) ≡ reversed (orElse o p)
+reversed-else Less p = refl
+reversed-else Equal p = refl
+reversed-else Greater p = refl
 
 not-both : {o : Order} {P : Type 0} → o ≡ Less → o ≡ Equal → P
 not-both e f = let z : _≡_ {A = ℕ} 0 1 = cc in absurd (omega arith)
@@ -116,12 +116,12 @@ unfolding compareLists
 same-equal [] = refl
 same-equal (x ∷ xs) = rw (number-same x x refl) (same-equal xs)
 
-pub compare-turned : (a b : List ℕ) → compareLists b a ≡ turned (compareLists a b)
+pub compare-reversed : (a b : List ℕ) → compareLists b a ≡ reversed (compareLists a b)
 unfolding compareLists
-compare-turned [] [] = refl
-compare-turned [] (y ∷ ys) = refl
-compare-turned (x ∷ xs) [] = refl
-compare-turned (x ∷ xs) (y ∷ ys) = rw (turned-number x y, compare-turned xs ys) (turned-else (compareNumbers x y) (compareLists xs ys))
+compare-reversed [] [] = refl
+compare-reversed [] (y ∷ ys) = refl
+compare-reversed (x ∷ xs) [] = refl
+compare-reversed (x ∷ xs) (y ∷ ys) = rw (reversed-number x y, compare-reversed xs ys) (reversed-else (compareNumbers x y) (compareLists xs ys))
 
 pub equal-same : (a b : List ℕ) → compareLists a b ≡ Equal → a ≡ b
 unfolding compareLists
@@ -162,11 +162,11 @@ below-asym a b h k = below-irrefl a (below-trans a b a h k)
 
 -- what is greater is above
 pub greater-above : (a b : List ℕ) → compareLists a b ≡ Greater → Below b a
-greater-above a b e = compare-turned a b ∙ ap turned e
+greater-above a b e = compare-reversed a b ∙ ap reversed e
 
 -- and what is above is greater
 pub above-greater : (a b : List ℕ) → Below a b → compareLists b a ≡ Greater
-above-greater a b h = compare-turned a b ∙ ap turned h
+above-greater a b h = compare-reversed a b ∙ ap reversed h
 
 -- a list is at most another
 abbrev pub AtMost : List ℕ → List ℕ → Type 0

@@ -15,7 +15,7 @@ use Rattle.xdr.specs.Filling.{Outcome, gives, refuses}
 use Rattle.xdr.proofs.Corollaries.{read-exactly}
 use Rattle.record.specs.File.{File}
 use Rattle.message.specs.Header.{typeOf}
-use Rattle.message.specs.Message.{Kind, isIndex, isRequest, isResponse, isPing, isPong, isIndexUpdate, isOptions, kindOf, Body, body, Sent, message}
+use Rattle.message.specs.Message.{Kind, isIndex, isRequest, isResponse, isPing, isPong, isIndexUpdate, isOptions, kindOf, Body, body, MessageValue, message}
 use Rattle.table.specs.Limits.{recordsLimit, bytesLimit}
 use Rattle.order.specs.Order.{isEqual, compareLists}
 use Rattle.table.specs.Table.{isGood, isWithin, records, tableOf, resultingTable}
@@ -99,11 +99,11 @@ pub accepted-records : (old bytes repository table : List ℕ) → IsBytes old �
 unfolding acceptOutcome Valid
 accepted-records old bytes repository table b c e = by-old (isGood old) refl e
   where
-    by-reading : isGood old ≡ true → (r : Reading Sent) → read message bytes ≡ r → ofReading old repository r ≡ gives table → Accepted old bytes repository table
+    by-reading : isGood old ≡ true → (r : Reading MessageValue) → read message bytes ≡ r → ofReading old repository r ≡ gives table → Accepted old bytes repository table
     by-reading g (taken m n) q h =
         let t = kind-took old repository table (good-table old b g .valid) (kindOf (typeOf (m .0))) (m .1) (read-exactly message bytes m n c q .1 .1) h in
         record {
-          said = m;
+          value = m;
           end = n;
           reads = q;
           update = t .update;

@@ -11,7 +11,7 @@ use Rattle.xdr.proofs.Steady.{cutShort, steady}
 use Rattle.xdr.proofs.Steps.{Reads}
 use Rattle.xdr.specs.Filling.{refuses}
 use Rattle.message.specs.Header.{typeOf, idOf}
-use Rattle.message.specs.Message.{Kind, isIndex, isRequest, isResponse, isPing, isPong, isIndexUpdate, isOptions, kindOf, Body, body, Sent, message}
+use Rattle.message.specs.Message.{Kind, isIndex, isRequest, isResponse, isPing, isPong, isIndexUpdate, isOptions, kindOf, Body, body, MessageValue, message}
 use Rattle.message.specs.Answers.{requestSpan, bodyAnswer, messageAnswer}
 use Rattle.message_write.specs.Writing.{responseBytes, writing}
 use Rattle.table.specs.Table.{isGood}
@@ -30,7 +30,7 @@ enough s h = go (read message s) refl
     by-number k p e true q = absurd (h p (e ∙ ap (λ (n : ℕ). refused n p) (eqb-true k 1 q)))
     by-number k p e false q = q
 
-    go : (r : Reading Sent) → read message s ≡ r → cutShort r ≡ false
+    go : (r : Reading MessageValue) → read message s ≡ r → cutShort r ≡ false
     go (taken m n) e = refl
     go (refused k p) e = by-number k p e (eqb k 1) refl
 
@@ -55,7 +55,7 @@ module _ (s t : List ℕ) (same : read message (s ++ t) ≡ read message s) wher
     by-kind isIndexUpdate b id n g h = refl
     by-kind isOptions b id n g h = refl
 
-    by-reading : (r : Reading Sent) → read message s ≡ r → rulingOn table repository (s ++ t) (requestIn (messageAnswer r)) ≡ rulingOn table repository s (requestIn (messageAnswer r))
+    by-reading : (r : Reading MessageValue) → read message s ≡ r → rulingOn table repository (s ++ t) (requestIn (messageAnswer r)) ≡ rulingOn table repository s (requestIn (messageAnswer r))
     by-reading (taken m n) e = by-kind (kindOf (typeOf (m .0))) (m .1) (idOf (m .0)) n (body-there (same ∙ e)) (body-there e)
     by-reading (refused k p) e = refl
 
@@ -63,9 +63,9 @@ module _ (s t : List ℕ) (same : read message (s ++ t) ≡ read message s) wher
     unfolding rulingOf
     ruling-same =
         ap (λ (u : Ruling). cond (isGood table) u (fills (refuses 15 0)))
-        (ap (λ (r : Reading Sent). rulingOn table repository (s ++ t) (requestIn (messageAnswer r))) (read-same ∙ from-start s)
+        (ap (λ (r : Reading MessageValue). rulingOn table repository (s ++ t) (requestIn (messageAnswer r))) (read-same ∙ from-start s)
         ∙ by-reading (read message s) refl
-        ∙ ap (λ (r : Reading Sent). rulingOn table repository s (requestIn (messageAnswer r))) (sym (from-start s)))
+        ∙ ap (λ (r : Reading MessageValue). rulingOn table repository s (requestIn (messageAnswer r))) (sym (from-start s)))
 
 -- whatever follows bytes that are enough
 pub following-unchanged : (s t : List ℕ) → IsEnough s → Unchanged s t
@@ -75,7 +75,7 @@ following-unchanged s t h =
     let e = read-same s t same in
     record {
       reading = ap messageAnswer e;
-      accepting = λ old repository. ap (λ (r : Reading Sent). cond (isGood old) (ofReading old repository r) (refuses 15 0)) e;
-      answering = λ q. ap (λ (r : Reading Sent). answerOf q (messageAnswer r)) e;
+      accepting = λ old repository. ap (λ (r : Reading MessageValue). cond (isGood old) (ofReading old repository r) (refuses 15 0)) e;
+      answering = λ q. ap (λ (r : Reading MessageValue). answerOf q (messageAnswer r)) e;
       serving = λ table repository. ruling-same s t same table repository;
     }

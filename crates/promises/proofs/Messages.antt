@@ -21,8 +21,8 @@ use Rattle.xdr.proofs.Told.{Wide, TakenOrRefused, whole, fault, readBack, told}
 use Rattle.record.specs.File.{file}
 use Rattle.message.specs.Limits.{idLimit}
 use Rattle.message.specs.Header.{headerOf, versionOf, reservedOf, idOf, typeOf, header}
-use Rattle.message.specs.Message.{Kind, isIndex, isRequest, isResponse, isPing, isPong, isIndexUpdate, isOptions, kindOf, Body, body, Sent, message}
-use Rattle.message.specs.Answers.{bodyAnswer, messageAnswer, said}
+use Rattle.message.specs.Message.{Kind, isIndex, isRequest, isResponse, isPing, isPong, isIndexUpdate, isOptions, kindOf, Body, body, MessageValue, message}
+use Rattle.message.specs.Answers.{bodyAnswer, messageAnswer, messageIn}
 use Rattle.message_write.specs.Writing.{messageBytes, asRead, writing}
 use Rattle.promises.specs.Bodies.{bodyBytes}
 
@@ -55,13 +55,13 @@ header-again h v =
     (omega arith, omega arith)
 
 -- writing, where the bytes that would be written are read as a message
-accepted : (id type : ℕ) (b : List ℕ) (m : Sent) (n : ℕ) → id ≤ 4095 → read message (messageBytes id type b) ≡ taken m n
+accepted : (id type : ℕ) (b : List ℕ) (m : MessageValue) (n : ℕ) → id ≤ 4095 → read message (messageBytes id type b) ≡ taken m n
     → writing message id type b ≡ gives (take n (messageBytes id type b))
 unfolding writing
 accepted id type b m n h e = simp (le-leb id 4095 h, e)
 
 -- what was read is written back as the same bytes, whatever follows the arrays that are given
-pub read-writes-back : (s : List ℕ) (m : Sent) (n : ℕ) (t : List ℕ) → IsBytes s → read message s ≡ taken m n
+pub read-writes-back : (s : List ℕ) (m : MessageValue) (n : ℕ) (t : List ℕ) → IsBytes s → read message s ≡ taken m n
     → writing message (idOf (m .0)) (typeOf (m .0)) (bodyBytes (kindOf (typeOf (m .0))) (m .1) ++ t) ≡ gives (take n s)
 unfolding Valid encode
 read-writes-back s m n t b e =
@@ -78,8 +78,8 @@ read-writes-back s m n t b e =
 -- what an accepted writing tells: its ID, and that the bytes that would be written are read as a message, which takes those that are written
 record Accepted (id type : ℕ) (b l : List ℕ) : Type 0 where
   pub small : id ≤ 4095
-  pub said : Sent
-  pub reads : read message (messageBytes id type b) ≡ taken said (length l)
+  pub value : MessageValue
+  pub reads : read message (messageBytes id type b) ≡ taken value (length l)
   pub bytes : l ≡ take (length l) (messageBytes id type b)
 
 accepted-by : (id type : ℕ) (b l : List ℕ) → writing message id type b ≡ gives l → Accepted id type b l
@@ -89,12 +89,12 @@ accepted-by id type b l e = by-id (leb id idLimit) refl e
     M : List ℕ
     M = messageBytes id type b
 
-    by-reading : (r : Reading Sent) → id ≤ 4095 → read message M ≡ r → asRead M r ≡ gives l → Accepted id type b l
+    by-reading : (r : Reading MessageValue) → id ≤ 4095 → read message M ≡ r → asRead M r ≡ gives l → Accepted id type b l
     by-reading (taken m k) small q e =
         let bytes : take k M ≡ l = cc in
         let room : k ≤ length M = rw q at (within message M) in
         let long : length l ≡ k = ap length (sym bytes) ∙ length-take-le k M room in
-        record { small = small; said = m; reads = q ∙ ap (λ (i : ℕ). taken m i) (sym long); bytes = sym bytes ∙ ap (λ (i : ℕ). take i M) (sym long) }
+        record { small = small; value = m; reads = q ∙ ap (λ (i : ℕ). taken m i) (sym long); bytes = sym bytes ∙ ap (λ (i : ℕ). take i M) (sym long) }
     by-reading (refused k p) small q e = let z : _≡_ {A = ℕ} 0 1 = cc in absurd (omega arith)
 
     by-id : (c : Bool) → leb id idLimit ≡ c → cond c (asRead M (read message M)) (refuses 5 0) ≡ gives l → Accepted id type b l
@@ -126,13 +126,13 @@ pub written-reads-back : (id type : ℕ) (b : Body (kindOf (typeOf (headerOf id 
 written-reads-back id type b t l e u =
     let q = accepted-by id type (bodyBytes (kindOf (typeOf (headerOf id type))) b ++ t) l e in
     let same = given-whole id type (headerOf id type) b t refl in
-    go (readBack message x) refl (told message x wide-message .either) (q .said)
+    go (readBack message x) refl (told message x wide-message .either) (q .value)
     (sym (told message x wide-message .reads t) ∙ ap (read message) (sym same) ∙ q .reads) (q .bytes ∙ ap (take (length l)) same)
   where
-    x : Sent
+    x : MessageValue
     x = (headerOf id type, b)
 
-    go : (r : Reading Sent) → readBack message x ≡ r → TakenOrRefused x (length (encode message x)) r → (m : Sent) → readBack message x ≡ taken m (length l)
+    go : (r : Reading MessageValue) → readBack message x ≡ r → TakenOrRefused x (length (encode message x)) r → (m : MessageValue) → readBack message x ≡ taken m (length l)
         → l ≡ take (length l) (encode message x ++ t) → read message (l ++ u) ≡ taken x (length l)
     go r p whole m e f =
         let long : length (encode message x) ≡ length l = cc in
@@ -147,7 +147,7 @@ written-header id type b l h e = let small = accepted-by id type b l e .small in
 -- so reading it answers the ID and the kind that were given, with the spans of their fields
 pub written-answers : (id type : ℕ) (b : Body (kindOf type)) (t l : List ℕ) → type ≤ 7
     → writing message id type (bodyBytes (kindOf type) b ++ t) ≡ gives l
-    → (u : List ℕ) → said (l ++ u) ≡ bodyAnswer (kindOf type) id (taken b (length l))
+    → (u : List ℕ) → messageIn (l ++ u) ≡ bodyAnswer (kindOf type) id (taken b (length l))
 unfolding readAt
 written-answers id type b t l h e u =
     let q = written-header id type (bodyBytes (kindOf type) b ++ t) l h e in

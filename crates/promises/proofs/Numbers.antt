@@ -9,7 +9,7 @@ use Rattle.xdr.specs.Reading.{Reading, taken, refused}
 use Rattle.xdr.specs.Format.{read}
 use Rattle.xdr.specs.Filling.{refuses}
 use Rattle.message.specs.Limits.{idLimit}
-use Rattle.message.specs.Message.{Sent, message}
+use Rattle.message.specs.Message.{MessageValue, message}
 use Rattle.message.proofs.MessageNumbers.{message-number}
 use Rattle.message_write.specs.Writing.{messageBytes, asRead, writing}
 
@@ -23,7 +23,7 @@ writing-never id type b k p = by-id (leb id idLimit)
     m : List ℕ
     m = messageBytes id type b
 
-    by-reading : (r : Reading Sent) → read message m ≡ r → asRead m r ≡ refuses k p → (k ≡ 13 → ⊥) × (k ≡ 14 → ⊥)
+    by-reading : (r : Reading MessageValue) → read message m ≡ r → asRead m r ≡ refuses k p → (k ≡ 13 → ⊥) × (k ≡ 14 → ⊥)
     by-reading (taken v u) q e = let z : _≡_ {A = ℕ} 0 1 = cc in absurd (omega arith)
     by-reading (refused a c) q e = let same : a ≡ k = cc in let w = message-number m a c q in (λ f. w .0 (same ∙ f), λ f. w .1 (same ∙ f))
 

@@ -12,7 +12,7 @@ use Rattle.xdr.specs.Answers.{atStart}
 use Rattle.xdr.specs.Filling.{Outcome, gives, refuses, inRoom}
 use Rattle.message.specs.Message.{message}
 use Rattle.message.specs.declared.answer.Message.{Message}
-use Rattle.message.specs.Answers.{said}
+use Rattle.message.specs.Answers.{messageIn}
 use Rattle.message.specs.Kinds.{responseIn}
 use Rattle.message.specs.declared.kind.ResponseIn.{ResponseIn}
 use Rattle.message_write.specs.Writing.{requestBytes, writing}
@@ -35,12 +35,12 @@ use Rattle.queue.specs.declared.outcome.Emptied.{Emptied}
 use Rattle.queue.specs.declared.outcome.Verdict.the-variants as Ruled
 use Rattle.queue.specs.declared.outcome.Answered.{Answered}
 use Rattle.queue.proofs.QueueLaws.{sound-facts, sound-made}
-use Rattle.promises.specs.History.{Call, issue, answer, drop, isAccepted, afterCall, event, final, history, Held}
+use Rattle.promises.specs.History.{Call, issue, answer, drop, isAccepted, queueAfter, queueEvent, queueFinal, queueHistory, Held}
 
 -- a call as the link sees it
 abbrev linkCall : RequestQueue → Call → LinkCall
 linkCall q (issue r n o size h room) = link.issue (total (outstanding (q .link))) allowance r n o size h room
-linkCall q (answer s) = link.answer (responseIn (said s))
+linkCall q (answer s) = link.answer (responseIn (messageIn s))
 linkCall q drop = link.drop
 
 module _ (q : RequestQueue) (s : isSound q ≡ true) where
@@ -57,14 +57,14 @@ module _ (q : RequestQueue) (s : isSound q ≡ true) where
   same-drop : dropOf q ≡ record { queue = record { link = emptied (q .link) }; verdict = Ruled.Accepted }
   same-drop = past-22 (record { queue = record { link = emptied (q .link) }; verdict = Ruled.Accepted }) (record { queue = q; verdict = Ruled.Refused (atStart 22) })
 
-  same-after : (c : Call) → afterCall q c .link ≡ link.afterCall (q .link) (linkCall q c)
+  same-after : (c : Call) → queueAfter q c .link ≡ link.afterCall (q .link) (linkCall q c)
   same-after (issue r n o size h room) = ap (λ (x : Outcome). issuedLink (q .link) size (inRoom room x)) (same-issue (requestBytes r n o size h) size)
-  same-after (answer m) = ap (λ (x : Answered). x .queue .link) (same-answer (said m))
+  same-after (answer m) = ap (λ (x : Answered). x .queue .link) (same-answer (messageIn m))
   same-after drop = ap (λ (x : Emptied). x .queue .link) same-drop
 
-  same-event : (c : Call) → event q c ≡ link.event (q .link) (linkCall q c)
+  same-event : (c : Call) → queueEvent q c ≡ link.event (q .link) (linkCall q c)
   same-event (issue r n o size h room) = ap (λ (x : Outcome). issueWas (q .link .next) size (inRoom room x)) (same-issue (requestBytes r n o size h) size)
-  same-event (answer m) = ap (λ (x : Answered). answerWas (responseIn (said m)) (x .release)) (same-answer (said m))
+  same-event (answer m) = ap (λ (x : Answered). answerWas (responseIn (messageIn m)) (x .release)) (same-answer (messageIn m))
   same-event drop = ap (λ (x : Emptied). dropWas (isAccepted (x .verdict))) same-drop
 
 -- the total stays within the allowance
@@ -90,28 +90,28 @@ answer-within q m g t = go (answeredBy q m) (answer-was q m)
 
 within : (q : RequestQueue) (c : Call) → Good (q .link) → total (outstanding (q .link)) ≤ allowance → total (outstanding (link.afterCall (q .link) (linkCall q c))) ≤ allowance
 within q (issue r n o size h room) g t = issue-within (q .link) r n o size h room (inRoom room (issuing (total (outstanding (q .link))) allowance (q .link) (requestBytes r n o size h) size)) refl g t
-within q (answer s) g t = answer-within (q .link) (responseIn (said s)) g t
+within q (answer s) g t = answer-within (q .link) (responseIn (messageIn s)) g t
 within q drop g t = omega arith
 
 record Same (q : RequestQueue) (cs : List Call) : Type 0 where
   calls : List LinkCall
-  finals : final q cs .link ≡ link.final (q .link) calls
-  histories : history q cs ≡ link.history (q .link) calls
-  inside : total (outstanding (final q cs .link)) ≤ allowance
+  finals : queueFinal q cs .link ≡ link.final (q .link) calls
+  histories : queueHistory q cs ≡ link.history (q .link) calls
+  inside : total (outstanding (queueFinal q cs .link)) ≤ allowance
 
 same : (cs : List Call) (q : RequestQueue) → Good (q .link) → total (outstanding (q .link)) ≤ allowance → Same q cs
 same [] q g t = record { calls = []; finals = refl; histories = refl; inside = t }
 same (c ∷ cs) q g t =
     let l : LinkCall = linkCall q c in
     let s : isSound q ≡ true = sound-made q (g .orderly) t in
-    let a : afterCall q c .link ≡ link.afterCall (q .link) l = same-after q s c in
-    let h : Same (afterCall q c) cs =
-    same cs (afterCall q c) (subst Good (sym a) (link-run (l ∷ []) (q .link) g .0)) (subst (λ (x : Link). total (outstanding x) ≤ allowance) (sym a) (within q c g t)) in
+    let a : queueAfter q c .link ≡ link.afterCall (q .link) l = same-after q s c in
+    let h : Same (queueAfter q c) cs =
+    same cs (queueAfter q c) (subst Good (sym a) (link-run (l ∷ []) (q .link) g .0)) (subst (λ (x : Link). total (outstanding x) ≤ allowance) (sym a) (within q c g t)) in
     record {
       calls = l ∷ h .calls;
       finals = h .finals ∙ ap (λ (x : Link). link.final x (h .calls)) a;
-      histories = ap (λ (es : List Event). event q c ∷ es) (h .histories)
-          ∙ ap (λ (e : Event). e ∷ link.history (afterCall q c .link) (h .calls)) (same-event q s c)
+      histories = ap (λ (es : List Event). queueEvent q c ∷ es) (h .histories)
+          ∙ ap (λ (e : Event). e ∷ link.history (queueAfter q c .link) (h .calls)) (same-event q s c)
           ∙ ap (λ (x : Link). link.event (q .link) l ∷ link.history x (h .calls)) a;
       inside = h .inside;
     }
@@ -133,9 +133,9 @@ held window calls e =
     let none : outstanding (opening window .queue .link) ≡ [] = ap outstanding start in
     let h : Same (opening window .queue) calls = same calls (opening window .queue) o (rw none (omega arith)) in
     let r = link-run (h .calls) (opening window .queue .link) o in
-    let f : Link = final (opening window .queue) calls .link in
+    let f : Link = queueFinal (opening window .queue) calls .link in
     let g : Good f = subst Good (sym (h .finals)) (r .0) in
-    let exact : outstanding f ≡ standing (history (opening window .queue) calls) =
+    let exact : outstanding f ≡ standing (queueHistory (opening window .queue) calls) =
     ap outstanding (h .finals) ∙ r .1 ∙ ap (λ (l : List Request). link.kept (link.history (opening window .queue .link) (h .calls)) l ++ standing (link.history (opening window .queue .link) (h .calls))) none
     ∙ ap standing (sym (h .histories)) in
     let s : Orderly f = orderly-facts f (g .orderly) in
@@ -143,7 +143,7 @@ held window calls e =
     let long : length (outstanding f) ≡ f .count = length-take-le (f .count) (f .entries) (omega (arith, g .long)) in
     record {
       exact = exact;
-      sound = sound-made (final (opening window .queue) calls) (g .orderly) (h .inside);
+      sound = sound-made (queueFinal (opening window .queue) calls) (g .orderly) (h .inside);
       counted = subst (λ (l : List Request). length l ≤ window) exact (omega (arith, long, w, s .held));
       summed = subst (λ (l : List Request). total l ≤ allowance) exact (h .inside);
     }

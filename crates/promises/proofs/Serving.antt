@@ -10,8 +10,8 @@ use Rattle.xdr.specs.Filling.{gives}
 use Rattle.xdr.specs.Pad.{allZero}
 use Rattle.xdr.specs.Format.{read, readAt, encode}
 use Rattle.message.specs.Header.{headerOf, typeOf, idOf}
-use Rattle.message.specs.Message.{Kind, isIndex, isRequest, isResponse, isPing, isPong, isIndexUpdate, isOptions, kindOf, Body, Sent, message}
-use Rattle.message.specs.Answers.{bodyAnswer, messageAnswer, said}
+use Rattle.message.specs.Message.{Kind, isIndex, isRequest, isResponse, isPing, isPong, isIndexUpdate, isOptions, kindOf, Body, MessageValue, message}
+use Rattle.message.specs.Answers.{bodyAnswer, messageAnswer, messageIn}
 use Rattle.message.specs.declared.answer.RequestSpan.{RequestSpan}
 use Rattle.message.specs.declared.answer.Message.{Message}
 use Rattle.message.specs.declared.answer.Message.the-variants as M
@@ -47,7 +47,7 @@ id-of isPong b id next = refl
 id-of isIndexUpdate b id next = refl
 id-of isOptions b id next = refl
 
-small-id : (r : Reading Sent) → idIn (messageAnswer r) ≤ 4095
+small-id : (r : Reading MessageValue) → idIn (messageAnswer r) ≤ 4095
 small-id (taken m next) = rw (id-of (kindOf (typeOf (m .0))) (m .1) (idOf (m .0)) next) (omega arith)
 small-id (refused k p) = omega arith
 
@@ -68,7 +68,7 @@ module _ (id : ℕ) (h : id ≤ 4095) where
   reply-writing = by-body id 3 (responseBytes []) (omega arith) (omega arith) ∙ simp (le-leb id 4095 h) (ap (λ (l : List ℕ). asRead {A = List ℕ} l (taken [] 8)) reply-bytes)
 
 -- a Request that is not ours gets the reply under its ID: its eight bytes are filled in, or there is no room for them
-pub unserved-replied : (t repository s : List ℕ) (id : ℕ) (x : RequestSpan) → isGood t ≡ true → said s ≡ M.Request id x → isOurs t repository s x ≡ false
+pub unserved-replied : (t repository s : List ℕ) (id : ℕ) (x : RequestSpan) → isGood t ≡ true → messageIn s ≡ M.Request id x → isOurs t repository s x ≡ false
     → rulingOf t repository s ≡ fills (gives (replyBytes id))
 unserved-replied t repository s id x g e o =
     let small : id ≤ 4095 = subst (λ (a : Message). idIn a ≤ 4095) e (small-id (readAt message s 0)) in

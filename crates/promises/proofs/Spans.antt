@@ -15,8 +15,8 @@ use Rattle.xdr.proofs.Strings.{string-ends}
 use Rattle.xdr.proofs.Parts.{via-parts, pair-parts}
 use Rattle.xdr.proofs.Corollaries.{read-exactly}
 use Rattle.message.specs.Header.{typeOf, idOf}
-use Rattle.message.specs.Message.{Kind, isIndex, isRequest, isResponse, isPing, isPong, isIndexUpdate, isOptions, kindOf, Body, body, Sent, index, request, response, message}
-use Rattle.message.specs.Answers.{indexSpan, requestSpan, responseSpan, optionsSpan, bodyAnswer, messageAnswer, said}
+use Rattle.message.specs.Message.{Kind, isIndex, isRequest, isResponse, isPing, isPong, isIndexUpdate, isOptions, kindOf, Body, body, MessageValue, index, request, response, message}
+use Rattle.message.specs.Answers.{indexSpan, requestSpan, responseSpan, optionsSpan, bodyAnswer, messageAnswer, messageIn}
 use Rattle.promises.specs.Spans.{IndexFields, RequestFields, ResponseFields, OptionsFields, SaysFields}
 
 -- a string or an opaque stands after its length word
@@ -91,16 +91,16 @@ unfolding readAt
 from-start s = shifted-zero (read message s)
 
 -- its body stands behind its header
-pub body-there : {s : List ℕ} {m : Sent} {n : ℕ} → read message s ≡ taken m n → Reads (body (kindOf (typeOf (m .0)))) s 4 (taken (m .1) n)
+pub body-there : {s : List ℕ} {m : MessageValue} {n : ℕ} → read message s ≡ taken m n → Reads (body (kindOf (typeOf (m .0)))) s 4 (taken (m .1) n)
 body-there {s} {m} {n} e =
     let r : Reads message s 0 (taken m n) = record { is = from-start s ∙ e } in
     let h = pair-parts r in
     subst (λ (k : ℕ). Reads (body (kindOf (typeOf (m .0)))) s k (taken (m .1) n)) (ends-word (passed (passed (passed (h .1)))) .0) (h .2)
 
 -- every message that is read
-pub spans-are-fields : (s : List ℕ) (m : Sent) (n : ℕ) → IsBytes s → read message s ≡ taken m n
-    → SaysFields s (idOf (m .0)) (kindOf (typeOf (m .0))) (m .1) n (said s)
+pub spans-are-fields : (s : List ℕ) (m : MessageValue) (n : ℕ) → IsBytes s → read message s ≡ taken m n
+    → SaysFields s (idOf (m .0)) (kindOf (typeOf (m .0))) (m .1) n (messageIn s)
 spans-are-fields s m n b e =
     let k : Kind = kindOf (typeOf (m .0)) in
-    subst (λ (r : Reading Sent). SaysFields s (idOf (m .0)) k (m .1) n (messageAnswer r)) (sym (from-start s ∙ e))
+    subst (λ (r : Reading MessageValue). SaysFields s (idOf (m .0)) k (m .1) n (messageAnswer r)) (sym (from-start s ∙ e))
     (by-kind k (m .1) (idOf (m .0)) b (body-there e))

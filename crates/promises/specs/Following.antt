@@ -5,7 +5,7 @@ use mathlib.Core.Path.{_≡_}
 use Rattle.xdr.specs.Reading.{refused}
 use Rattle.xdr.specs.Format.{read}
 use Rattle.message.specs.Message.{message}
-use Rattle.message.specs.Answers.{said}
+use Rattle.message.specs.Answers.{messageIn}
 use Rattle.accept.specs.Accepting.{acceptOutcome}
 use Rattle.serve.specs.Ruling.{rulingOf}
 use Rattle.queue.specs.Queue.{answerOf}
@@ -17,7 +17,7 @@ IsEnough s = (p : ℕ) → read message s ≡ refused 1 p → ⊥
 
 -- each call that is given a message does the same when bytes follow it
 pub record Unchanged (s t : List ℕ) : Type 0 where
-  pub reading : said (s ++ t) ≡ said s
+  pub reading : messageIn (s ++ t) ≡ messageIn s
   pub accepting : (old repository : List ℕ) → acceptOutcome old (s ++ t) repository ≡ acceptOutcome old s repository
-  pub answering : (q : RequestQueue) → answerOf q (said (s ++ t)) ≡ answerOf q (said s)
+  pub answering : (q : RequestQueue) → answerOf q (messageIn (s ++ t)) ≡ answerOf q (messageIn s)
   pub serving : (table repository : List ℕ) → rulingOf table repository (s ++ t) ≡ rulingOf table repository s

@@ -5,7 +5,7 @@ use mathlib.Core.List.{List, [], _∷_}
 use mathlib.Core.Path.{_≡_}
 use lib.ListN.{length}
 use Rattle.xdr.specs.Filling.{Outcome, inRoom}
-use Rattle.message.specs.Answers.{said}
+use Rattle.message.specs.Answers.{messageIn}
 use Rattle.message.specs.Kinds.{responseIn}
 use Rattle.message_write.specs.Writing.{requestBytes}
 use Rattle.link.specs.Requests.{total}
@@ -28,33 +28,33 @@ isAccepted Ruled.Accepted = true
 isAccepted (Ruled.Refused r) = false
 
 -- the queue that a call hands back
-abbrev pub afterCall : RequestQueue → Call → RequestQueue
-afterCall q (issue r n o size h room) = record { link = issuedLink (q .link) size (inRoom room (issueOutcome q (requestBytes r n o size h) size)) }
-afterCall q (answer s) = answerOf q (said s) .queue
-afterCall q drop = dropOf q .queue
+abbrev pub queueAfter : RequestQueue → Call → RequestQueue
+queueAfter q (issue r n o size h room) = record { link = issuedLink (q .link) size (inRoom room (issueOutcome q (requestBytes r n o size h) size)) }
+queueAfter q (answer s) = answerOf q (messageIn s) .queue
+queueAfter q drop = dropOf q .queue
 
 -- the event that a call is
-abbrev pub event : RequestQueue → Call → Event
-event q (issue r n o size h room) = issueWas (q .link .next) size (inRoom room (issueOutcome q (requestBytes r n o size h) size))
-event q (answer s) = answerWas (responseIn (said s)) (answerOf q (said s) .release)
-event q drop = dropWas (isAccepted (dropOf q .verdict))
+abbrev pub queueEvent : RequestQueue → Call → Event
+queueEvent q (issue r n o size h room) = issueWas (q .link .next) size (inRoom room (issueOutcome q (requestBytes r n o size h) size))
+queueEvent q (answer s) = answerWas (responseIn (messageIn s)) (answerOf q (messageIn s) .release)
+queueEvent q drop = dropWas (isAccepted (dropOf q .verdict))
 
 -- the queue after some calls
-abbrev pub final : RequestQueue → List Call → RequestQueue
-final q [] = q
-final q (c ∷ cs) = final (afterCall q c) cs
+abbrev pub queueFinal : RequestQueue → List Call → RequestQueue
+queueFinal q [] = q
+queueFinal q (c ∷ cs) = queueFinal (queueAfter q c) cs
 
 -- the events that some calls are
-abbrev pub history : RequestQueue → List Call → List Event
-history q [] = []
-history q (c ∷ cs) = event q c ∷ history (afterCall q c) cs
+abbrev pub queueHistory : RequestQueue → List Call → List Event
+queueHistory q [] = []
+queueHistory q (c ∷ cs) = queueEvent q c ∷ queueHistory (queueAfter q c) cs
 
 -- what holds after any calls from an accepted opening
 pub record Held (window : ℕ) (calls : List Call) : Type 0 where
   -- the queue holds exactly the requests issued and since then neither answered nor dropped
-  pub exact : outstanding (final (opening window .queue) calls .link) ≡ standing (history (opening window .queue) calls)
+  pub exact : outstanding (queueFinal (opening window .queue) calls .link) ≡ standing (queueHistory (opening window .queue) calls)
   -- it is sound
-  pub sound : isSound (final (opening window .queue) calls) ≡ true
+  pub sound : isSound (queueFinal (opening window .queue) calls) ≡ true
   -- so their number is within the window, and their bytes within the allowance
-  pub counted : length (standing (history (opening window .queue) calls)) ≤ window
-  pub summed : total (standing (history (opening window .queue) calls)) ≤ allowance
+  pub counted : length (standing (queueHistory (opening window .queue) calls)) ≤ window
+  pub summed : total (standing (queueHistory (opening window .queue) calls)) ≤ allowance

@@ -1,7 +1,7 @@
 // The queue and its calls.
 ghost use mathlib.Core.Path.{_≡_};
 ghost use lib.ListN.{length};
-ghost use Rattle.message.specs.Answers.{said};
+ghost use Rattle.message.specs.Answers.{messageIn};
 ghost use Rattle.message_write.specs.Writing.{requestBytes};
 ghost use Rattle.link.specs.Requests.{total};
 ghost use Rattle.link.specs.OneLink.{outstanding, Issues};
@@ -135,7 +135,7 @@ impl RequestQueue {
 
     // Releases the oldest request by the Response to it.
     pub fn answer(self, message: &[u8]) -> Answered
-        ensures { λ r. ⌜ r ≡ answerOf self (said (now (message .entry))) ⌝ }
+        ensures { λ r. ⌜ r ≡ answerOf self (messageIn (now (message .entry))) ⌝ }
     {
         if !self.is_sound() {
             return Answered {

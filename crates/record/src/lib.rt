@@ -35,7 +35,7 @@ pub use option_outline::OptionFields;
 pub use option_outline::OptionOutline;
 pub use option_outline::option_at;
 pub use outline::BlockOutline;
-pub use outline::Fields;
+pub use outline::RecordFields;
 pub use outline::Outline;
 pub use outline::block_at;
 pub use outline::offset_of;

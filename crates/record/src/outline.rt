@@ -9,7 +9,7 @@ use xdr::Word;
 
 // The fields of a record, by their places in the whole: its name is at name..stop, its bytes from Flags to the end at rest..past, and
 // its blocks begin at first.
-pub struct Fields {
+pub struct RecordFields {
     pub name: usize,
     pub stop: usize,
     pub rest: usize,
@@ -23,7 +23,7 @@ pub struct Fields {
 
 // A record that ends within the bytes, or none.
 pub enum Outline {
-    Whole(Fields),
+    Whole(RecordFields),
     Short,
 }
 
@@ -53,7 +53,7 @@ fn outline_from(s: &[u8], name: usize, stop: usize, rest: usize) -> Outline
     if s.len() - first < size {
         return Outline::Short;
     }
-    Outline::Whole(Fields {
+    Outline::Whole(RecordFields {
         name,
         stop,
         rest,

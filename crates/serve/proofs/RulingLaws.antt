@@ -10,12 +10,12 @@ use Rattle.xdr.proofs.FillingLaws.{in-room}
 use Rattle.record.specs.Block.{Block}
 use Rattle.record.specs.File.{File}
 use Rattle.record.specs.Outline.{outlineOf, fieldsOf}
-use Rattle.record.specs.declared.outline.Fields.{Fields}
+use Rattle.record.specs.declared.outline.RecordFields.{RecordFields}
 use Rattle.record.specs.declared.outline.Outline.{Outline}
 use Rattle.record.specs.declared.outline.Outline.the-variants as O
 use Rattle.xdr.specs.Filling.{Outcome, refuses, bufferAfter, Fills}
 use Rattle.xdr.specs.declared.filling.Filling.{Filling}
-use Rattle.message.specs.Answers.{spanBytes, said}
+use Rattle.message.specs.Answers.{spanBytes, messageIn}
 use Rattle.message.specs.Message.{message}
 use Rattle.message_write.specs.Writing.{writing, responseBytes}
 use Rattle.message.specs.declared.answer.Span.{Span}
@@ -53,12 +53,12 @@ module _ {t name : List ℕ} {at : ℕ} (w : Looking t name at) {x : Outline} (e
   pub look-ends : (offset : ℕ) (b : Block) → x ≡ O.Short → false ≡ listsThere (records t) name offset b
   look-ends offset b g = sym (w .same offset b ∙ ap (λ (l : List File). listsThere l name offset b) (none-here (w .left) (w .here) e g))
 
-  module _ {f : Fields} (g : x ≡ O.Whole f) where
+  module _ {f : RecordFields} (g : x ≡ O.Whole f) where
     abbrev there : Heads t at (w .left) f
     there = heads (w .left) (w .here) e g
 
     past-is : f .past ≡ fieldsOf at (there .head) .past
-    past-is = ap (λ (y : Fields). y .past) (there .fields-are)
+    past-is = ap (λ (y : RecordFields). y .past) (there .fields-are)
 
     pub look-less : length t - f .past < length t - at
     look-less = omega (arith, past-is, standing (there .here) .next .inside, standing (there .here) .sized)
@@ -66,7 +66,7 @@ module _ {t name : List ℕ} {at : ℕ} (w : Looking t name at) {x : Outline} (e
     module _ {p : List ℕ} {o : Order} {r : Bool} (k : p ≡ part t (f .name) (f .stop)) (c : o ≡ compareLists p name) (q : r ≡ isEqual o) where
       name-test : {v : Bool} → r ≡ v → isEqual (compareLists (there .head .name) name) ≡ v
       name-test h =
-          let n : part t (f .name) (f .stop) ≡ there .head .name = ap (λ (y : Fields). part t (y .name) (y .stop)) (there .fields-are) ∙ standing (there .here) .name-is in
+          let n : part t (f .name) (f .stop) ≡ there .head .name = ap (λ (y : RecordFields). part t (y .name) (y .stop)) (there .fields-are) ∙ standing (there .here) .name-is in
           sym (q ∙ ap isEqual (c ∙ ap (λ (l : List ℕ). compareLists l name) (k ∙ n))) ∙ h
 
       by-head : (offset : ℕ) (b : Block) {v : Bool} → r ≡ v → listsThere (records t) name offset b ≡ cond v (hasThere 0 (listed (there .head)) offset b) (listsThere (there .tail) name offset b)
@@ -77,7 +77,7 @@ module _ {t name : List ℕ} {at : ℕ} (w : Looking t name at) {x : Outline} (e
 
       pub look-found : (offset : ℕ) (b : Block) {y : Bool} → r ≡ true → y ≡ listsAt t at name offset b → y ≡ listsThere (records t) name offset b
       look-found offset b h z =
-          let blocks : blocksFrom t (f .first) 0 (listedCount f) ≡ listed (there .head) = ap (λ (y : Fields). blocksFrom t (y .first) 0 (listedCount y)) (there .fields-are) ∙ listed-blocks (there .here) in
+          let blocks : blocksFrom t (f .first) 0 (listedCount f) ≡ listed (there .head) = ap (λ (y : RecordFields). blocksFrom t (y .first) 0 (listedCount y)) (there .fields-are) ∙ listed-blocks (there .here) in
           z ∙ sym (lists-by name t at e g k c q offset b h) ∙ ap (λ (l : List Block). hasThere 0 l offset b) blocks ∙ sym (by-head offset b h)
 
       pub look-on : r ≡ false → Looking t name (f .past)
@@ -135,7 +135,7 @@ module _ (t repository m out : List ℕ) where
   unfolding rulingOf
   table-bad e = rw e refl
 
-  pub table-good : {a : Message} {b c : RequestIn} → isGood t ≡ true → a ≡ said m → b ≡ requestIn a → b ≡ c → rulingOf t repository m ≡ rulingOn t repository m c
+  pub table-good : {a : Message} {b c : RequestIn} → isGood t ≡ true → a ≡ messageIn m → b ≡ requestIn a → b ≡ c → rulingOf t repository m ≡ rulingOn t repository m c
   unfolding rulingOf
   table-good e f g h = rw e (ap (rulingOn t repository m) (ap requestIn (sym f) ∙ sym g ∙ h))
 

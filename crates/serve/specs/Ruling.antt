@@ -6,7 +6,7 @@ use mathlib.Core.Bool.{Bool, cond, _&&_}
 use mathlib.Core.Path.{_≡_}
 use lib.ListN.{length}
 use Rattle.xdr.specs.Filling.{Outcome, gives, refuses, inRoom, fillingAnswer, bufferAfter}
-use Rattle.message.specs.Answers.{spanBytes, said}
+use Rattle.message.specs.Answers.{spanBytes, messageIn}
 use Rattle.message.specs.Kinds.{requestIn}
 use Rattle.message.specs.declared.kind.RequestIn.{RequestIn}
 use Rattle.message.specs.declared.kind.RequestIn.the-variants as Q
@@ -38,7 +38,7 @@ rulingOn t repository m (Q.Refused r) = fills (refuses (r .number) (r .place))
 
 -- the table is good (15) first
 unfoldable pub rulingOf : (t repository m : List ℕ) → Ruling
-rulingOf t repository m = cond (isGood t) (rulingOn t repository m (requestIn (said m))) (fills (refuses 15 0))
+rulingOf t repository m = cond (isGood t) (rulingOn t repository m (requestIn (messageIn m))) (fills (refuses 15 0))
 
 -- what is answered, with a buffer of so many bytes
 abbrev pub servingAnswer : Ruling → (room : ℕ) → Serving

@@ -4,7 +4,7 @@ use mathlib.Core.List.{List, [], _∷_}
 use mathlib.Core.Path.{_≡_, refl, sym, ap, subst, _∙_}
 use Rattle.record.specs.File.{File}
 use Rattle.record.specs.Outline.{outlineOf, fieldsOf}
-use Rattle.record.specs.declared.outline.Fields.{Fields}
+use Rattle.record.specs.declared.outline.RecordFields.{RecordFields}
 use Rattle.record.specs.declared.outline.Outline.{Outline}
 use Rattle.record.specs.declared.outline.Outline.the-variants as O
 use Rattle.order.specs.Order.{compareLists, part}
@@ -38,7 +38,7 @@ pub data Told (i j : ℕ) : List File → List File → Side → Type 0 where
 pub side-by : (a : List ℕ) (i : ℕ) (b : List ℕ) (j : ℕ) {x y u v : Outline} {r : Side} → x ≡ outlineOf a i → x ≡ u → y ≡ outlineOf b j → y ≡ v → r ≡ sideOf a u b v → r ≡ sideAt a i b j
 side-by a i b j {u = u} {v = v} e f g h k = k ∙ ap (λ (o : Outline). sideOf a o b v) (sym f ∙ e) ∙ ap (λ (o : Outline). sideOf a (outlineOf a i) b o) (sym h ∙ g)
 
-pub two-by : (a : List ℕ) (f : Fields) (b : List ℕ) (g : Fields) {x o : Order} → x ≡ compareLists (part a (f .name) (f .stop)) (part b (g .name) (g .stop)) → x ≡ o → sideBy o f g ≡ sideOfTwo a f b g
+pub two-by : (a : List ℕ) (f : RecordFields) (b : List ℕ) (g : RecordFields) {x o : Order} → x ≡ compareLists (part a (f .name) (f .stop)) (part b (g .name) (g .stop)) → x ≡ o → sideBy o f g ≡ sideOfTwo a f b g
 two-by a f b g e h = ap (λ (o : Order). sideBy o f g) (sym h ∙ e)
 
 module _ {i j : ℕ} where

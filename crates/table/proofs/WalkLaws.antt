@@ -9,7 +9,7 @@ use Rattle.xdr.specs.Format.{encode}
 use Rattle.xdr.specs.Fields.{word}
 use Rattle.record.specs.File.{File, file, fromFlags}
 use Rattle.record.specs.Outline.{wordAt, outlineOf, fieldsOf}
-use Rattle.record.specs.declared.outline.Fields.{Fields}
+use Rattle.record.specs.declared.outline.RecordFields.{RecordFields}
 use Rattle.record.specs.declared.outline.Outline.{Outline}
 use Rattle.record.specs.declared.outline.Outline.the-variants as O
 use Rattle.record.proofs.FileLaws.{encoding-parts, encoding-rest}
@@ -86,14 +86,14 @@ compared-there u w = rw (key-is u, key-is w) refl
 
 -- which records are left, by the outline that was answered
 
-pub record Headed (t : List ℕ) (at : ℕ) (fs : List File) (g : Fields) : Type 0 where
+pub record Headed (t : List ℕ) (at : ℕ) (fs : List File) (g : RecordFields) : Type 0 where
   pub head : File
   pub tail : List File
   pub is : fs ≡ head ∷ tail
   pub stands : At t at (head ∷ tail)
   pub fields : g ≡ fieldsOf at head
 
-pub at-whole : {t : List ℕ} {at : ℕ} {fs : List File} {x : Outline} {g : Fields} → At t at fs → x ≡ outlineOf t at → x ≡ O.Whole g → Headed t at fs g
+pub at-whole : {t : List ℕ} {at : ℕ} {fs : List File} {x : Outline} {g : RecordFields} → At t at fs → x ≡ outlineOf t at → x ≡ O.Whole g → Headed t at fs g
 at-whole {fs = []} {g = g} w e q = let k : O.Whole g ≡ O.Short = sym q ∙ e ∙ at-end w in let z : _≡_ {A = ℕ} 0 1 = cc in absurd (omega arith)
 at-whole {at = at} {fs = f ∷ fs} {g = g} w e q =
     let k : O.Whole g ≡ O.Whole (fieldsOf at f) = sym q ∙ e ∙ standing w .outline-is in

@@ -2,7 +2,7 @@
 ghost use mathlib.Core.Path.{_≡_};
 ghost use Rattle.table.specs.Steps.Side.{sideAt, sideOfTwo};
 use order::Order;
-use record::Fields;
+use record::RecordFields;
 use record::Outline;
 
 // The first table's up to a place, the second's, or both, which have one name; or none is left.
@@ -10,11 +10,11 @@ pub enum Side {
     Neither,
     Left(usize),
     Right(usize),
-    Both(Fields, Fields),
+    Both(RecordFields, RecordFields),
 }
 
 // Two records, each in its own bytes, by their names.
-fn side_of_two(a: &[u8], f: Fields, b: &[u8], g: Fields) -> Side
+fn side_of_two(a: &[u8], f: RecordFields, b: &[u8], g: RecordFields) -> Side
     ensures { λ r. ⌜ r ≡ sideOfTwo (now (a .entry)) f (now (b .entry)) g ⌝ }
 {
     match order::compare_parts(a, f.name, f.stop, b, g.name, g.stop) {

@@ -15,7 +15,7 @@ use Rattle.order.specs.declared.compare.Order.{Order}
 use Rattle.order.specs.declared.compare.Order.the-variants.{Less, Equal, Greater}
 use Rattle.order.proofs.OrderLaws.{Below, equal-same, below-trans}
 use Rattle.record.proofs.RisingLaws.{Above}
-use Rattle.table.proofs.NewestLaws.{at-least-itself, at-least-turned, at-least-trans}
+use Rattle.table.proofs.NewestLaws.{at-least-itself, at-least-reversed, at-least-trans}
 use Rattle.table.specs.Steps.Standing.{At}
 use Rattle.table.proofs.WalkLaws.{compared-there}
 use Rattle.table.proofs.SideLaws.{shows-at, Told, told-none, told-left, told-right, told-both, told}
@@ -66,7 +66,7 @@ first-told (told-right g fs gs h) u w = above-leads g fs h
 first-told {a} {b} {i} {j} (told-both f g fs gs e) u w = go (compareAt a (fieldsOf i f) b (fieldsOf j g)) (sym (compared-there u w))
   where
     go : (o : Order) → compareFiles f g ≡ o → Firsts (f ∷ fs) (g ∷ gs) (higherStep o i (fieldsOf i f .past) j (fieldsOf j g .past))
-    go Less h = inr (sym (equal-same (f .name) (g .name) e), at-least-turned f g h)
+    go Less h = inr (sym (equal-same (f .name) (g .name) e), at-least-reversed f g h)
     go Equal h = inr (equal-same (f .name) (g .name) e, λ k. let z : _≡_ {A = ℕ} 0 1 = cc (sym h ∙ k) in omega arith)
     go Greater h = inr (equal-same (f .name) (g .name) e, λ k. let z : _≡_ {A = ℕ} 0 1 = cc (sym h ∙ k) in omega arith)
 

@@ -8,7 +8,7 @@ use native.Mathlib.Omega.{arith}
 use lib.ListN.{length, getD, List·getD-map}
 use Rattle.record.specs.File.{File}
 use Rattle.order.specs.Order.{isEqual, compareLists}
-use Rattle.order.proofs.OrderLaws.{Below, turned, compare-turned, same-equal}
+use Rattle.order.proofs.OrderLaws.{Below, reversed, compare-reversed, same-equal}
 use Rattle.record.proofs.RisingLaws.{Above, Rising, rising-test}
 use Rattle.merge.specs.Merged.{mergedOf}
 use Rattle.merge.specs.Highest.{joined, AtLeast, Covered, Highest}
@@ -26,7 +26,7 @@ without w [] = []
 without w (f ∷ fs) = cond (isEqual (compareLists (f .name) (w .name))) fs (f ∷ fs)
 
 pub above-test : (m n : List ℕ) → Below m n → isEqual (compareLists n m) ≡ false
-above-test m n b = ap isEqual (compare-turned m n ∙ ap turned b)
+above-test m n b = ap isEqual (compare-reversed m n ∙ ap reversed b)
 
 pub same-test : (m n : List ℕ) → m ≡ n → isEqual (compareLists n m) ≡ true
 same-test m n e = rw e (ap isEqual (same-equal n))

@@ -8,7 +8,7 @@ ghost use Rattle.record.specs.Outline.{wordAt, blocksSize, blockPlace};
 ghost use Rattle.want.specs.Listing.{isCurrent, isSame, hasThere, blockWith};
 ghost use Rattle.want.specs.Steps.Blocks.{blockHere, blocksFrom, listedCount};
 use record::BlockOutline;
-use record::Fields;
+use record::RecordFields;
 
 // Valid and undeleted.
 fn is_current(flags: u32) -> bool
@@ -21,7 +21,7 @@ fn is_current(flags: u32) -> bool
 }
 
 // How many blocks a record lists: none where it is invalid or deleted.
-pub fn listed(f: Fields) -> u32
+pub fn listed(f: RecordFields) -> u32
     ensures { λ r. ⌜ r ≡ listedCount f ⌝ }
 {
     if is_current(f.flags) {

@@ -4,7 +4,7 @@ use mathlib.Core.List.{List}
 use mathlib.Core.Bool.{cond}
 use lib.ListN.{length, getD}
 use lib.Dec.{ltb}
-use Rattle.record.specs.declared.outline.Fields.{Fields}
+use Rattle.record.specs.declared.outline.RecordFields.{RecordFields}
 use Rattle.table.specs.Steps.Side.{sideAt}
 use Rattle.merge.specs.Steps.Next.{fromLeft, nextBy}
 use Rattle.merge.specs.declared.next.Next.{Next}
@@ -14,7 +14,7 @@ abbrev pub placeOf : (s places : List ℕ) → (i : ℕ) → ℕ
 placeOf s places i = cond (ltb i (length places)) (getD places i 0) (length s)
 
 -- of one name the message's record
-abbrev pub replacingStep : (at : ℕ) → (f g : Fields) → Next
+abbrev pub replacingStep : (at : ℕ) → (f g : RecordFields) → Next
 replacingStep at f g = fromLeft at (f .past) (g .past)
 
 -- the next record where the message's stands at a place, and the old table has come to j

@@ -2,7 +2,7 @@
 use Prim.Native.Nat.{ℕ}
 use mathlib.Core.List.{List}
 use mathlib.Core.Bool.{true, false, cond}
-use Rattle.record.specs.declared.outline.Fields.{Fields}
+use Rattle.record.specs.declared.outline.RecordFields.{RecordFields}
 use Rattle.order.specs.Order.{part}
 use Rattle.table.specs.Newest.{compareAt}
 use Rattle.table.specs.Steps.Side.{sideAt}
@@ -29,11 +29,11 @@ higherStep Equal i x j y = fromLeft i x y
 higherStep Greater i x j y = fromLeft i x y
 
 -- two of one name by their fields, each in its own table
-abbrev pub higherOf : List ℕ → ℕ → List ℕ → ℕ → (f g : Fields) → Next
+abbrev pub higherOf : List ℕ → ℕ → List ℕ → ℕ → (f g : RecordFields) → Next
 higherOf a i b j f g = higherStep (compareAt a f b g) i (f .past) j (g .past)
 
 -- by whose record comes next at i and j; `both` is for two of one name
-abbrev pub nextBy : (both : Fields → Fields → Next) → (i j : ℕ) → Side → Next
+abbrev pub nextBy : (both : RecordFields → RecordFields → Next) → (i j : ℕ) → Side → Next
 nextBy both i j Neither = End
 nextBy both i j (Left x) = fromLeft i x j
 nextBy both i j (Right y) = fromRight j y i

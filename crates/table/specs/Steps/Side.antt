@@ -2,7 +2,7 @@
 use mathlib.Core.List.{List}
 use Prim.Native.Nat.{ℕ}
 use Rattle.record.specs.Outline.{outlineOf}
-use Rattle.record.specs.declared.outline.Fields.{Fields}
+use Rattle.record.specs.declared.outline.RecordFields.{RecordFields}
 use Rattle.record.specs.declared.outline.Outline.{Outline}
 use Rattle.record.specs.declared.outline.Outline.the-variants as O
 use Rattle.order.specs.Order.{compareLists, part}
@@ -12,13 +12,13 @@ use Rattle.table.specs.declared.side.Side.{Side}
 use Rattle.table.specs.declared.side.Side.the-variants.{Neither, Left, Right, Both}
 
 -- two records, by how their names compare
-abbrev pub sideBy : Order → (f g : Fields) → Side
+abbrev pub sideBy : Order → (f g : RecordFields) → Side
 sideBy Less f g = Left (f .past)
 sideBy Equal f g = Both f g
 sideBy Greater f g = Right (g .past)
 
 -- two records, each in its own bytes
-abbrev pub sideOfTwo : List ℕ → Fields → List ℕ → Fields → Side
+abbrev pub sideOfTwo : List ℕ → RecordFields → List ℕ → RecordFields → Side
 sideOfTwo a f b g = sideBy (compareLists (part a (f .name) (f .stop)) (part b (g .name) (g .stop))) f g
 
 -- by the outlines of what stands at a place of each

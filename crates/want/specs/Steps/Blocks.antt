@@ -6,7 +6,7 @@ use lib.ListN.{take, drop}
 use Rattle.record.specs.Limits.{hashLength}
 use Rattle.record.specs.Block.{Block}
 use Rattle.record.specs.Outline.{wordAt, blockPlace}
-use Rattle.record.specs.declared.outline.Fields.{Fields}
+use Rattle.record.specs.declared.outline.RecordFields.{RecordFields}
 use Rattle.want.specs.Listing.{isCurrent, blockWith}
 
 -- the block at a place
@@ -19,5 +19,5 @@ blocksFrom s first j zero = []
 blocksFrom s first j (suc left) = blockHere s (blockPlace first j) ∷ blocksFrom s first (j + 1) left
 
 -- how many blocks a record lists
-abbrev pub listedCount : Fields → ℕ
+abbrev pub listedCount : RecordFields → ℕ
 listedCount f = cond (isCurrent (f .flags)) (f .blocks) 0
