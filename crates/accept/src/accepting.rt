@@ -141,7 +141,7 @@ pub fn accept(old: &[u8], message: &[u8], repository: &[u8], out: &mut [u8]) -> 
         return xdr::refused(15);
     }
     let found = read_index(message);
-    let IndexIn::Taken(update, x) = found else {
+    let IndexIn::Taken { update, index: x } = found else {
         return Filling::Refused(found.refusal());
     };
     let stop = x.repository.start + x.repository.length;

@@ -1,10 +1,8 @@
 -- What a call on a queue answers and leaves, as number, words, queue and buffer.
 use Prim.Native.Nat.{ℕ}
 use mathlib.Core.List.{List, [], _∷_}
-use mathlib.Core.Path.{_≡_, sym, ap, subst, _∙_}
+use mathlib.Core.Path.{_≡_, ap, subst, _∙_}
 use lib.ListN.{length}
-use Rattle.xdr.specs.Filling.{inRoom, fillingAnswer}
-use Rattle.xdr.specs.declared.filling.Filling.{Filling}
 use Rattle.message.specs.declared.answer.Message.{Message}
 use Rattle.link.specs.Requests.{total}
 use Rattle.link.specs.OneLink.{outstanding, Issues}
@@ -15,7 +13,7 @@ use Rattle.queue.specs.declared.outcome.Emptied.{Emptied}
 use Rattle.queue.specs.declared.outcome.Issued.{Issued}
 use Rattle.queue.specs.declared.outcome.Answered.{Answered}
 use Rattle.bep.specs.Filling.{fillingNumber}
-use Rattle.bep.specs.Queues.{queueOf, wordsOf, verdictNumber, Becomes, issuedWords, issueInto, QueueIssues, releaseNumber, releaseWords, QueueAnswers, totalWords}
+use Rattle.bep.specs.Queues.{queueOf, wordsOf, verdictNumber, Becomes, issuedWords, QueueIssues, releaseNumber, releaseWords, QueueAnswers, totalWords}
 
 pub becomes : {d e : Emptied} {number : ℕ} {queue : List ℕ} → d ≡ e → number ≡ verdictNumber (d .verdict) → queue ≡ wordsOf (d .queue) → Becomes e number queue
 becomes e n w = record { number-is = n ∙ ap (λ (x : Emptied). verdictNumber (x .verdict)) e; queue-is = w ∙ ap (λ (x : Emptied). wordsOf (x .queue)) e }

@@ -6,10 +6,10 @@ ghost use Rattle.record.specs.Outline.{outlineOf};
 ghost use Rattle.record.specs.OptionOutline.{optionOf};
 ghost use Rattle.walker.specs.Walk.{stepAt};
 ghost use Rattle.bep.specs.Words.{fieldWords, fileWords, fileNumber, keyWords, optionWords, optionNumber, stepNumber, stepWords};
-use record::RecordFields;
 use record::OptionFields;
 use record::OptionOutline;
 use record::Outline;
+use record::RecordFields;
 use walker::Step;
 
 // A record's fields as words; the name's length is its end less its start.

@@ -94,15 +94,15 @@ fn give_release(o: Release, answer: &mut [u64; 5]) -> u32
     ensures { λ r. ⌜ (r ≡ releaseNumber o) × (now (answer .exit) ≡ releaseWords o) ⌝ }
 {
     match o {
-        Release::Data(id, size, d) => {
+        Release::Data { id, size, data: d } => {
             *answer = [0, id as u64, size as u64, d.start as u64, d.length as u64];
             0
         }
-        Release::NotAvailable(id, size) => {
+        Release::NotAvailable { id, size } => {
             *answer = [1, id as u64, size as u64, 0, 0];
             0
         }
-        Release::WrongSize(id, size) => {
+        Release::WrongSize { id, size } => {
             *answer = [2, id as u64, size as u64, 0, 0];
             0
         }

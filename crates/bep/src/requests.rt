@@ -33,7 +33,7 @@ pub extern "C" fn bep_find(table: &[u8], size: u32, hash: &[u8], answer: &mut [u
     ensures { λ r. ⌜ Finds (foundIn (now (table .entry)) (blockWith size (now (hash .entry)))) r (now (answer .exit)) ⌝ }
 {
     match want::find_local(table, size, hash) {
-        Found::At(record, block) => {
+        Found::At { record, block } => {
             *answer = [1, record as u64, block as u64];
             0
         }

@@ -27,7 +27,7 @@ fn give_serving(s: Serving, answer: &mut [u64; 5]) -> u32
     ensures { λ r. ⌜ (r ≡ servingNumber s) × (now (answer .exit) ≡ servingWords s) ⌝ }
 {
     match s {
-        Serving::Served(name, offset, size) => {
+        Serving::Served { name, offset, size } => {
             *answer = [
                 1,
                 name.start as u64,

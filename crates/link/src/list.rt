@@ -51,11 +51,21 @@ fn settled(oldest: Request, data: Span) -> Release
     ensures { λ r. ⌜ r ≡ released oldest «data» ⌝ }
 {
     if data.length == 0 {
-        Release::NotAvailable(oldest.id, oldest.size)
+        Release::NotAvailable {
+            id: oldest.id,
+            size: oldest.size,
+        }
     } else if data.length == oldest.size as usize {
-        Release::Data(oldest.id, oldest.size, data)
+        Release::Data {
+            id: oldest.id,
+            size: oldest.size,
+            data,
+        }
     } else {
-        Release::WrongSize(oldest.id, oldest.size)
+        Release::WrongSize {
+            id: oldest.id,
+            size: oldest.size,
+        }
     }
 }
 
@@ -248,7 +258,7 @@ impl Link {
         ensures { λ r. ⌜ r ≡ answeredBy self (responseIn (messageIn (now (message .entry)))) ⌝ }
     {
         match message::response_in(message::read(message)) {
-            ResponseIn::Taken(id, x) => self.settle(id, x.data),
+            ResponseIn::Taken { id, response: x } => self.settle(id, x.data),
             ResponseIn::Refused(r) => LinkAnswered {
                 link: self,
                 release: Release::Refused(r),

@@ -13,9 +13,9 @@ pub struct LinkIssued {
 
 // What an answer released: ID and Length of a request and, where it brought the data, where they stand in the message.
 pub enum Release {
-    Data(u32, u32, Span),
-    NotAvailable(u32, u32),
-    WrongSize(u32, u32),
+    Data { id: u32, size: u32, data: Span },
+    NotAvailable { id: u32, size: u32 },
+    WrongSize { id: u32, size: u32 },
     Refused(Refusal),
 }
 

@@ -9,7 +9,7 @@ use xdr::Refusal;
 
 // An Index, or an IndexUpdate where the first is true; or a refusal.
 pub enum IndexIn {
-    Taken(bool, IndexSpan),
+    Taken { update: bool, index: IndexSpan },
     Refused(Refusal),
 }
 
@@ -19,7 +19,10 @@ impl IndexIn {
         ensures { λ r. ⌜ r ≡ indexRefusal self ⌝ }
     {
         match self {
-            IndexIn::Taken(_, _) => Refusal {
+            IndexIn::Taken {
+                update: _,
+                index: _,
+            } => Refusal {
                 number: 0,
                 place: 0,
             },
@@ -30,13 +33,13 @@ impl IndexIn {
 
 // A Request with its ID, or a refusal.
 pub enum RequestIn {
-    Taken(u32, RequestSpan),
+    Taken { id: u32, request: RequestSpan },
     Refused(Refusal),
 }
 
 // A Response with its ID, or a refusal.
 pub enum ResponseIn {
-    Taken(u32, ResponseSpan),
+    Taken { id: u32, response: ResponseSpan },
     Refused(Refusal),
 }
 
@@ -45,8 +48,14 @@ pub fn index_in(m: Message) -> IndexIn
     ensures { λ r. ⌜ r ≡ indexIn m ⌝ }
 {
     match m {
-        Message::Index(_, x) => IndexIn::Taken(false, x),
-        Message::IndexUpdate(_, x) => IndexIn::Taken(true, x),
+        Message::Index(_, x) => IndexIn::Taken {
+            update: false,
+            index: x,
+        },
+        Message::IndexUpdate(_, x) => IndexIn::Taken {
+            update: true,
+            index: x,
+        },
         Message::Refused(r) => IndexIn::Refused(r),
         _ => IndexIn::Refused(Refusal::at_start(18)),
     }
@@ -57,7 +66,7 @@ pub fn request_in(m: Message) -> RequestIn
     ensures { λ r. ⌜ r ≡ requestIn m ⌝ }
 {
     match m {
-        Message::Request(id, x) => RequestIn::Taken(id, x),
+        Message::Request(id, x) => RequestIn::Taken { id, request: x },
         Message::Refused(r) => RequestIn::Refused(r),
         _ => RequestIn::Refused(Refusal::at_start(18)),
     }
@@ -68,7 +77,7 @@ pub fn response_in(m: Message) -> ResponseIn
     ensures { λ r. ⌜ r ≡ responseIn m ⌝ }
 {
     match m {
-        Message::Response(id, x) => ResponseIn::Taken(id, x),
+        Message::Response(id, x) => ResponseIn::Taken { id, response: x },
         Message::Refused(r) => ResponseIn::Refused(r),
         _ => ResponseIn::Refused(Refusal::at_start(18)),
     }

@@ -13,7 +13,7 @@ use Rattle.xdr.specs.Reading.{Reading, taken, refused, shifted, mapped}
 use Rattle.xdr.specs.Format.{Format, read, readAt, encode}
 use Rattle.xdr.specs.Fields.{word}
 use Rattle.xdr.specs.Buffer.{filled}
-use Rattle.xdr.specs.Filling.{Outcome, gives, refuses, inRoom, fillingAnswer, bufferAfter, Fills}
+use Rattle.xdr.specs.Filling.{Outcome, gives, refuses, inRoom, fillingAnswer, Fills}
 use Rattle.xdr.specs.declared.answer.Refusal.{Refusal}
 use Rattle.xdr.specs.declared.filling.Filling.{Filling}
 use Rattle.xdr.specs.declared.filling.Filling.the-variants as Out

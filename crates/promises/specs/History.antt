@@ -4,7 +4,7 @@ use mathlib.Core.Bool.{Bool, true, false}
 use mathlib.Core.List.{List, [], _∷_}
 use mathlib.Core.Path.{_≡_}
 use lib.ListN.{length}
-use Rattle.xdr.specs.Filling.{Outcome, inRoom}
+use Rattle.xdr.specs.Filling.{inRoom}
 use Rattle.message.specs.Answers.{messageIn}
 use Rattle.message.specs.Kinds.{responseIn}
 use Rattle.message_write.specs.Writing.{requestBytes}

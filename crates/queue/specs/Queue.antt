@@ -9,7 +9,6 @@ use Rattle.message.specs.Kinds.{responseIn}
 use Rattle.message.specs.declared.answer.Message.{Message}
 use Rattle.link.specs.Requests.{total}
 use Rattle.link.specs.OneLink.{windowFits, outstanding, isOrderly, emptyLink, issuing, answeredBy, emptied}
-use Rattle.link.specs.declared.list.Link.{Link}
 use Rattle.link.specs.declared.list.Tally.{Tally}
 use Rattle.link.specs.declared.list.Tally.the-variants.{Unsound, Bytes}
 use Rattle.link.specs.declared.outcome.LinkIssued.{LinkIssued}

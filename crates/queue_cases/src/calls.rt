@@ -81,13 +81,13 @@ pub fn issue(q: RequestQueue, size: u32, room: usize) -> RequestQueue {
 
 fn release(o: Release) {
     match o {
-        Release::Data(id, size, d) => {
+        Release::Data { id, size, data: d } => {
             request(b"data", id, size);
             lines::text(b" at ");
             lines::number(d.start as u64);
         }
-        Release::NotAvailable(id, size) => request(b"not available", id, size),
-        Release::WrongSize(id, size) => request(b"wrong size", id, size),
+        Release::NotAvailable { id, size } => request(b"not available", id, size),
+        Release::WrongSize { id, size } => request(b"wrong size", id, size),
         Release::Refused(r) => refused(r.number, r.place),
     }
 }

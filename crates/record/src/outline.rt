@@ -29,7 +29,7 @@ pub enum Outline {
 
 // The Length of a block and the place of its hash's 32 bytes, where they are within the bytes.
 pub enum BlockOutline {
-    Whole(u32, usize),
+    Whole { size: u32, hash: usize },
     Short,
 }
 
@@ -70,7 +70,11 @@ fn outline_from(s: &[u8], name: usize, stop: usize, rest: usize) -> Outline
 pub fn outline_at(s: &[u8], at: usize) -> Outline
     ensures { λ r. ⌜ r ≡ outlineOf (now (s .entry)) at ⌝ }
 {
-    let StringOutline::Whole(n, rest) = string_at(s, at) else {
+    let StringOutline::Whole {
+        length: n,
+        past: rest,
+    } = string_at(s, at)
+    else {
         return Outline::Short;
     };
     let name = at + 4;
@@ -92,7 +96,10 @@ pub fn block_at(s: &[u8], first: usize, i: u32) -> BlockOutline
     let Word::Taken(size, next) = xdr::read_word(s, at) else {
         return BlockOutline::Short;
     };
-    BlockOutline::Whole(size, next + 4)
+    BlockOutline::Whole {
+        size,
+        hash: next + 4,
+    }
 }
 
 // The offset of block i, the sum of the Lengths before it: a block that is not there counts 0.
@@ -102,7 +109,7 @@ pub fn offset_of(s: &[u8], first: usize, i: u32) -> u64
     let mut sum: u64 = 0;
     let mut j = 0;
     while j < i {
-        let BlockOutline::Whole(size, _) = block_at(s, first, j) else {
+        let BlockOutline::Whole { size, hash: _ } = block_at(s, first, j) else {
             return sum;
         };
         sum += size as u64;

@@ -14,7 +14,7 @@ use xdr::Refusal;
 
 // To serve: the file's name, the offset and the Length. Or how many bytes of a reply were filled in, or a refusal.
 pub enum Serving {
-    Served(Span, u64, u32),
+    Served { name: Span, offset: u64, size: u32 },
     Unserved(Filling),
 }
 
@@ -81,10 +81,14 @@ pub fn serve(table: &[u8], repository: &[u8], message: &[u8], out: &mut [u8]) ->
     }
     match message::request_in(message::read(message)) {
         RequestIn::Refused(r) => Serving::Unserved(Filling::Refused(r)),
-        RequestIn::Taken(id, x) => {
+        RequestIn::Taken { id, request: x } => {
             if is_ours(table, repository, message, x) {
                 let name = x.name;
-                return Serving::Served(name, x.offset, x.size);
+                return Serving::Served {
+                    name,
+                    offset: x.offset,
+                    size: x.size,
+                };
             }
             Serving::Unserved(message_write::write_response(out, id, &message[0..0]))
         }

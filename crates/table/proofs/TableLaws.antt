@@ -9,7 +9,7 @@ use lib.ListN.{length, length-append}
 use lib.Dec.{leb, eqb}
 use Rattle.xdr.specs.Reading.{Reading, taken, refused}
 use Rattle.xdr.specs.Number.{IsBytes}
-use Rattle.xdr.specs.Format.{read, encode, encodeAll, AllOf, Valid}
+use Rattle.xdr.specs.Format.{read, encode, Valid}
 use Rattle.xdr.specs.Fields.{word}
 use Rattle.xdr.specs.Buffer.{filled, over, put}
 use Rattle.xdr.specs.Filling.{gives, refuses}
@@ -17,7 +17,7 @@ use Rattle.xdr.proofs.BufferLaws.{filled-next}
 use Rattle.xdr.proofs.NumberLaws.{length-digits}
 use Rattle.xdr.proofs.RoundTrip.{round}
 use Rattle.xdr.proofs.Corollaries.{read-whole}
-use Rattle.record.specs.File.{File, file}
+use Rattle.record.specs.File.{File}
 use Rattle.record.specs.Rising.{isRising, fillRising, isRisingArray}
 use Rattle.table.specs.Limits.{recordsLimit, bytesLimit}
 use Rattle.table.specs.Steps.Standing.{bytesOf, AllValid}

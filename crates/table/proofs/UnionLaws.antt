@@ -8,7 +8,7 @@ use Rattle.order.specs.Order.{compareLists}
 use Rattle.order.specs.declared.compare.Order.{Order}
 use Rattle.order.specs.declared.compare.Order.the-variants.{Less, Equal, Greater}
 use Rattle.order.proofs.OrderLaws.{Below, equal-same, above-greater, greater-above}
-use Rattle.record.proofs.RisingLaws.{Above, Rising}
+use Rattle.record.proofs.RisingLaws.{Above}
 use Rattle.table.specs.Insert.{placed, insert}
 use Rattle.table.proofs.InsertLaws.{above-below, insert-first, stays-name}
 

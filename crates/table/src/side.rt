@@ -2,8 +2,8 @@
 ghost use mathlib.Core.Path.{_≡_};
 ghost use Rattle.table.specs.Steps.Side.{sideAt, sideOfTwo};
 use order::Order;
-use record::RecordFields;
 use record::Outline;
+use record::RecordFields;
 
 // The first table's up to a place, the second's, or both, which have one name; or none is left.
 pub enum Side {

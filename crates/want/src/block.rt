@@ -35,7 +35,7 @@ pub(crate) fn block_size(s: &[u8], first: usize, j: u32) -> u32
     requires { ⌜ blockPlace first j + 40 ≤ length (now s) ⌝ }
     ensures { λ r. ⌜ r ≡ wordAt (now (s .entry)) (blockPlace first j) ⌝ }
 {
-    let BlockOutline::Whole(size, _) = record::block_at(s, first, j) else {
+    let BlockOutline::Whole { size, hash: _ } = record::block_at(s, first, j) else {
         return 0;
     };
     size

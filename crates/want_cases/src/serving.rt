@@ -35,7 +35,7 @@ fn unserved(f: Filling, out: &[u8]) {
 // What is served or replied and the whole buffer, or the refusal and whether the buffer is as it was.
 fn answer(s: Serving, out: &[u8]) {
     match s {
-        Serving::Served(name, offset, size) => {
+        Serving::Served { name, offset, size } => {
             served(name, offset, size);
             buffer(out);
         }

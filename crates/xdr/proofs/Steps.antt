@@ -12,7 +12,7 @@ use lib.Seq.{drop-drop, length-take-le}
 use lib.Dec.{leb}
 use Rattle.xdr.specs.Reading.{Reading, taken, refused, shifted, mapped, relocated, tested, andThen}
 use Rattle.xdr.specs.Number.{bigEndian}
-use Rattle.xdr.specs.Format.{Format, number, bytes, pair, checkedAt, checked, via, padOf, contents, bytesPlace, padPlace, read, readAt}
+use Rattle.xdr.specs.Format.{Format, number, bytes, pair, checkedAt, checked, via, contents, bytesPlace, padPlace, read, readAt}
 use Rattle.xdr.specs.Pad.{padded, zerosUpTo, allZero}
 use Rattle.xdr.proofs.Within.{within, place-start}
 

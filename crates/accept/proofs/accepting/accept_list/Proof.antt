@@ -3,7 +3,7 @@ use Prim.Native.Nat.{ℕ, _-_}
 use mathlib.Core.Path.{_≡_, refl, subst}
 use native.Mathlib.Omega.{arith}
 use denote.Ref.{now}
-use lib.ListN.{length, take}
+use lib.ListN.{take}
 use Rattle.xdr.proofs.FillingLaws.{fills-refused, fills-same}
 use Rattle.table.specs.Table.{resultingTable}
 use Rattle.accept.specs.Steps.Sorted.{resultOf, SortedPlaces, SortedTo}

@@ -1,6 +1,5 @@
 -- `listing::line::name` is safe and ends.
 use Prim.Native.Nat.{_-_}
-use native.Mathlib.Omega.{arith}
 use lib.ListN.{length}
 use borrow.Author.Needs.{needs}
 use Rattle.listing.proofs.line.name.Statement.{statement}

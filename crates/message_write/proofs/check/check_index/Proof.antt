@@ -1,6 +1,6 @@
 -- `message_write::check::check_index` meets its contract: the repository stands right behind the header, and the files behind it.
 use Prim.Native.Nat.{ℕ, _+_, _≤_}
-use mathlib.Core.List.{List, [], _∷_, _++_}
+use mathlib.Core.List.{List}
 use mathlib.Core.Path.{_≡_, refl, _∙_}
 use native.Mathlib.Omega.{arith}
 use borrow.Author.Needs.{needs}
@@ -12,7 +12,6 @@ use Rattle.xdr.specs.Format.{bytes, encode}
 use Rattle.xdr.specs.Fields.{word, text}
 use Rattle.xdr.proofs.Answered.{bytes-taken, bytes-refused}
 use Rattle.xdr.proofs.Steps.{Reads, passed, first-refused, both-read, ends, refused-within}
-use Rattle.xdr.proofs.Told.{Wide, encoded-at}
 use Rattle.message_write.specs.Writing.{indexBytes}
 use Rattle.message_write.proofs.Behind.{behind, checks, last-at, string-refused, string-taken, behind-string, repository-there}
 use Rattle.record.specs.File.{File, files}

@@ -1,6 +1,6 @@
 -- `message_write::check::check_request` meets its contract: each field stands behind those before it.
 use Prim.Native.Nat.{ℕ, _+_, _≤_}
-use mathlib.Core.List.{List, [], _∷_, _++_, append-assoc}
+use mathlib.Core.List.{List, _++_, append-assoc}
 use mathlib.Core.Path.{_≡_, refl, sym, _∙_}
 use native.Mathlib.Omega.{arith}
 use borrow.Author.Needs.{needs}
@@ -11,15 +11,13 @@ use Rattle.xdr.specs.Pad.{padded}
 use Rattle.xdr.specs.Format.{bytes, encode}
 use Rattle.xdr.specs.Fields.{word, hyper}
 use Rattle.xdr.proofs.Answered.{bytes-taken, bytes-refused}
-use Rattle.xdr.proofs.Steps.{Reads, passed, first-refused, both-read, via-refused, via-taken}
-use Rattle.xdr.proofs.Told.{Wide, encoded-at}
+use Rattle.xdr.proofs.Steps.{Reads, passed, first-refused, both-read, via-refused, via-taken, checked-failed, checked-passed}
+use Rattle.xdr.proofs.Told.{Wide, encoded-at, number-alone, told-same}
 use Rattle.message_write.proofs.Behind.{behind, checks, last-at, string-size, string-refused, string-taken, behind-string, repository-there}
 use borrow.Author.Tests.{not-true, not-false, eqb-true}
 use Rattle.record.specs.Block.{hash}
 use Rattle.record.specs.File.{name}
 use Rattle.xdr.proofs.EncodedSize.{number-size}
-use Rattle.xdr.proofs.Steps.{checked-failed, checked-passed}
-use Rattle.xdr.proofs.Told.{number-alone, told-same}
 use Rattle.message.specs.Message.{repository}
 use Rattle.message_write.specs.Writing.{requestBytes}
 use Rattle.message_write.proofs.check.check_request.Statement.{statement}

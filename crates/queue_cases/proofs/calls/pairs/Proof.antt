@@ -1,7 +1,5 @@
 -- `queue_cases::calls::pairs` is safe and ends.
 use Prim.Native.Nat.{_-_}
-use mathlib.Core.Path.{_≡_, refl}
-use native.Mathlib.Omega.{arith}
 use borrow.Author.Needs.{needs}
 use Rattle.queue_cases.proofs.calls.pairs.Statement.{statement}
 use Rattle.queue_cases.proofs.calls.pairs.Tie as tie

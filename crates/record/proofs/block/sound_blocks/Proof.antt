@@ -1,12 +1,12 @@
 -- `record::block::sound_blocks` meets its contract. The loop's invariant: so many blocks are in order, and end where the next begins.
-use Prim.Native.Nat.{ℕ, _+_, _*_, _-_, _≤_, _<_}
+use Prim.Native.Nat.{ℕ, _+_, _*_, _-_, _≤_}
 use mathlib.Core.List.{List}
-use mathlib.Core.Path.{_≡_, sym, ap, subst, _∙_}
+use mathlib.Core.Path.{_≡_, subst, _∙_}
 use native.Mathlib.Omega.{arith}
 use borrow.Author.Needs.{needs}
 use borrow.Author.Tests.{not-false}
 use denote.Ref.{now}
-use lib.ListN.{length, take, drop}
+use lib.ListN.{drop}
 use Rattle.xdr.specs.Number.{bigEndian}
 use Rattle.xdr.proofs.Answered.{hyper-taken}
 use Rattle.xdr.proofs.NumberLaws.{number-first}

@@ -2,8 +2,8 @@
 -- where it was found.
 use Prim.Native.Nat.{ℕ, _+_, _-_, _≤_, _<_}
 use mathlib.Core.List.{List}
-use mathlib.Core.Path.{_≡_, sym, ap, _∙_}
-use mathlib.Core.Bool.{Bool, true}
+use mathlib.Core.Path.{sym, ap, _∙_}
+use mathlib.Core.Bool.{Bool}
 use mathlib.Core.Logic.{⊎-elim}
 use native.Mathlib.Omega.{arith}
 use borrow.Author.Needs.{needs}
@@ -14,7 +14,7 @@ use Rattle.xdr.specs.Reading.{taken, refused}
 use Rattle.xdr.specs.Fields.{upTo}
 use Rattle.xdr.proofs.Answered.{word-taken, word-refused}
 use Rattle.xdr.proofs.Steps.{Reads, ends, refused-within}
-use Rattle.order.specs.Order.{isLess, compareLists, part}
+use Rattle.order.specs.Order.{isLess}
 use Rattle.record.specs.File.{file}
 use Rattle.record.proofs.CheckLaws.{not-both, NextFile, next-file, next-refused, Checked, checked-none, checked-more, count-answers, file-answers, broken-answers, all-answers}
 use Rattle.record.proofs.files.read_run.Statement.{statement}

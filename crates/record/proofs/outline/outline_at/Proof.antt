@@ -1,6 +1,6 @@
 -- `record::outline::outline_at` meets its contract: each return is one of the laws of an outline.
 use Prim.Native.Nat.{ℕ, _+_}
-use mathlib.Core.Path.{_≡_, refl, sym, ap, _∙_}
+use mathlib.Core.Path.{refl, sym, ap, _∙_}
 use native.Mathlib.Omega.{arith}
 use denote.Ref.{now}
 use Rattle.xdr.specs.Pad.{padded}

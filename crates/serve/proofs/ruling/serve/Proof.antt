@@ -1,10 +1,8 @@
 -- `serve::ruling::serve` meets its contract.
-use mathlib.Core.Bool.{true}
 use mathlib.Core.Path.{_≡_, refl, sym, _∙_}
 use borrow.Author.Tests.{not-true, not-false}
 use denote.Ref.{now}
 use Rattle.xdr.proofs.FillingLaws.{fills-refused}
-use Rattle.table.specs.Table.{isGood}
 use Rattle.serve.specs.Ruling.{rulingOn, rulingOf}
 use Rattle.message.specs.declared.kind.RequestIn.the-variants as Q
 use Rattle.serve.proofs.RulingLaws.{served-so, filled-in, ruled, table-bad, table-good, ours-served, ours-not}

@@ -5,7 +5,6 @@ use native.Mathlib.Omega.{arith}
 use denote.Ref.{now}
 use lib.ListN.{take, drop}
 use borrow.Author.Needs.{needs}
-use borrow.Author.Needs.{needs}
 use Rattle.want.proofs.block.block_hash.Statement.{statement}
 use Rattle.want.proofs.block.block_hash.Tie as tie
 

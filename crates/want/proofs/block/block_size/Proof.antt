@@ -2,7 +2,6 @@
 use denote.Ref.{now}
 use Rattle.want.proofs.ListingLaws.{size-there, size-missing}
 use borrow.Author.Needs.{needs}
-use borrow.Author.Needs.{needs}
 use Rattle.want.proofs.block.block_size.Statement.{statement}
 use Rattle.want.proofs.block.block_size.Tie as tie
 

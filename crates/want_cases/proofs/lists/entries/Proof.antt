@@ -1,7 +1,5 @@
 -- `want_cases::lists::entries` is safe and ends.
 use Prim.Native.Nat.{_-_}
-use mathlib.Core.Path.{_≡_}
-use Prim.Native.Nat.{_≤_}
 use borrow.Author.Needs.{needs}
 use Rattle.want_cases.proofs.lists.entries.Statement.{statement}
 use Rattle.want_cases.proofs.lists.entries.Tie as tie

@@ -1,8 +1,6 @@
 -- `xdr::text::followed` meets its contract: a follower at a time.
 use Prim.Native.Nat.{ℕ, _+_, _-_}
-use mathlib.Core.List.{List}
 use mathlib.Core.Path.{_≡_, sym, ap, _∙_}
-use mathlib.Core.Bool.{true}
 use native.Mathlib.Omega.{arith}
 use borrow.Author.Tests.{not-true, not-false}
 use lib.ListN.{drop}
