@@ -31,26 +31,8 @@ repository c =
     ∙ ap isEqual (c .before .compare-bytes .ensures
     ∙ ap (λ (l : List ℕ). compareLists l (now (c .before .before .before .before .before .before .before .before .before .before .before .before .before .before .args .repository))) (c .before .before .part .ensures ∙ repository-part (λ i. c .before .before .before .before .before .before .before .before .before .before .before .before .shared-slice-known2 .given i .fits) (list (c .before .before .before))))
 
-is-good-requires : tie.Need-is-good-requires
-is-good-requires c κs = search needs
-
-refused-requires : tie.Need-refused-requires
-refused-requires c κs = search needs
-
 returns : tie.Need-returns
 returns c = let a = c .before .before .before .before .before .before .before .args in fills-refused (now (a .out)) (old-bad (now (a .old)) (now (a .message)) (now (a .repository)) (sym (c .before .before .is-good .ensures) ∙ not-true _ (c .before .if1 .taken))) (c .refused .ensures)
-
-read-index-requires : tie.Need-read-index-requires
-read-index-requires c κs = search needs
-
-enum-known-found : tie.Need-enum-known-found
-enum-known-found c = search needs
-
-enum-told : tie.Need-enum-told
-enum-told c = search needs
-
-refusal-requires : tie.Need-refusal-requires
-refusal-requires c κs = search needs
 
 returns-2 : tie.Need-returns-2
 returns-2 c = let a = c .before .before .before .before .before .before .before .before .before .before .args in fills-refused (now (a .out)) (message-refused (now (a .old)) (now (a .message)) (now (a .repository)) (good (c .before .before .before .before)) (c .before .before .before .read-index .ensures) (c .before .enum-told .given .1) (c .refusal .ensures)) refl
@@ -58,26 +40,11 @@ returns-2 c = let a = c .before .before .before .before .before .before .before 
 add-stop : tie.Need-add-stop
 add-stop c = omega (arith, c .before .before .before .before .before .before .before .before .before .before .before .good, repository-fits (λ i. c .before .before .before .before .before .before .before .before .before .shared-slice-known2 .given i .fits) (list c))
 
-part-requires : tie.Need-part-requires
-part-requires c κs = search needs
-
-compare-bytes-requires : tie.Need-compare-bytes-requires
-compare-bytes-requires c κs = search needs
-
-is-equal-requires : tie.Need-is-equal-requires
-is-equal-requires c κs = search needs
-
-refused-requires-2 : tie.Need-refused-requires-2
-refused-requires-2 c κs = search needs
-
 returns-3 : tie.Need-returns-3
 returns-3 c =
     let a = c .before .before .before .before .before .before .before .before .before .before .before .before .before .before .before .before .args in
     fills-refused (now (a .out))
     (another-repository (λ i. c .before .before .before .before .before .before .before .before .before .before .before .before .before .before .shared-slice-known2 .given i .fits) (list (c .before .before .before .before .before)) (now (a .old)) (now (a .repository)) (good (c .before .before .before .before .before .before .before .before .before .before)) (sym (repository (c .before .before)) ∙ not-true _ (c .before .if2 .taken))) (c .refused2 .ensures)
-
-part-requires-2 : tie.Need-part-requires-2
-part-requires-2 c κs = search needs
 
 accept-list-requires : tie.Need-accept-list-requires
 accept-list-requires c κs =
@@ -87,9 +54,6 @@ accept-list-requires c κs =
       good (c .before .before .before .before .before .before .before .before .before .before .before),
       omega (arith, c .before .before .before .before .before .before .before .before .before .before .before .before .before .before .before .before .before .good, files-fit (λ i. c .before .before .before .before .before .before .before .before .before .before .before .before .before .before .before .shared-slice-known2 .given i .fits) l, ap length files),
     )
-
-same-length : tie.Need-same-length
-same-length c = search needs
 
 returns-4 : tie.Need-returns-4
 returns-4 c =
@@ -104,21 +68,21 @@ pub accept-spec : {M : Type 1} → statement M
 accept-spec =
     tie.close
     (tie.spec
-    is-good-requires
-    refused-requires
+    (λ c κs. search needs)
+    (λ c κs. search needs)
     returns
-    read-index-requires
-    enum-known-found
-    enum-told
-    refusal-requires
+    (λ c κs. search needs)
+    (λ c. search needs)
+    (λ c. search needs)
+    (λ c κs. search needs)
     returns-2
     add-stop
-    part-requires
-    compare-bytes-requires
-    is-equal-requires
-    refused-requires-2
+    (λ c κs. search needs)
+    (λ c κs. search needs)
+    (λ c κs. search needs)
+    (λ c κs. search needs)
     returns-3
-    part-requires-2
+    (λ c κs. search needs)
     accept-list-requires
-    same-length
+    (λ c. search needs)
     returns-4)

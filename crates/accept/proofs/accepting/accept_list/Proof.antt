@@ -20,26 +20,8 @@ repeated c = subst (SortedTo (now (c .before .before .before .before .before .be
 ordered : (c : tie.After-known-told2) → SortedTo (now (c .before .before .before .before .before .before .before .before .before .args .s)) (c .before .before .before .before .sort .last .1 .0) (Sorted (c .before .n .given .0 .0))
 ordered c = subst (SortedTo (now (c .before .before .before .before .before .before .before .before .before .args .s)) (c .before .before .before .before .sort .last .1 .0)) (c .before .n .given .1) (c .before .before .before .before .sort .ensures)
 
-slice-aggregate-sort : tie.Need-slice-aggregate-sort
-slice-aggregate-sort c = search needs
-
-sort-requires : tie.Need-sort-requires
-sort-requires c κs = search needs
-
-enum-known-at : tie.Need-enum-known-at
-enum-known-at c = search needs
-
 add-t13 : tie.Need-add-t13
 add-t13 c = omega (arith, repeated c .0, c .before .before .before .before .before .before .before .before .before .pre .2)
-
-enum-known-n : tie.Need-enum-known-n
-enum-known-n c = search needs
-
-sub-fill : tie.Need-sub-fill
-sub-fill c = search needs
-
-part-fill-start : tie.Need-part-fill-start
-part-fill-start c = search needs
 
 part-fill-end : tie.Need-part-fill-end
 part-fill-end c = omega (arith, ordered (c .before) .0)
@@ -54,9 +36,6 @@ returns c =
     let a = c .before .before .before .before .before .before .before .before .before .args in
     fills-refused (now (a .out)) (repeated c .1 (a .start) (resultingTable (resultOf (a .update) (now (a .s)) (now (a .old))))) refl
 
-same-length : tie.Need-same-length
-same-length c = search needs
-
 returns-2 : tie.Need-returns-2
 returns-2 c =
     let a = c .before .before .before .before .before .before .before .before .before .before .before .before .before .before .before .args in
@@ -66,15 +45,15 @@ pub accept-list-spec : {M : Type 1} → statement M
 accept-list-spec =
     tie.close
     (tie.spec
-    slice-aggregate-sort
-    sort-requires
-    enum-known-at
+    (λ c. search needs)
+    (λ c κs. search needs)
+    (λ c. search needs)
     add-t13
-    enum-known-n
-    sub-fill
-    part-fill-start
+    (λ c. search needs)
+    (λ c. search needs)
+    (λ c. search needs)
     part-fill-end
     fill-requires
     returns
-    same-length
+    (λ c. search needs)
     returns-2)

@@ -39,26 +39,11 @@ counted c =
     let s = c .before .before .step .given .0 .0 in
     counted-step (c .before .before .before .before .before .before .loop .inv .1) (s .start) (s .end) (t .is) (t .sized)
 
-start-of-requires : tie.Need-start-of-requires Inv-loop μ-loop
-start-of-requires c κs = search needs
-
 loop-holds : tie.Need-loop-holds Inv-loop μ-loop
 loop-holds c =
     let z = c .before .before .before .before .before in
     let a = z .args in
     starting-noting (now (a .s)) (now (a .places)) (now (a .old)) (a .update) (z .pre .0) (λ i. c .before .before .shared-slice-known3 .given i .fits) (z .pre .1) (now (a .notes)) (z .pre .2) (c .start-of .ensures)
-
-place-of-requires : tie.Need-place-of-requires Inv-loop μ-loop
-place-of-requires c κs = search needs
-
-next-at-requires : tie.Need-next-at-requires Inv-loop μ-loop
-next-at-requires c κs = search needs
-
-enum-known-step : tie.Need-enum-known-step Inv-loop μ-loop
-enum-known-step c = search needs
-
-enum-told : tie.Need-enum-told Inv-loop μ-loop
-enum-told c = search needs
 
 same-length : tie.Need-same-length Inv-loop μ-loop
 same-length c = c .before .before .before .before .loop .inv .2 .long ∙ sym (c .before .before .before .before .before .before .before .before .before .before .pre .2)
@@ -84,16 +69,10 @@ add-count c =
     let a = z .args in
     omega (arith, counted c .counted, result-few (now (a .s)) (now (a .places)) (now (a .old)) (a .update) (z .pre .0) (λ i. c .before .before .before .before .before .before .before .before .before .shared-slice-known3 .given i .fits) (z .pre .1))
 
-note-requires : tie.Need-note-requires Inv-loop μ-loop
-note-requires c κs = search needs
-
 add-noted : tie.Need-add-noted Inv-loop μ-loop
 add-noted c =
     let n = c .before .before .note .ensures in
     omega (arith, noting-within (c .before .before .before .before .before .before .before .before .before .before .loop .inv .2) (c .before .before .before .before .before .before .step .given .0 .0) (n .0) (n .1))
-
-taken-by-requires : tie.Need-taken-by-requires Inv-loop μ-loop
-taken-by-requires c κs = search needs
 
 add-i : tie.Need-add-i Inv-loop μ-loop
 add-i c = let t = taken (c .before .before .before .before .before) in omega (arith, c .before .before .before .before .before .before .before .before .before .before .before .before .before .before .before .before .before .good, c .taken-by .ensures, t .inside)
@@ -114,20 +93,20 @@ note-records-spec =
     (tie.spec
     Inv-loop
     μ-loop
-    start-of-requires
+    (λ c κs. search needs)
     loop-holds
-    place-of-requires
-    next-at-requires
-    enum-known-step
-    enum-told
+    (λ c κs. search needs)
+    (λ c κs. search needs)
+    (λ c. search needs)
+    (λ c. search needs)
     same-length
     returns
     sub-bytes
     add-bytes
     add-count
-    note-requires
+    (λ c κs. search needs)
     add-noted
-    taken-by-requires
+    (λ c κs. search needs)
     add-i
     loop-less
     loop-again)

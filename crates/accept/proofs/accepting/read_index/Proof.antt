@@ -5,14 +5,8 @@ use borrow.Author.Needs.{needs}
 use Rattle.accept.proofs.accepting.read_index.Statement.{statement}
 use Rattle.accept.proofs.accepting.read_index.Tie as tie
 
-read-requires : tie.Need-read-requires
-read-requires c κs = search needs
-
-index-in-requires : tie.Need-index-in-requires
-index-in-requires c κs = search needs
-
 returns : tie.Need-returns
 returns c = c .index-in .ensures ∙ ap indexIn (c .before .read .ensures)
 
 pub read-index-spec : {M : Type 1} → statement M
-read-index-spec = tie.close (tie.spec read-requires index-in-requires returns)
+read-index-spec = tie.close (tie.spec (λ c κs. search needs) (λ c κs. search needs) returns)

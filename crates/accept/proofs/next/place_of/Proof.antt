@@ -10,14 +10,8 @@ use Rattle.accept.proofs.next.place_of.Tie as tie
 returns : tie.Need-returns
 returns c = rw (le-ltb (c .before .args .i) (length (now (c .before .args .places))) (c .if1 .taken)) refl
 
-mul-result : tie.Need-mul-result
-mul-result c = search needs
-
-shared-slice-read-result : tie.Need-shared-slice-read-result
-shared-slice-read-result c = search needs
-
 returns-2 : tie.Need-returns-2
 returns-2 c = rw (lt-ltb (c .before .before .args .i) (length (now (c .before .before .args .places))) (c .before .if1 .left)) refl
 
 pub place-of-spec : {M : Type 1} → statement M
-place-of-spec = tie.close (tie.spec returns mul-result shared-slice-read-result returns-2)
+place-of-spec = tie.close (tie.spec returns (λ c. search needs) (λ c. search needs) returns-2)

@@ -5,12 +5,6 @@ use borrow.Author.Needs.{needs}
 use Rattle.bep.proofs.filling.give.Statement.{statement}
 use Rattle.bep.proofs.filling.give.Tie as tie
 
-enum-known-f : tie.Need-enum-known-f
-enum-known-f c = search needs
-
-enum-known-f-2 : tie.Need-enum-known-f-2
-enum-known-f-2 c = search needs
-
 returns : tie.Need-returns
 returns c = let e = sym (c .before .before .f .given .1) in (ap fillingNumber e, ap fillingWords e)
 
@@ -18,4 +12,4 @@ returns-2 : tie.Need-returns-2
 returns-2 c = let e = sym (c .before .before .f2 .given .1) in (ap fillingNumber e, ap fillingWords e)
 
 pub give-spec : {M : Type 1} → statement M
-give-spec = tie.close (tie.spec enum-known-f enum-known-f-2 returns returns-2)
+give-spec = tie.close (tie.spec (λ c. search needs) (λ c. search needs) returns returns-2)

@@ -26,15 +26,6 @@ name-first s at f e =
     let g = fieldsFrom s (at + 4) (at + 4 + wordAt s at) (at + 4 + padded (wordAt s at)) in
     rw (same-fields (leb (g .past) (length s)) f g e) (omega arith)
 
-outline-at-requires : tie.Need-outline-at-requires
-outline-at-requires c κs = search needs
-
-enum-known-outline : tie.Need-enum-known-outline
-enum-known-outline c = search needs
-
-enum-told : tie.Need-enum-told
-enum-told c = search needs
-
 returns : tie.Need-returns
 returns c = let e = sym (c .before .enum-told .given .1) ∙ c .before .before .before .outline-at .ensures in (ap fileNumber e, ap fileWords e)
 
@@ -48,9 +39,9 @@ pub bep-file-spec : {M : Type 1} → statement M
 bep-file-spec =
     tie.close
     (tie.spec
-    outline-at-requires
-    enum-known-outline
-    enum-told
+    (λ c κs. search needs)
+    (λ c. search needs)
+    (λ c. search needs)
     returns
     field-words-requires
     returns-2)

@@ -6,18 +6,6 @@ use borrow.Author.Needs.{needs}
 use Rattle.bep.proofs.outstanding.bep_queue_drop.Statement.{statement}
 use Rattle.bep.proofs.outstanding.bep_queue_drop.Tie as tie
 
-unpacked-requires : tie.Need-unpacked-requires
-unpacked-requires c κs = search needs
-
-drop-link-requires : tie.Need-drop-link-requires
-drop-link-requires c κs = search needs
-
-packed-requires : tie.Need-packed-requires
-packed-requires c κs = search needs
-
-verdict-number-requires : tie.Need-verdict-number-requires
-verdict-number-requires c κs = search needs
-
 returns : tie.Need-returns
 returns c =
     becomes
@@ -28,4 +16,4 @@ returns c =
 pub bep-queue-drop-spec : {M : Type 1} → statement M
 bep-queue-drop-spec =
     tie.close
-    (tie.spec unpacked-requires drop-link-requires packed-requires verdict-number-requires returns)
+    (tie.spec (λ c κs. search needs) (λ c κs. search needs) (λ c κs. search needs) (λ c κs. search needs) returns)

@@ -6,21 +6,6 @@ use borrow.Author.Needs.{needs}
 use Rattle.bep.proofs.outstanding.bep_queue_issue.Statement.{statement}
 use Rattle.bep.proofs.outstanding.bep_queue_issue.Tie as tie
 
-unpacked-requires : tie.Need-unpacked-requires
-unpacked-requires c κs = search needs
-
-issue-requires : tie.Need-issue-requires
-issue-requires c κs = search needs
-
-packed-requires : tie.Need-packed-requires
-packed-requires c κs = search needs
-
-give-issued-requires : tie.Need-give-issued-requires
-give-issued-requires c κs = search needs
-
-same-length : tie.Need-same-length
-same-length c = search needs
-
 returns : tie.Need-returns
 returns c = let a = c .before .before .before .before .before .before .before .before .before .before .before .before .before .before .args in issues (c .before .before .before .before .before .before .before .before .unpacked .ensures) (requestBytes (now (a .repository)) (now (a .name)) (a .offset) (a .size) (now (a .hash))) (c .before .before .before .before .before .before .issue .ensures) (c .before .before .packed .ensures) (c .give-issued .ensures)
 
@@ -28,9 +13,9 @@ pub bep-queue-issue-spec : {M : Type 1} → statement M
 bep-queue-issue-spec =
     tie.close
     (tie.spec
-    unpacked-requires
-    issue-requires
-    packed-requires
-    give-issued-requires
-    same-length
+    (λ c κs. search needs)
+    (λ c κs. search needs)
+    (λ c κs. search needs)
+    (λ c κs. search needs)
+    (λ c. search needs)
     returns)

@@ -5,18 +5,6 @@ use borrow.Author.Needs.{needs}
 use Rattle.bep.proofs.ruling.give_serving.Statement.{statement}
 use Rattle.bep.proofs.ruling.give_serving.Tie as tie
 
-enum-known-s : tie.Need-enum-known-s
-enum-known-s c = search needs
-
-cast-t10 : tie.Need-cast-t10
-cast-t10 c = search needs
-
-enum-known-s-2 : tie.Need-enum-known-s-2
-enum-known-s-2 c = search needs
-
-give-reply-requires : tie.Need-give-reply-requires
-give-reply-requires c κs = search needs
-
 returns : tie.Need-returns
 returns c = let e = sym (c .before .before .s .given .1) in (ap servingNumber e, ap servingWords e)
 
@@ -25,4 +13,4 @@ returns-2 c = let e = sym (c .before .before .before .s2 .given .1) in let g = c
 
 pub give-serving-spec : {M : Type 1} → statement M
 give-serving-spec =
-    tie.close (tie.spec enum-known-s cast-t10 enum-known-s-2 give-reply-requires returns returns-2)
+    tie.close (tie.spec (λ c. search needs) (λ c. search needs) (λ c. search needs) (λ c κs. search needs) returns returns-2)

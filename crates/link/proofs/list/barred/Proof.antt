@@ -4,20 +4,8 @@ use borrow.Author.Needs.{needs}
 use Rattle.link.proofs.list.barred.Statement.{statement}
 use Rattle.link.proofs.list.barred.Tie as tie
 
-enum-told : tie.Need-enum-told
-enum-told c = search needs
-
-enum-told-2 : tie.Need-enum-told-2
-enum-told-2 c = search needs
-
-returns : tie.Need-returns
-returns c = search needs
-
-refused-requires : tie.Need-refused-requires
-refused-requires c κs = search needs
-
 returns-2 : tie.Need-returns-2
 returns-2 c = c .refused .ensures ∙ simp (c .before .enum-told .given .1)
 
 pub barred-spec : {M : Type 1} → statement M
-barred-spec = tie.close (tie.spec enum-told enum-told-2 returns refused-requires returns-2)
+barred-spec = tie.close (tie.spec (λ c. search needs) (λ c. search needs) (λ c. search needs) (λ c κs. search needs) returns-2)

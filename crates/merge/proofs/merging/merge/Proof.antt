@@ -18,22 +18,10 @@ first-good c = sym (c .before .is-good .ensures) ∙ not-false _ (c .if1 .left)
 second-good : (c : tie.Else2) → isGood (now (c .before .before .before .before .before .before .before .args .b)) ≡ true
 second-good c = sym (c .before .is-good2 .ensures) ∙ not-false _ (c .if2 .left)
 
-is-good-requires : tie.Need-is-good-requires
-is-good-requires c κs = search needs
-
-refused-requires : tie.Need-refused-requires
-refused-requires c κs = search needs
-
 returns : tie.Need-returns
 returns c =
     let s = c .before .before .before .before .before .before .args in
     fills-refused (now (s .out)) (first-bad (now (s .a)) (now (s .b)) (sym (c .before .before .is-good .ensures) ∙ not-true _ (c .before .if1 .taken))) (c .refused .ensures)
-
-is-good-requires-2 : tie.Need-is-good-requires-2
-is-good-requires-2 c κs = search needs
-
-refused-requires-2 : tie.Need-refused-requires-2
-refused-requires-2 c κs = search needs
 
 returns-2 : tie.Need-returns-2
 returns-2 c =
@@ -42,26 +30,8 @@ returns-2 c =
     fills-refused (now (s .out))
     (second-bad (now (s .a)) (now (s .b)) (first-good g) (sym (c .before .before .is-good2 .ensures) ∙ not-true _ (c .before .if2 .taken))) (c .refused2 .ensures)
 
-slice-aggregate-note-records : tie.Need-slice-aggregate-note-records
-slice-aggregate-note-records c = search needs
-
 note-records-requires : tie.Need-note-records-requires
 note-records-requires c κs = (first-good (c .before .before .before), second-good (c .before), search needs)
-
-sub-put-table : tie.Need-sub-put-table
-sub-put-table c = search needs
-
-part-put-table-start : tie.Need-part-put-table-start
-part-put-table-start c = search needs
-
-part-put-table-end : tie.Need-part-put-table-end
-part-put-table-end c = search needs
-
-put-table-requires : tie.Need-put-table-requires
-put-table-requires c κs = search needs
-
-same-length : tie.Need-same-length
-same-length c = search needs
 
 returns-3 : tie.Need-returns-3
 returns-3 c =
@@ -75,17 +45,17 @@ pub merge-spec : {M : Type 1} → statement M
 merge-spec =
     tie.close
     (tie.spec
-    is-good-requires
-    refused-requires
+    (λ c κs. search needs)
+    (λ c κs. search needs)
     returns
-    is-good-requires-2
-    refused-requires-2
+    (λ c κs. search needs)
+    (λ c κs. search needs)
     returns-2
-    slice-aggregate-note-records
+    (λ c. search needs)
     note-records-requires
-    sub-put-table
-    part-put-table-start
-    part-put-table-end
-    put-table-requires
-    same-length
+    (λ c. search needs)
+    (λ c. search needs)
+    (λ c. search needs)
+    (λ c κs. search needs)
+    (λ c. search needs)
     returns-3)

@@ -7,18 +7,6 @@ use borrow.Author.Needs.{needs}
 use Rattle.message.proofs.kind.index_in.Statement.{statement}
 use Rattle.message.proofs.kind.index_in.Tie as tie
 
-enum-known-m : tie.Need-enum-known-m
-enum-known-m c = search needs
-
-enum-known-m-2 : tie.Need-enum-known-m-2
-enum-known-m-2 c = search needs
-
-enum-known-m-3 : tie.Need-enum-known-m-3
-enum-known-m-3 c = search needs
-
-at-start-requires : tie.Need-at-start-requires
-at-start-requires c κs = search needs
-
 returns : tie.Need-returns
 returns c = ap indexIn (sym (c .before .m .given .1))
 
@@ -32,4 +20,4 @@ returns-4 : tie.Need-returns-4
 returns-4 c = ap E.Refused (c .at-start .ensures) ∙ not-index (c .before .before .args .m) (c .before .match .keys4)
 
 pub index-in-spec : {M : Type 1} → statement M
-index-in-spec = tie.close (tie.spec enum-known-m enum-known-m-2 enum-known-m-3 at-start-requires returns returns-2 returns-3 returns-4)
+index-in-spec = tie.close (tie.spec (λ c. search needs) (λ c. search needs) (λ c. search needs) (λ c κs. search needs) returns returns-2 returns-3 returns-4)

@@ -7,15 +7,6 @@ use borrow.Author.Needs.{needs}
 use Rattle.message.proofs.kind.response_in.Statement.{statement}
 use Rattle.message.proofs.kind.response_in.Tie as tie
 
-enum-known-m : tie.Need-enum-known-m
-enum-known-m c = search needs
-
-enum-known-m-2 : tie.Need-enum-known-m-2
-enum-known-m-2 c = search needs
-
-at-start-requires : tie.Need-at-start-requires
-at-start-requires c κs = search needs
-
 returns : tie.Need-returns
 returns c = ap responseIn (sym (c .before .m .given .1))
 
@@ -26,4 +17,4 @@ returns-3 : tie.Need-returns-3
 returns-3 c = ap E.Refused (c .at-start .ensures) ∙ not-response (c .before .before .args .m) (c .before .match .keys3)
 
 pub response-in-spec : {M : Type 1} → statement M
-response-in-spec = tie.close (tie.spec enum-known-m enum-known-m-2 at-start-requires returns returns-2 returns-3)
+response-in-spec = tie.close (tie.spec (λ c. search needs) (λ c. search needs) (λ c κs. search needs) returns returns-2 returns-3)

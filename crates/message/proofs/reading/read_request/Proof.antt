@@ -66,33 +66,9 @@ same-span : {id r x a b n y o l p q h z e : ℕ} → x ≡ r → a ≡ b → y �
     ≡ M.Request id (record { repository = span 8 x; name = span b y; offset = o; size = l; hash = span q z; end = e })
 same-span u v w t i = rw (u, v, w, t, i) refl
 
-read-text-requires : tie.Need-read-text-requires
-read-text-requires c κs = search needs
-
-enum-known-repository : tie.Need-enum-known-repository
-enum-known-repository c = search needs
-
-enum-told : tie.Need-enum-told
-enum-told c = search needs
-
-refusal-requires : tie.Need-refusal-requires
-refusal-requires c κs = search needs
-
 returns : tie.Need-returns
 returns c = answered (bodyAnswer isRequest (c .before .before .before .before .before .args .id)) (via-refused (first-refused
     (bytes-refused (c .before .before .before .read-text .ensures) (c .before .enum-told .given .1) (c .refusal .ensures))))
-
-read-name-requires : tie.Need-read-name-requires
-read-name-requires c κs = search needs
-
-enum-known-name : tie.Need-enum-known-name
-enum-known-name c = search needs
-
-enum-told-2 : tie.Need-enum-told-2
-enum-told-2 c = search needs
-
-refusal-requires-2 : tie.Need-refusal-requires-2
-refusal-requires-2 c κs = search needs
 
 returns-2 : tie.Need-returns-2
 returns-2 c =
@@ -100,53 +76,17 @@ returns-2 c =
     answered (bodyAnswer isRequest (c .before .before .before .before .before .before .before .before .before .args .id)) (via-refused (both-read (repository-read k .1) (first-refused
     (bytes-refused (c .before .before .before .read-name .ensures) (c .before .enum-told2 .given .1) (c .refusal2 .ensures)))))
 
-read-hyper-requires : tie.Need-read-hyper-requires
-read-hyper-requires c κs = search needs
-
-enum-known-offset : tie.Need-enum-known-offset
-enum-known-offset c = search needs
-
-enum-told-3 : tie.Need-enum-told-3
-enum-told-3 c = search needs
-
-refusal-requires-3 : tie.Need-refusal-requires-3
-refusal-requires-3 c κs = search needs
-
 returns-3 : tie.Need-returns-3
 returns-3 c =
     let k = c .before .before .before .before in
     answered (bodyAnswer isRequest (c .before .before .before .before .before .before .before .before .before .before .before .before .before .args .id)) (via-refused (both-read (repository-read (to-repository k) .1) (both-read (name-read k .1) (first-refused
     (hyper-refused (c .before .before .before .read-hyper .ensures) (c .before .enum-told3 .given .1) (c .refusal3 .ensures))))))
 
-read-size-requires : tie.Need-read-size-requires
-read-size-requires c κs = search needs
-
-enum-known-length : tie.Need-enum-known-length
-enum-known-length c = search needs
-
-enum-told-4 : tie.Need-enum-told-4
-enum-told-4 c = search needs
-
-refusal-requires-4 : tie.Need-refusal-requires-4
-refusal-requires-4 c κs = search needs
-
 returns-4 : tie.Need-returns-4
 returns-4 c =
     let k = c .before .before .before .before in
     answered (bodyAnswer isRequest (c .before .before .before .before .before .before .before .before .before .before .before .before .before .before .before .before .before .args .id)) (via-refused (both-read (repository-read (to-repository (to-name k)) .1) (both-read (name-read (to-name k) .1) (both-read (offset-read k) (first-refused
     (word-refused (c .before .before .before .read-size .ensures) (c .before .enum-told4 .given .1) (c .refusal4 .ensures)))))))
-
-read-hash-requires : tie.Need-read-hash-requires
-read-hash-requires c κs = search needs
-
-enum-known-hash : tie.Need-enum-known-hash
-enum-known-hash c = search needs
-
-enum-told-5 : tie.Need-enum-told-5
-enum-told-5 c = search needs
-
-refusal-requires-5 : tie.Need-refusal-requires-5
-refusal-requires-5 c κs = search needs
 
 returns-5 : tie.Need-returns-5
 returns-5 c =
@@ -176,30 +116,30 @@ pub read-request-spec : {M : Type 1} → statement M
 read-request-spec =
     tie.close
     (tie.spec
-    read-text-requires
-    enum-known-repository
-    enum-told
-    refusal-requires
+    (λ c κs. search needs)
+    (λ c. search needs)
+    (λ c. search needs)
+    (λ c κs. search needs)
     returns
-    read-name-requires
-    enum-known-name
-    enum-told-2
-    refusal-requires-2
+    (λ c κs. search needs)
+    (λ c. search needs)
+    (λ c. search needs)
+    (λ c κs. search needs)
     returns-2
-    read-hyper-requires
-    enum-known-offset
-    enum-told-3
-    refusal-requires-3
+    (λ c κs. search needs)
+    (λ c. search needs)
+    (λ c. search needs)
+    (λ c κs. search needs)
     returns-3
-    read-size-requires
-    enum-known-length
-    enum-told-4
-    refusal-requires-4
+    (λ c κs. search needs)
+    (λ c. search needs)
+    (λ c. search needs)
+    (λ c κs. search needs)
     returns-4
-    read-hash-requires
-    enum-known-hash
-    enum-told-5
-    refusal-requires-5
+    (λ c κs. search needs)
+    (λ c. search needs)
+    (λ c. search needs)
+    (λ c κs. search needs)
     returns-5
     add-t25
     add-t27

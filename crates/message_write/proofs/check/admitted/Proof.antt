@@ -5,23 +5,11 @@ use borrow.Author.Tests.{le-leb, lt-leb}
 use Rattle.message_write.proofs.check.admitted.Statement.{statement}
 use Rattle.message_write.proofs.check.admitted.Tie as tie
 
-refused-requires : tie.Need-refused-requires
-refused-requires c κs = search needs
-
 returns : tie.Need-returns
 returns c = c .refused .ensures ∙ simp (lt-leb (c .before .before .args .id) 4095 (c .before .if1 .taken))
 
-enum-known-checked : tie.Need-enum-known-checked
-enum-known-checked c = search needs
-
-enum-told : tie.Need-enum-told
-enum-told c = search needs
-
 returns-2 : tie.Need-returns-2
 returns-2 c = simp (le-leb (c .before .before .before .args .id) 4095 (c .before .before .if1 .left), c .enum-told .given .1)
-
-refused-requires-2 : tie.Need-refused-requires-2
-refused-requires-2 c κs = search needs
 
 returns-3 : tie.Need-returns-3
 returns-3 c = c .refused2 .ensures ∙ simp (le-leb (c .before .before .before .before .before .before .args .id) 4095 (c .before .before .before .before .before .if1 .left), c .before .before .before .checked .given .1, lt-leb (c .before .before .before .checked .given .0 .0) (c .before .before .before .before .before .before .args .room) (c .before .if2 .taken))
@@ -33,11 +21,11 @@ pub admitted-spec : {M : Type 1} → statement M
 admitted-spec =
     tie.close
     (tie.spec
-    refused-requires
+    (λ c κs. search needs)
     returns
-    enum-known-checked
-    enum-told
+    (λ c. search needs)
+    (λ c. search needs)
     returns-2
-    refused-requires-2
+    (λ c κs. search needs)
     returns-3
     returns-4)

@@ -49,36 +49,12 @@ files-there c h =
     let l = now (a .repository) in
     last-at (behind (encode (bytes word) l)) (now (a .files)) refl (behind-string l _ (repository-size c .0)) h
 
-check-text-requires : tie.Need-check-text-requires
-check-text-requires c κs = search needs
-
-enum-known-text : tie.Need-enum-known-text
-enum-known-text c = search needs
-
-enum-told : tie.Need-enum-told
-enum-told c = search needs
-
-refusal-requires : tie.Need-refusal-requires
-refusal-requires c κs = search needs
-
 refused-at-requires : tie.Need-refused-at-requires
 refused-at-requires c κs =
     let w = string-refused (now (c .before .before .before .before .before .before .args .repository)) (repository-refused c) in omega (arith, c .before .before .before .before .before .before .good .0 .1)
 
 returns : tie.Need-returns
 returns c = c .refused-at .ensures ∙ checks (first-refused (repository-there (now (c .before .before .before .before .before .before .before .args .repository)) (now (c .before .before .before .before .before .before .before .args .files)) (repository-refused (c .before))))
-
-read-files-requires : tie.Need-read-files-requires
-read-files-requires c κs = search needs
-
-enum-known-array : tie.Need-enum-known-array
-enum-known-array c = search needs
-
-enum-told-2 : tie.Need-enum-told-2
-enum-told-2 c = search needs
-
-refusal-requires-2 : tie.Need-refusal-requires-2
-refusal-requires-2 c κs = search needs
 
 add-refused-at : tie.Need-add-refused-at
 add-refused-at c =
@@ -110,16 +86,16 @@ pub check-index-spec : {M : Type 1} → statement M
 check-index-spec =
     tie.close
     (tie.spec
-    check-text-requires
-    enum-known-text
-    enum-told
-    refusal-requires
+    (λ c κs. search needs)
+    (λ c. search needs)
+    (λ c. search needs)
+    (λ c κs. search needs)
     refused-at-requires
     returns
-    read-files-requires
-    enum-known-array
-    enum-told-2
-    refusal-requires-2
+    (λ c κs. search needs)
+    (λ c. search needs)
+    (λ c. search needs)
+    (λ c κs. search needs)
     add-refused-at
     refused-at-requires-2
     returns-2

@@ -22,18 +22,6 @@ options-read : (c : tie.After-known-told)
     → (l : List KeyValue) × Reads (options optionsLimit) (now (c .before .before .before .before .before .args .options)) 0 (taken l (c .before .array .given .0 .1 .0)) × (length l ≡ c .before .array .given .0 .0)
 options-read c = array-taken (c .before .before .before .read-options .ensures) (c .before .array .given .1)
 
-read-options-requires : tie.Need-read-options-requires
-read-options-requires c κs = search needs
-
-enum-known-array : tie.Need-enum-known-array
-enum-known-array c = search needs
-
-enum-told : tie.Need-enum-told
-enum-told c = search needs
-
-refusal-requires : tie.Need-refusal-requires
-refusal-requires c κs = search needs
-
 refused-at-requires : tie.Need-refused-at-requires
 refused-at-requires c κs =
     let w = refused-within (omega arith) (options-refused c) in omega (arith, c .before .before .before .before .before .good .0 .1)
@@ -52,10 +40,10 @@ pub check-options-spec : {M : Type 1} → statement M
 check-options-spec =
     tie.close
     (tie.spec
-    read-options-requires
-    enum-known-array
-    enum-told
-    refusal-requires
+    (λ c κs. search needs)
+    (λ c. search needs)
+    (λ c. search needs)
+    (λ c κs. search needs)
     refused-at-requires
     returns
     add-t5

@@ -114,18 +114,6 @@ hash-there c o h =
     last-at ((to-offset c ++ encode hyper o) ++ l) (the-hash c) (whole-is c o ∙ sym (append-assoc (to-offset c ++ encode hyper o) l (the-hash c)))
     (length-append (to-offset c ++ encode hyper o) l ∙ omega (arith, long-length c o, number-size 4 (c .before .before .before .before .before .before .before .before .before .before .before .args .length))) h
 
-check-text-requires : tie.Need-check-text-requires
-check-text-requires c κs = search needs
-
-enum-known-first : tie.Need-enum-known-first
-enum-known-first c = search needs
-
-enum-told : tie.Need-enum-told
-enum-told c = search needs
-
-refusal-requires : tie.Need-refusal-requires
-refusal-requires c κs = search needs
-
 refused-at-requires : tie.Need-refused-at-requires
 refused-at-requires c κs =
     let w = string-refused (now (c .before .before .before .before .before .before .before .args .repository)) (repository-refused c) in omega (arith, c .before .before .before .before .before .before .before .good .0 .1)
@@ -138,18 +126,6 @@ returns c = λ o.
 add-name-at : tie.Need-add-name-at
 add-name-at c =
     let w = repository-size c in omega arith
-
-check-name-requires : tie.Need-check-name-requires
-check-name-requires c κs = search needs
-
-enum-known-second : tie.Need-enum-known-second
-enum-known-second c = search needs
-
-enum-told-2 : tie.Need-enum-told-2
-enum-told-2 c = search needs
-
-refusal-requires-2 : tie.Need-refusal-requires-2
-refusal-requires-2 c κs = search needs
 
 refused-at-requires-2 : tie.Need-refused-at-requires-2
 refused-at-requires-2 c κs =
@@ -169,9 +145,6 @@ add-size-at-2 : tie.Need-add-size-at-2
 add-size-at-2 c =
     let w = repository-size (c .before .before .before .before) in let v = name-size c in omega arith
 
-is-size-requires : tie.Need-is-size-requires
-is-size-requires c κs = search needs
-
 returns-3 : tie.Need-returns-3
 returns-3 c = λ o.
     let a = c .before .before .before .before .before .before .before .before .before .before .before .before .before .args in
@@ -182,18 +155,6 @@ returns-3 c = λ o.
 add-hash-at : tie.Need-add-hash-at
 add-hash-at c =
     let w = repository-size (c .before .before .before .before .before .before) in let v = name-size (c .before .before) in omega arith
-
-check-hash-requires : tie.Need-check-hash-requires
-check-hash-requires c κs = search needs
-
-enum-known-third : tie.Need-enum-known-third
-enum-known-third c = search needs
-
-enum-told-3 : tie.Need-enum-told-3
-enum-told-3 c = search needs
-
-refusal-requires-3 : tie.Need-refusal-requires-3
-refusal-requires-3 c κs = search needs
 
 refused-at-requires-3 : tie.Need-refused-at-requires-3
 refused-at-requires-3 c κs =
@@ -221,28 +182,28 @@ pub check-request-spec : {M : Type 1} → statement M
 check-request-spec =
     tie.close
     (tie.spec
-    check-text-requires
-    enum-known-first
-    enum-told
-    refusal-requires
+    (λ c κs. search needs)
+    (λ c. search needs)
+    (λ c. search needs)
+    (λ c κs. search needs)
     refused-at-requires
     returns
     add-name-at
-    check-name-requires
-    enum-known-second
-    enum-told-2
-    refusal-requires-2
+    (λ c κs. search needs)
+    (λ c. search needs)
+    (λ c. search needs)
+    (λ c κs. search needs)
     refused-at-requires-2
     returns-2
     add-size-at
     add-size-at-2
-    is-size-requires
+    (λ c κs. search needs)
     returns-3
     add-hash-at
-    check-hash-requires
-    enum-known-third
-    enum-told-3
-    refusal-requires-3
+    (λ c κs. search needs)
+    (λ c. search needs)
+    (λ c. search needs)
+    (λ c κs. search needs)
     refused-at-requires-3
     returns-4
     add-t16

@@ -24,18 +24,6 @@ data-read : (c : tie.After-known-told)
     → (l : List ℕ) × Reads (opaque dataLimit) (encode (bytes word) (now (c .before .before .before .before .before .args .«data»))) 0 (taken l (c .before .opaque .given .0 .1 .0)) × (length l ≡ c .before .opaque .given .0 .0)
 data-read c = bytes-taken (c .before .before .before .check-bytes .ensures) (c .before .opaque .given .1)
 
-check-bytes-requires : tie.Need-check-bytes-requires
-check-bytes-requires c κs = search needs
-
-enum-known-opaque : tie.Need-enum-known-opaque
-enum-known-opaque c = search needs
-
-enum-told : tie.Need-enum-told
-enum-told c = search needs
-
-refusal-requires : tie.Need-refusal-requires
-refusal-requires c κs = search needs
-
 refused-at-requires : tie.Need-refused-at-requires
 refused-at-requires c κs =
     let w = string-refused (now (c .before .before .before .before .before .args .«data»)) (data-refused c) in omega (arith, c .before .before .before .before .before .good .0 .1)
@@ -54,10 +42,10 @@ pub check-response-spec : {M : Type 1} → statement M
 check-response-spec =
     tie.close
     (tie.spec
-    check-bytes-requires
-    enum-known-opaque
-    enum-told
-    refusal-requires
+    (λ c κs. search needs)
+    (λ c. search needs)
+    (λ c. search needs)
+    (λ c κs. search needs)
     refused-at-requires
     returns
     add-t5

@@ -32,43 +32,13 @@ parts : (c : tie.After-known-told)
     (length (now (a .repository)) ≤ 64) × (8 + padded (length (now (a .repository))) ≤ n) × (n ≤ 8 + padded (length (now (a .repository))) + length (now (a .files)))
 parts c = index-parts (now (c .before .before .before .before .before .before .before .before .args .repository)) (now (c .before .before .before .before .before .before .before .before .args .files)) (passed c .reads)
 
-check-index-requires : tie.Need-check-index-requires
-check-index-requires c κs = search needs
-
-admitted-requires : tie.Need-admitted-requires
-admitted-requires c κs = search needs
-
-enum-known-answer : tie.Need-enum-known-answer
-enum-known-answer c = search needs
-
-enum-told : tie.Need-enum-told
-enum-told c = search needs
-
 returns : tie.Need-returns
 returns c =
     let a = c .before .before .before .before .before .before .before .args in
     not-admitted index (a .id) (a .kind) (indexBytes (now (a .repository)) (now (a .files))) (length (now (a .out))) (c .before .before .admitted .ensures) (c .before .before .before .check-index .ensures) (now (a .out)) refl (c .enum-told .given .1)
 
-add-used : tie.Need-add-used
-add-used c = search needs
-
-pad-after-requires : tie.Need-pad-after-requires
-pad-after-requires c κs = search needs
-
-add-used-2 : tie.Need-add-used-2
-add-used-2 c = search needs
-
 sub-used : tie.Need-sub-used
 sub-used c = let w = parts (c .before) in omega (arith, c .pad-after .ensures)
-
-header-of-requires : tie.Need-header-of-requires
-header-of-requires c κs = search needs
-
-sub-store-string : tie.Need-sub-store-string
-sub-store-string c = search needs
-
-part-store-string-start : tie.Need-part-store-string-start
-part-store-string-start c = search needs
 
 part-store-string-end : tie.Need-part-store-string-end
 part-store-string-end c = let w = parts (c .before .before .before) in omega (arith, c .before .before .pad-after .ensures)
@@ -82,9 +52,6 @@ store-string-requires c κs =
     let u : ℕ = k .before .answer .given .0 .0 - (8 + length (now (a .repository)) + c .before .before .before .pad-after .result) in
     let part = length-take-le (u - 0) (drop 0 (now (a .files))) (omega (arith, pad)) in
     (omega arith, omega (arith, part, pad, passed k .room))
-
-same-length : tie.Need-same-length
-same-length c = search needs
 
 returns-2 : tie.Need-returns-2
 returns-2 c =
@@ -108,19 +75,19 @@ pub put-index-spec : {M : Type 1} → statement M
 put-index-spec =
     tie.close
     (tie.spec
-    check-index-requires
-    admitted-requires
-    enum-known-answer
-    enum-told
+    (λ c κs. search needs)
+    (λ c κs. search needs)
+    (λ c. search needs)
+    (λ c. search needs)
     returns
-    add-used
-    pad-after-requires
-    add-used-2
+    (λ c. search needs)
+    (λ c κs. search needs)
+    (λ c. search needs)
     sub-used
-    header-of-requires
-    sub-store-string
-    part-store-string-start
+    (λ c κs. search needs)
+    (λ c. search needs)
+    (λ c. search needs)
     part-store-string-end
     store-string-requires
-    same-length
+    (λ c. search needs)
     returns-2)

@@ -25,26 +25,8 @@ checked = refl
 passed : (c : tie.After-enum-told) → let a = c .before .before .before .before .args in Passed nothing (a .id) [] (length (now (a .out))) (c .enum-told .given .0 .0)
 passed c = let a = c .before .before .before .before .args in admits nothing (a .id) (a .kind) [] (length (now (a .out))) (c .before .before .admitted .ensures) checked (c .enum-told .given .1)
 
-admitted-requires : tie.Need-admitted-requires
-admitted-requires c κs = search needs
-
-enum-told : tie.Need-enum-told
-enum-told c = search needs
-
-enum-told-2 : tie.Need-enum-told-2
-enum-told-2 c = search needs
-
 returns : tie.Need-returns
 returns c = let a = c .before .before .before .before .args in not-admitted nothing (a .id) (a .kind) [] (length (now (a .out))) (c .before .before .admitted .ensures) checked (now (a .out)) refl (c .enum-told2 .given .1)
-
-header-of-requires : tie.Need-header-of-requires
-header-of-requires c κs = search needs
-
-put-word-requires : tie.Need-put-word-requires
-put-word-requires c κs = search needs
-
-same-length : tie.Need-same-length
-same-length c = search needs
 
 returns-2 : tie.Need-returns-2
 returns-2 c =
@@ -63,11 +45,11 @@ pub put-nothing-spec : {M : Type 1} → statement M
 put-nothing-spec =
     tie.close
     (tie.spec
-    admitted-requires
-    enum-told
-    enum-told-2
+    (λ c κs. search needs)
+    (λ c. search needs)
+    (λ c. search needs)
     returns
-    header-of-requires
-    put-word-requires
-    same-length
+    (λ c κs. search needs)
+    (λ c κs. search needs)
+    (λ c. search needs)
     returns-2)

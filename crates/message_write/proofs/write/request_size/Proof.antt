@@ -15,17 +15,11 @@ use Rattle.message_write.proofs.write.request_size.Tie as tie
 abbrev body : tie.Start → ℕ → List ℕ
 body c o = let a = c .args in requestBytes (now (a .repository)) (now (a .name)) o (a .size) (now (a .hash))
 
-refused-requires : tie.Need-refused-requires
-refused-requires c κs = search needs
-
 returns : tie.Need-returns
 returns c = λ o. c .refused .ensures ∙ ap fillingAnswer (sym (id-refused message (c .before .before .before .before .before .args .id) 2 (body (c .before .before .before .before .before) o) (c .before .if1 .taken)))
-
-check-request-requires : tie.Need-check-request-requires
-check-request-requires c κs = search needs
 
 returns-2 : tie.Need-returns-2
 returns-2 c = λ o. c .check-request .ensures o ∙ id-passed (c .before .before .before .before .before .args .id) 2 (body (c .before .before .before .before .before) o) (c .before .if1 .left) (omega arith) (omega arith)
 
 pub request-size-spec : {M : Type 1} → statement M
-request-size-spec = tie.close (tie.spec refused-requires returns check-request-requires returns-2)
+request-size-spec = tie.close (tie.spec (λ c κs. search needs) returns (λ c κs. search needs) returns-2)

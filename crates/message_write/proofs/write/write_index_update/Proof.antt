@@ -8,14 +8,8 @@ use Rattle.message_write.proofs.WritingLaws.{by-body}
 use Rattle.message_write.proofs.write.write_index_update.Statement.{statement}
 use Rattle.message_write.proofs.write.write_index_update.Tie as tie
 
-put-index-requires : tie.Need-put-index-requires
-put-index-requires c κs = search needs
-
-same-length : tie.Need-same-length
-same-length c = search needs
-
 returns : tie.Need-returns
 returns c = let a = c .before .before .before .before .before .before .before .args in fills-same (now (a .out)) (by-body (a .id) 6 (indexBytes (now (a .repository)) (now (a .files))) (omega arith) (omega arith)) (c .before .before .put-index .ensures)
 
 pub write-index-update-spec : {M : Type 1} → statement M
-write-index-update-spec = tie.close (tie.spec put-index-requires same-length returns)
+write-index-update-spec = tie.close (tie.spec (λ c κs. search needs) (λ c. search needs) returns)

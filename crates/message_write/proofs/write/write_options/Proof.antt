@@ -27,18 +27,6 @@ passed c =
 parts : (c : tie.After-known-told) → (4 ≤ c .before .answer .given .0 .0) × (c .before .answer .given .0 .0 ≤ 4 + length (now (c .before .before .before .before .before .before .before .args .options)))
 parts c = options-parts (now (c .before .before .before .before .before .before .before .args .options)) (passed c .reads)
 
-check-options-requires : tie.Need-check-options-requires
-check-options-requires c κs = search needs
-
-admitted-requires : tie.Need-admitted-requires
-admitted-requires c κs = search needs
-
-enum-known-answer : tie.Need-enum-known-answer
-enum-known-answer c = search needs
-
-enum-told : tie.Need-enum-told
-enum-told c = search needs
-
 returns : tie.Need-returns
 returns c =
     let a = c .before .before .before .before .before .before .args in
@@ -47,15 +35,6 @@ returns c =
 
 sub-used : tie.Need-sub-used
 sub-used c = parts c .0
-
-header-of-requires : tie.Need-header-of-requires
-header-of-requires c κs = search needs
-
-sub-store-raw : tie.Need-sub-store-raw
-sub-store-raw c = search needs
-
-part-store-raw-start : tie.Need-part-store-raw-start
-part-store-raw-start c = search needs
 
 part-store-raw-end : tie.Need-part-store-raw-end
 part-store-raw-end c = let w = parts (c .before .before) in omega arith
@@ -66,9 +45,6 @@ store-raw-requires c κs =
     let w = parts k in
     let part = length-take-le (k .before .answer .given .0 .0 - 4 - 0) (drop 0 (now (c .before .before .before .before .before .before .before .before .before .before .args .options))) (omega arith) in
     omega (arith, part, passed k .room)
-
-same-length : tie.Need-same-length
-same-length c = search needs
 
 returns-2 : tie.Need-returns-2
 returns-2 c =
@@ -88,16 +64,16 @@ pub write-options-spec : {M : Type 1} → statement M
 write-options-spec =
     tie.close
     (tie.spec
-    check-options-requires
-    admitted-requires
-    enum-known-answer
-    enum-told
+    (λ c κs. search needs)
+    (λ c κs. search needs)
+    (λ c. search needs)
+    (λ c. search needs)
     returns
     sub-used
-    header-of-requires
-    sub-store-raw
-    part-store-raw-start
+    (λ c κs. search needs)
+    (λ c. search needs)
+    (λ c. search needs)
     part-store-raw-end
     store-raw-requires
-    same-length
+    (λ c. search needs)
     returns-2)

@@ -32,32 +32,14 @@ parts : (c : tie.After-enum-told)
     (length (now (a .repository)) ≤ 64) × (length (now (a .name)) ≤ 255) × (length (now (a .hash)) ≤ 32) × (c .enum-told .given .0 .0 ≡ 4 + length (body (c .before .before .before .before .before .before .before .before)))
 parts c = let a = c .before .before .before .before .before .before .before .before .args in request-parts (now (a .repository)) (now (a .name)) (a .offset) (a .size) (now (a .hash)) (passed c .reads)
 
-check-request-requires : tie.Need-check-request-requires
-check-request-requires c κs = search needs
-
-admitted-requires : tie.Need-admitted-requires
-admitted-requires c κs = search needs
-
-enum-told : tie.Need-enum-told
-enum-told c = search needs
-
-enum-told-2 : tie.Need-enum-told-2
-enum-told-2 c = search needs
-
 returns : tie.Need-returns
 returns c =
     let a = c .before .before .before .before .before .before .before .before .args in
     fills-same (now (a .out)) (by-body (a .id) 2 (body (c .before .before .before .before .before .before .before .before)) (omega arith) (omega arith))
     (not-admitted request (a .id) 2 (body (c .before .before .before .before .before .before .before .before)) (length (now (a .out))) (c .before .before .admitted .ensures) (c .before .before .before .check-request .ensures (a .offset)) (now (a .out)) refl (c .enum-told2 .given .1))
 
-header-of-requires : tie.Need-header-of-requires
-header-of-requires c κs = search needs
-
 store-request-requires : tie.Need-store-request-requires
 store-request-requires c κs = let w = parts (c .before .before) in ((w .0, w .1, w .2), omega (arith, w .3, passed (c .before .before) .room))
-
-same-length : tie.Need-same-length
-same-length c = search needs
 
 returns-2 : tie.Need-returns-2
 returns-2 c =
@@ -74,12 +56,12 @@ pub write-request-spec : {M : Type 1} → statement M
 write-request-spec =
     tie.close
     (tie.spec
-    check-request-requires
-    admitted-requires
-    enum-told
-    enum-told-2
+    (λ c κs. search needs)
+    (λ c κs. search needs)
+    (λ c. search needs)
+    (λ c. search needs)
     returns
-    header-of-requires
+    (λ c κs. search needs)
     store-request-requires
-    same-length
+    (λ c. search needs)
     returns-2)

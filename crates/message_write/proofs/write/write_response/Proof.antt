@@ -28,18 +28,6 @@ passed c =
 parts : (c : tie.After-enum-told) → let l = now (c .before .before .before .before .before .before .args .«data») in (length l ≤ 131072) × (c .enum-told .given .0 .0 ≡ 4 + length (encode (bytes word) l))
 parts c = response-parts (now (c .before .before .before .before .before .before .args .«data»)) (passed c .reads)
 
-check-response-requires : tie.Need-check-response-requires
-check-response-requires c κs = search needs
-
-admitted-requires : tie.Need-admitted-requires
-admitted-requires c κs = search needs
-
-enum-told : tie.Need-enum-told
-enum-told c = search needs
-
-enum-told-2 : tie.Need-enum-told-2
-enum-told-2 c = search needs
-
 returns : tie.Need-returns
 returns c =
     let a = c .before .before .before .before .before .before .args in
@@ -47,24 +35,9 @@ returns c =
     fills-same (now (a .out)) (by-body (a .id) 3 b (omega arith) (omega arith))
     (not-admitted response (a .id) 3 b (length (now (a .out))) (c .before .before .admitted .ensures) (c .before .before .before .check-response .ensures) (now (a .out)) refl (c .enum-told2 .given .1))
 
-header-of-requires : tie.Need-header-of-requires
-header-of-requires c κs = search needs
-
-sub-store-string : tie.Need-sub-store-string
-sub-store-string c = search needs
-
-part-store-string-start : tie.Need-part-store-string-start
-part-store-string-start c = search needs
-
-part-store-string-end : tie.Need-part-store-string-end
-part-store-string-end c = search needs
-
 store-string-requires : tie.Need-store-string-requires
 store-string-requires c κs =
     let w = parts (c .before .before .before) in (w .0, omega (arith, w .1, passed (c .before .before .before) .room, string-size (now (c .before .before .before .before .before .before .before .before .before .args .«data»))))
-
-same-length : tie.Need-same-length
-same-length c = search needs
 
 returns-2 : tie.Need-returns-2
 returns-2 c =
@@ -82,15 +55,15 @@ pub write-response-spec : {M : Type 1} → statement M
 write-response-spec =
     tie.close
     (tie.spec
-    check-response-requires
-    admitted-requires
-    enum-told
-    enum-told-2
+    (λ c κs. search needs)
+    (λ c κs. search needs)
+    (λ c. search needs)
+    (λ c. search needs)
     returns
-    header-of-requires
-    sub-store-string
-    part-store-string-start
-    part-store-string-end
+    (λ c κs. search needs)
+    (λ c. search needs)
+    (λ c. search needs)
+    (λ c. search needs)
     store-string-requires
-    same-length
+    (λ c. search needs)
     returns-2)

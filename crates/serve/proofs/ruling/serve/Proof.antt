@@ -19,30 +19,12 @@ asked c =
     table-good (now (s .table)) (now (s .repository)) (now (s .message)) (now (s .out)) (sym (c .before .before .before .before .before .before .is-good .ensures) ∙ not-false _ (c .before .before .before .before .before .if1 .left))
     (c .before .before .before .before .read .ensures) (c .before .before .before .request-in .ensures) (c .before .id .given .1)
 
-is-good-requires : tie.Need-is-good-requires
-is-good-requires c κs = search needs
-
-refused-requires : tie.Need-refused-requires
-refused-requires c κs = search needs
-
 returns : tie.Need-returns
 returns c =
     let s = c .before .before .before .before .before .before .before .args in
     ruled (now (s .table)) (now (s .repository)) (now (s .message)) (now (s .out))
     (table-bad (now (s .table)) (now (s .repository)) (now (s .message)) (now (s .out)) (sym (c .before .before .is-good .ensures) ∙ not-true _ (c .before .if1 .taken)))
     (filled-in (fills-refused (now (s .out)) refl (c .refused .ensures)))
-
-read-requires : tie.Need-read-requires
-read-requires c κs = search needs
-
-request-in-requires : tie.Need-request-in-requires
-request-in-requires c κs = search needs
-
-enum-known-r : tie.Need-enum-known-r
-enum-known-r c = search needs
-
-enum-known-id : tie.Need-enum-known-id
-enum-known-id c = search needs
 
 is-ours-requires : tie.Need-is-ours-requires
 is-ours-requires c κs = sym (c .before .before .before .before .before .before .is-good .ensures) ∙ not-false _ (c .before .before .before .before .before .if1 .left)
@@ -54,18 +36,6 @@ returns-2 c =
     (asked (c .before .before .before) ∙ ours-served (now (s .table)) (now (s .repository)) (now (s .message)) (now (s .out)) (c .before .before .before .before .id .given .0 .0) (c .before .before .before .before .id .given .0 .1 .0) (c .before .before .is-ours .ensures) (c .before .if2 .taken))
     (served-so (now (s .out)) _ _ _)
 
-sub-write-response : tie.Need-sub-write-response
-sub-write-response c = search needs
-
-part-write-response-start : tie.Need-part-write-response-start
-part-write-response-start c = search needs
-
-part-write-response-end : tie.Need-part-write-response-end
-part-write-response-end c = search needs
-
-write-response-requires : tie.Need-write-response-requires
-write-response-requires c κs = search needs
-
 returns-3 : tie.Need-returns-3
 returns-3 c =
     let s = c .before .before .before .before .before .before .before .before .before .before .before .args in
@@ -73,9 +43,6 @@ returns-3 c =
     (table-good (now (s .table)) (now (s .repository)) (now (s .message)) (now (s .out)) (sym (c .before .before .before .before .before .before .is-good .ensures) ∙ not-false _ (c .before .before .before .before .before .if1 .left))
     (c .before .before .before .before .read .ensures) (c .before .before .before .request-in .ensures) (c .before .r .given .1))
     (filled-in (fills-refused (now (s .out)) refl refl))
-
-same-length : tie.Need-same-length
-same-length c = search needs
 
 returns-4 : tie.Need-returns-4
 returns-4 c =
@@ -88,19 +55,19 @@ pub serve-spec : {M : Type 1} → statement M
 serve-spec =
     tie.close
     (tie.spec
-    is-good-requires
-    refused-requires
+    (λ c κs. search needs)
+    (λ c κs. search needs)
     returns
-    read-requires
-    request-in-requires
-    enum-known-r
-    enum-known-id
+    (λ c κs. search needs)
+    (λ c κs. search needs)
+    (λ c. search needs)
+    (λ c. search needs)
     is-ours-requires
     returns-2
-    sub-write-response
-    part-write-response-start
-    part-write-response-end
-    write-response-requires
+    (λ c. search needs)
+    (λ c. search needs)
+    (λ c. search needs)
+    (λ c κs. search needs)
     returns-3
-    same-length
+    (λ c. search needs)
     returns-4)

@@ -6,36 +6,6 @@ use borrow.Author.Needs.{needs}
 use Rattle.table.proofs.side.side_at.Statement.{statement}
 use Rattle.table.proofs.side.side_at.Tie as tie
 
-outline-at-requires : tie.Need-outline-at-requires
-outline-at-requires c κs = search needs
-
-enum-told : tie.Need-enum-told
-enum-told c = search needs
-
-outline-at-requires-2 : tie.Need-outline-at-requires-2
-outline-at-requires-2 c κs = search needs
-
-enum-told-2 : tie.Need-enum-told-2
-enum-told-2 c = search needs
-
-enum-known-g : tie.Need-enum-known-g
-enum-known-g c = search needs
-
-enum-known-f : tie.Need-enum-known-f
-enum-known-f c = search needs
-
-outline-at-requires-3 : tie.Need-outline-at-requires-3
-outline-at-requires-3 c κs = search needs
-
-enum-told-3 : tie.Need-enum-told-3
-enum-told-3 c = search needs
-
-enum-known-g-2 : tie.Need-enum-known-g-2
-enum-known-g-2 c = search needs
-
-side-of-two-requires : tie.Need-side-of-two-requires
-side-of-two-requires c κs = search needs
-
 returns : tie.Need-returns
 returns c =
     let e = c .before .before .before .before .before in
@@ -64,16 +34,16 @@ pub side-at-spec : {M : Type 1} → statement M
 side-at-spec =
     tie.close
     (tie.spec
-    outline-at-requires
-    enum-told
-    outline-at-requires-2
-    enum-told-2
-    enum-known-g
-    enum-known-f
-    outline-at-requires-3
-    enum-told-3
-    enum-known-g-2
-    side-of-two-requires
+    (λ c κs. search needs)
+    (λ c. search needs)
+    (λ c κs. search needs)
+    (λ c. search needs)
+    (λ c. search needs)
+    (λ c. search needs)
+    (λ c κs. search needs)
+    (λ c. search needs)
+    (λ c. search needs)
+    (λ c κs. search needs)
     returns
     returns-2
     returns-3

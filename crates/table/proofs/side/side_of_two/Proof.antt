@@ -5,18 +5,6 @@ use borrow.Author.Needs.{needs}
 use Rattle.table.proofs.side.side_of_two.Statement.{statement}
 use Rattle.table.proofs.side.side_of_two.Tie as tie
 
-compare-parts-requires : tie.Need-compare-parts-requires
-compare-parts-requires c κs = search needs
-
-enum-told : tie.Need-enum-told
-enum-told c = search needs
-
-enum-told-2 : tie.Need-enum-told-2
-enum-told-2 c = search needs
-
-enum-told-3 : tie.Need-enum-told-3
-enum-told-3 c = search needs
-
 returns : tie.Need-returns
 returns c = let s = c .before .before .before .before .before .args in two-by (now (s .a)) (s .f) (now (s .b)) (s .g) (c .before .before .compare-parts .ensures) (c .enum-told .given .1)
 
@@ -29,4 +17,4 @@ returns-3 c = let s = c .before .before .before .before .before .args in two-by 
 pub side-of-two-spec : {M : Type 1} → statement M
 side-of-two-spec =
     tie.close
-    (tie.spec compare-parts-requires enum-told enum-told-2 enum-told-3 returns returns-2 returns-3)
+    (tie.spec (λ c κs. search needs) (λ c. search needs) (λ c. search needs) (λ c. search needs) returns returns-2 returns-3)

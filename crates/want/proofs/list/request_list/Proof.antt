@@ -9,12 +9,6 @@ use borrow.Author.Needs.{needs}
 use Rattle.want.proofs.list.request_list.Statement.{statement}
 use Rattle.want.proofs.list.request_list.Tie as tie
 
-all-good-requires : tie.Need-all-good-requires
-all-good-requires c κs = search needs
-
-refused-requires : tie.Need-refused-requires
-refused-requires c κs = search needs
-
 returns : tie.Need-returns
 returns c =
     let s = c .before .before .before .before .before .before .before .before .before .args in
@@ -26,9 +20,6 @@ count-requires c κs = let s = c .before .before .before .before .before .before
 mul-size : tie.Need-mul-size
 mul-size c = omega (arith, c .count .ensures .1)
 
-refused-requires-2 : tie.Need-refused-requires-2
-refused-requires-2 c κs = search needs
-
 returns-2 : tie.Need-returns-2
 returns-2 c =
     let s = c .before .before .before .before .before .before .before .before .before .before .before .args in
@@ -37,9 +28,6 @@ returns-2 c =
 
 fill-requires : tie.Need-fill-requires
 fill-requires c κs = let s = c .before .before .before .before .before .before .before .before .before .before .before .args in (five-good (now (s .local)) (now (s .peer1)) (now (s .peer2)) (now (s .peer3)) (now (s .peer4)) (λ i. c .before .before .before .before .before .before .before .before .before .before .shared-slice-known .given i .fits) (λ i. c .before .before .before .before .before .before .before .before .before .shared-slice-known2 .given i .fits) (λ i. c .before .before .before .before .before .before .before .before .shared-slice-known3 .given i .fits) (λ i. c .before .before .before .before .before .before .before .shared-slice-known4 .given i .fits) (λ i. c .before .before .before .before .before .before .shared-slice-known5 .given i .fits) (c .before .before .before .before .all-good .ensures) (not-false _ (c .before .before .before .if1 .left)), omega (arith, request-size (now (s .local) ∷ now (s .peer1) ∷ now (s .peer2) ∷ now (s .peer3) ∷ now (s .peer4) ∷ []) (c .before .before .count .ensures .0), c .before .if2 .left))
-
-same-length : tie.Need-same-length
-same-length c = search needs
 
 returns-3 : tie.Need-returns-3
 returns-3 c =
@@ -52,13 +40,13 @@ pub request-list-spec : {M : Type 1} → statement M
 request-list-spec =
     tie.close
     (tie.spec
-    all-good-requires
-    refused-requires
+    (λ c κs. search needs)
+    (λ c κs. search needs)
     returns
     count-requires
     mul-size
-    refused-requires-2
+    (λ c κs. search needs)
     returns-2
     fill-requires
-    same-length
+    (λ c. search needs)
     returns-3)

@@ -6,30 +6,6 @@ use borrow.Author.Needs.{needs}
 use Rattle.xdr.proofs.number.little_endian_at.Statement.{statement}
 use Rattle.xdr.proofs.number.little_endian_at.Tie as tie
 
-add-joined : tie.Need-add-joined
-add-joined c = search needs
-
-shared-slice-read-joined : tie.Need-shared-slice-read-joined
-shared-slice-read-joined c = search needs
-
-add-joined-2 : tie.Need-add-joined-2
-add-joined-2 c = search needs
-
-shared-slice-read-joined-2 : tie.Need-shared-slice-read-joined-2
-shared-slice-read-joined-2 c = search needs
-
-add-joined-3 : tie.Need-add-joined-3
-add-joined-3 c = search needs
-
-shared-slice-read-joined-3 : tie.Need-shared-slice-read-joined-3
-shared-slice-read-joined-3 c = search needs
-
-shared-slice-read-joined-4 : tie.Need-shared-slice-read-joined-4
-shared-slice-read-joined-4 c = search needs
-
-joined-requires : tie.Need-joined-requires
-joined-requires c κs = search needs
-
 returns : tie.Need-returns
 returns c =
     let a = c .before .before .before .before .before .before .args in
@@ -39,12 +15,12 @@ pub little-endian-at-spec : {M : Type 1} → statement M
 little-endian-at-spec =
     tie.close
     (tie.spec
-    add-joined
-    shared-slice-read-joined
-    add-joined-2
-    shared-slice-read-joined-2
-    add-joined-3
-    shared-slice-read-joined-3
-    shared-slice-read-joined-4
-    joined-requires
+    (λ c. search needs)
+    (λ c. search needs)
+    (λ c. search needs)
+    (λ c. search needs)
+    (λ c. search needs)
+    (λ c. search needs)
+    (λ c. search needs)
+    (λ c κs. search needs)
     returns)

@@ -11,9 +11,6 @@ use borrow.Author.Needs.{needs}
 use Rattle.xdr.proofs.text.plain_at.Statement.{statement}
 use Rattle.xdr.proofs.text.plain_at.Tie as tie
 
-little-endian-at-requires : tie.Need-little-endian-at-requires
-little-endian-at-requires c κs = search needs
-
 returns : tie.Need-returns
 returns c =
     let a = c .before .before .args in
@@ -24,4 +21,4 @@ returns c =
     (plain .3, plain .2, plain .1, plain .0)
 
 pub plain-at-spec : {M : Type 1} → statement M
-plain-at-spec = tie.close (tie.spec little-endian-at-requires returns)
+plain-at-spec = tie.close (tie.spec (λ c κs. search needs) returns)

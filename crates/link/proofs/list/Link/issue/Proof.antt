@@ -12,28 +12,13 @@ use Rattle.link.proofs.list.Link.issue.Tie as tie
 abbrev body : tie.Start → List ℕ
 body c = let a = c .args in requestBytes (now (a .repository)) (now (a .name)) (a .offset) (a .size) (now (a .hash))
 
-fault-within-requires : tie.Need-fault-within-requires
-fault-within-requires c κs = search needs
-
-request-size-requires : tie.Need-request-size-requires
-request-size-requires c κs = search needs
-
-barred-requires : tie.Need-barred-requires
-barred-requires c κs = search needs
-
 returns : tie.Need-returns
 returns c =
     let a = c .before .before .before .before .before .before .before .before .args in
     issue-barred (a .held) (a .limit) (a .self) (body (c .before .before .before .before .before .before .before .before)) (a .size) (now (a .out)) _ (c .before .before .before .fault-within .ensures) (c .before .before .if1 .taken) (c .before .request-size .ensures (a .offset)) (c .barred .ensures)
 
-write-request-requires : tie.Need-write-request-requires
-write-request-requires c κs = search needs
-
 issued-requires : tie.Need-issued-requires
 issued-requires c κs = let a = c .before .before .before .before .before .before .before .before .before .before .args in unfull (a .held) (a .limit) (a .self) (a .size) (sym (c .before .before .before .before .if1 .left) ∙ c .before .before .before .before .before .fault-within .ensures) .1
-
-same-length : tie.Need-same-length
-same-length c = search needs
 
 returns-2 : tie.Need-returns-2
 returns-2 c =
@@ -44,11 +29,11 @@ pub issue-spec : {M : Type 1} → statement M
 issue-spec =
     tie.close
     (tie.spec
-    fault-within-requires
-    request-size-requires
-    barred-requires
+    (λ c κs. search needs)
+    (λ c κs. search needs)
+    (λ c κs. search needs)
     returns
-    write-request-requires
+    (λ c κs. search needs)
     issued-requires
-    same-length
+    (λ c. search needs)
     returns-2)

@@ -22,14 +22,8 @@ Inv-loop self next₀ sum₀ i₀ next sum i =
 abbrev μ-loop : tie.MeasureT-loop
 μ-loop self next₀ sum₀ i₀ next sum i = i
 
-shape-fits-requires : tie.Need-shape-fits-requires Inv-loop μ-loop
-shape-fits-requires c κs = search needs
-
 returns : tie.Need-returns Inv-loop μ-loop
 returns c = tally-shape (c .before .before .args .t1) (sym (c .before .shape-fits .ensures) ∙ not-true _ (c .if1 .taken))
-
-cast-i : tie.Need-cast-i Inv-loop μ-loop
-cast-i c = search needs
 
 loop-holds : tie.Need-loop-holds Inv-loop μ-loop
 loop-holds c =
@@ -45,9 +39,6 @@ mul-e c = omega arith
 
 element-copy-out-e : tie.Need-element-copy-out-e Inv-loop μ-loop
 element-copy-out-e c = omega arith
-
-stands-before-requires : tie.Need-stands-before-requires Inv-loop μ-loop
-stands-before-requires c κs = search needs
 
 returns-2 : tie.Need-returns-2 Inv-loop μ-loop
 returns-2 c =
@@ -93,14 +84,14 @@ orderly-bytes-spec =
     (tie.spec
     Inv-loop
     μ-loop
-    shape-fits-requires
+    (λ c κs. search needs)
     returns
-    cast-i
+    (λ c. search needs)
     loop-holds
     sub-i
     mul-e
     element-copy-out-e
-    stands-before-requires
+    (λ c κs. search needs)
     returns-2
     add-sum
     loop-less

@@ -6,21 +6,12 @@ use borrow.Author.Needs.{needs}
 use Rattle.queue.proofs.queue.RequestQueue.answer.Statement.{statement}
 use Rattle.queue.proofs.queue.RequestQueue.answer.Tie as tie
 
-is-sound-requires : tie.Need-is-sound-requires
-is-sound-requires c κs = search needs
-
-at-start-requires : tie.Need-at-start-requires
-at-start-requires c κs = search needs
-
 returns : tie.Need-returns
 returns c = simp (c .at-start .ensures, sym (c .before .before .is-sound .ensures) ∙ not-true _ (c .before .if1 .taken))
-
-answer-requires : tie.Need-answer-requires
-answer-requires c κs = search needs
 
 returns-2 : tie.Need-returns-2
 returns-2 c = simp (sym (c .before .before .before .is-sound .ensures) ∙ not-false _ (c .before .before .if1 .left)) (ap fromLink (c .before .answer .ensures))
 
 pub answer-spec : {M : Type 1} → statement M
 answer-spec =
-    tie.close (tie.spec is-sound-requires at-start-requires returns answer-requires returns-2)
+    tie.close (tie.spec (λ c κs. search needs) (λ c κs. search needs) returns (λ c κs. search needs) returns-2)

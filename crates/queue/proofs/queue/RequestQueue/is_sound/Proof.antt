@@ -5,15 +5,6 @@ use borrow.Author.Needs.{needs}
 use Rattle.queue.proofs.queue.RequestQueue.is_sound.Statement.{statement}
 use Rattle.queue.proofs.queue.RequestQueue.is_sound.Tie as tie
 
-sound-bytes-requires : tie.Need-sound-bytes-requires
-sound-bytes-requires c κs = search needs
-
-enum-told : tie.Need-enum-told
-enum-told c = search needs
-
-enum-told-2 : tie.Need-enum-told-2
-enum-told-2 c = search needs
-
 returns : tie.Need-returns
 returns c = sym (unsound-tells (c .before .before .before .args .self) (sym (c .enum-told .given .1) ∙ c .before .before .sound-bytes .ensures))
 
@@ -21,4 +12,4 @@ returns-2 : tie.Need-returns-2
 returns-2 c = sym (sound-tells (c .before .before .before .args .self) (c .enum-told2 .given .0 .0) (sym (c .enum-told2 .given .1) ∙ c .before .before .sound-bytes .ensures) .0)
 
 pub is-sound-spec : {M : Type 1} → statement M
-is-sound-spec = tie.close (tie.spec sound-bytes-requires enum-told enum-told-2 returns returns-2)
+is-sound-spec = tie.close (tie.spec (λ c κs. search needs) (λ c. search needs) (λ c. search needs) returns returns-2)

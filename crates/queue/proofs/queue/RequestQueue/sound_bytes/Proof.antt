@@ -7,15 +7,6 @@ use borrow.Author.Needs.{needs}
 use Rattle.queue.proofs.queue.RequestQueue.sound_bytes.Statement.{statement}
 use Rattle.queue.proofs.queue.RequestQueue.sound_bytes.Tie as tie
 
-orderly-bytes-requires : tie.Need-orderly-bytes-requires
-orderly-bytes-requires c κs = search needs
-
-enum-known-sum : tie.Need-enum-known-sum
-enum-known-sum c = search needs
-
-enum-told : tie.Need-enum-told
-enum-told c = search needs
-
 returns : tie.Need-returns
 returns c = sound-unsound (c .before .before .before .args .self) (sym (c .enum-told .given .1) ∙ c .before .before .orderly-bytes .ensures)
 
@@ -28,4 +19,4 @@ returns-3 c = sound-bytes (c .before .before .before .before .before .args .self
 pub sound-bytes-spec : {M : Type 1} → statement M
 sound-bytes-spec =
     tie.close
-    (tie.spec orderly-bytes-requires enum-known-sum enum-told returns returns-2 returns-3)
+    (tie.spec (λ c κs. search needs) (λ c. search needs) (λ c. search needs) returns returns-2 returns-3)
