@@ -13,6 +13,7 @@ use Rattle.message.specs.declared.answer.ResponseSpan.{ResponseSpan}
 use Rattle.message.specs.declared.answer.Message.{Message}
 use Rattle.message.specs.declared.answer.Message.the-variants as M
 use Rattle.message_write.specs.Writing.{requestBytes}
+use Rattle.message_write.proofs.WritingLaws.{room-given}
 use Rattle.link.specs.Requests.{isConsecutive}
 use Rattle.link.specs.OneLink.{outstanding, windowFits, emptyLink, issuing, appended, issuedLink, withoutOldest, released, answeredBy, emptied}
 use Rattle.link.specs.History.{LinkCall, issue, answer, drop, Event, issueWas, answerWas, dropWas, afterCall, event, final, history, issued, settles, settled, kept, standing}
@@ -65,14 +66,6 @@ stays q e g h n =
       good = g;
       keeps = λ es. sym (ap (λ (l : List Request). kept (e ∷ es) (outstanding q) ++ kept es l) n ∙ append-nil (kept (e ∷ es) (outstanding q)) ∙ kept-past e es (outstanding q) h);
     }
-
-pub room-given : (room : ℕ) (o : Outcome) (l : List ℕ) → inRoom room o ≡ gives l → o ≡ gives l
-room-given room (gives m) l e = go (leb (length m) room) e
-  where
-    go : (t : Bool) → cond t (gives m) (refuses 14 0) ≡ gives l → gives m ≡ gives l
-    go true e = e
-    go false e = let z : _≡_ {A = ℕ} 0 1 = cc in absurd (omega arith)
-room-given room (refuses k p) l e = e
 
 moved-issue : (held limit : ℕ) (q : Link) (r n : List ℕ) (o size : ℕ) (h : List ℕ) (room : ℕ) (x : Outcome)
     → inRoom room (issuing held limit q (requestBytes r n o size h) size) ≡ x → Good q → Moved q (issueWas (q .next) size x) (issuedLink q size x)

@@ -1,14 +1,14 @@
 -- What writing gives, by what the check of its body answered.
 use Prim.Native.Nat.{ℕ, _+_, _%_, _≤_, _<_}
 use mathlib.Core.List.{List, [], _++_}
-use mathlib.Core.Path.{_≡_, refl, sym, ap, _∙_}
-use mathlib.Core.Bool.{Bool, true, false, cond}
+use mathlib.Core.Path.{_≡_, refl, sym, ap, subst, _∙_}
+use mathlib.Core.Bool.{Bool, true, false, cond, _||_}
 use native.Mathlib.Omega.{arith}
 use native.Mathlib.Decide.{decLe}
-use borrow.Author.Tests.{le-leb, lt-leb, eq-eqb, leb-true}
+use borrow.Author.Tests.{le-leb, lt-leb, eq-eqb, eqb-true, leb-true}
 use lib.ListN.{length, take, drop, length-append}
 use lib.Seq.{drop-at, length-take-le}
-use lib.Dec.{leb}
+use lib.Dec.{leb, eqb}
 use Rattle.xdr.specs.Reading.{Reading, taken, refused, shifted, mapped}
 use Rattle.xdr.specs.Format.{Format, read, readAt, encode}
 use Rattle.xdr.specs.Fields.{word}
@@ -60,13 +60,35 @@ by-body id k b p q = go (decLe id 4095)
         ∙ ap (λ (x : ℕ). asRead m (shifted 4 (read (body (kindOf x)) b))) t)
     go (no h) = simp (lt-leb id 4095 (omega arith))
 
+-- a type that is one of two
+pub either : (a c k : ℕ) (P : ℕ → Type 0) → (eqb k a || eqb k c) ≡ true → P a → P c → P k
+either a c k P e x y = go (eqb k a) refl e
+  where
+    go : (t : Bool) → eqb k a ≡ t → (t || eqb k c) ≡ true → P k
+    go true q e = subst P (sym (eqb-true k a q)) x
+    go false q e = subst P (sym (eqb-true k c e)) y
+
+-- an outcome, by what is answered of it
+pub refused-is : (y : Outcome) {f : Refusal} → Out.Refused f ≡ fillingAnswer y → y ≡ refuses (f .number) (f .place)
+refused-is (gives l) e = let z : _≡_ {A = ℕ} 0 1 = cc in absurd (omega arith)
+refused-is (refuses k p) {f} e = let n : f .number ≡ k = cc in let m : f .place ≡ p = cc in rw (n, m) refl
+
+pub filled-is : (y : Outcome) {n : ℕ} → Out.Filled n ≡ fillingAnswer y → (l : List ℕ) × (y ≡ gives l) × (length l ≡ n)
+filled-is (gives l) e = (l, refl, cc)
+filled-is (refuses k p) e = let z : _≡_ {A = ℕ} 0 1 = cc in absurd (omega arith)
+
+-- bytes that fit were there to fill in
+pub room-given : (room : ℕ) (o : Outcome) (l : List ℕ) → inRoom room o ≡ gives l → o ≡ gives l
+room-given room (gives m) l e = go (leb (length m) room) e
+  where
+    go : (t : Bool) → cond t (gives m) (refuses 14 0) ≡ gives l → gives m ≡ gives l
+    go true e = e
+    go false e = let z : _≡_ {A = ℕ} 0 1 = cc in absurd (omega arith)
+room-given room (refuses k p) l e = e
+
 -- a call that answers a refusal has kept the buffer
 pub fills-kept : (out : List ℕ) {x : Outcome} {r : Filling} {f : Refusal} → r ≡ fillingAnswer (inRoom (length out) x) → r ≡ Out.Refused f → Fills x out r out
-fills-kept out {x} {r} {f} e g = go (inRoom (length out) x) refl (sym g ∙ e)
-  where
-    go : (y : Outcome) → inRoom (length out) x ≡ y → Out.Refused f ≡ fillingAnswer y → Fills x out r out
-    go (gives l) q w = let z : _≡_ {A = ℕ} 0 1 = cc in absurd (omega arith)
-    go (refuses k p) q w = fills-by out q (g ∙ w) refl
+fills-kept out {x} e g = fills-by out (refused-is (inRoom (length out) x) (sym g ∙ e)) g refl
 
 -- a body that passed its check, the test of the Message ID and that of the room
 pub record Passed {A : Type 0} (F : Format A) (id : ℕ) (b : List ℕ) (size n : ℕ) : Type 0 where

@@ -12,6 +12,7 @@ use Rattle.xdr.specs.Reading.{Reading, taken, refused, shifted}
 use Rattle.xdr.specs.Number.{IsBytes}
 use Rattle.xdr.specs.Format.{read, readAt, encode, Valid}
 use Rattle.xdr.specs.Fields.{word}
+use Rattle.xdr.specs.Buffer.{filled}
 use Rattle.xdr.specs.Filling.{Outcome, gives, refuses, inRoom, fillingAnswer, bufferAfter, Fills}
 use Rattle.xdr.specs.declared.answer.Refusal.{Refusal}
 use Rattle.xdr.specs.declared.filling.Filling.{Filling}
@@ -28,6 +29,7 @@ use Rattle.message.specs.Message.{Kind, isIndex, isRequest, isResponse, isPing,
 use Rattle.message.specs.Answers.{bodyAnswer, messageAnswer, said}
 use Rattle.message_write.specs.Writing.{messageBytes, asRead, writing}
 use Rattle.message_write.specs.Fields.{fieldBytes}
+use Rattle.message_write.proofs.WritingLaws.{refused-is, filled-is, room-given}
 
 -- what a writer is given for a body is the body's encoding
 given : (k : Kind) (b : Body k) → fieldBytes k b ≡ encode (body k) b
@@ -162,26 +164,11 @@ written-answers id type b t l h e u =
 -- a call that fills a buffer changes only its first bytes, as many as it reports; a refused one changes none
 pub only-first-bytes : {x : Outcome} {out after : List ℕ} {answer : Filling} {n : ℕ} → Fills x out answer after → answer ≡ F.Filled n
     → (x ≡ gives (take n after)) × (drop n after ≡ drop n out)
-only-first-bytes {x} {out} {after} {answer} {n} p e = go x refl
-  where
-    by-room : (l : List ℕ) → x ≡ gives l → (c : Bool) → F.Filled n ≡ fillingAnswer (cond c (gives l) (refuses 14 0)) → after ≡ bufferAfter (cond c (gives l) (refuses 14 0)) out
-        → (x ≡ gives (take n after)) × (drop n after ≡ drop n out)
-    by-room l q true f g =
-        let long : length l ≡ n = cc in
-        (q ∙ ap gives (sym (ap (take n) g ∙ take-at l (drop (length l) out) n long)), ap (drop n) g ∙ drop-at l (drop (length l) out) n long ∙ ap (λ (k : ℕ). drop k out) long)
-    by-room l q false f g = let z : _≡_ {A = ℕ} 0 1 = cc in absurd (omega arith)
-
-    go : (y : Outcome) → x ≡ y → (x ≡ gives (take n after)) × (drop n after ≡ drop n out)
-    go (gives l) q =
-        by-room l q (leb (length l) (length out)) (sym e ∙ p .answered ∙ ap (λ (y : Outcome). fillingAnswer (inRoom (length out) y)) q)
-        (p .buffer ∙ ap (λ (y : Outcome). bufferAfter (inRoom (length out) y) out) q)
-    go (refuses k j) q =
-        let f : F.Filled n ≡ F.Refused (record { number = k; place = j }) = sym e ∙ p .answered ∙ ap (λ (y : Outcome). fillingAnswer (inRoom (length out) y)) q in
-        let z : _≡_ {A = ℕ} 0 1 = cc in absurd (omega arith)
+only-first-bytes {x} {out} {after} {answer} {n} p e =
+    let q = filled-is (inRoom (length out) x) (sym e ∙ p .answered) in
+    let l : List ℕ = q .0 in
+    let held : after ≡ filled out l = p .buffer ∙ ap (λ (y : Outcome). bufferAfter y out) (q .1) in
+    (room-given (length out) x l (q .1) ∙ ap gives (sym (ap (take n) held ∙ take-at l (drop (length l) out) n (q .2))), ap (drop n) held ∙ drop-at l (drop (length l) out) n (q .2) ∙ ap (λ (k : ℕ). drop k out) (q .2))
 
 pub refused-unchanged : {x : Outcome} {out after : List ℕ} {answer : Filling} {r : Refusal} → Fills x out answer after → answer ≡ F.Refused r → after ≡ out
-refused-unchanged {x} {out} {after} {answer} {r} p e = go (inRoom (length out) x) (sym e ∙ p .answered) (p .buffer)
-  where
-    go : (y : Outcome) → F.Refused r ≡ fillingAnswer y → after ≡ bufferAfter y out → after ≡ out
-    go (gives l) f g = let z : _≡_ {A = ℕ} 0 1 = cc in absurd (omega arith)
-    go (refuses k j) f g = g
+refused-unchanged {x} {out} p e = p .buffer ∙ ap (λ (y : Outcome). bufferAfter y out) (refused-is (inRoom (length out) x) (sym e ∙ p .answered))

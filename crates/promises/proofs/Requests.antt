@@ -13,6 +13,7 @@ use Rattle.message.specs.Message.{message}
 use Rattle.message.specs.declared.answer.Message.{Message}
 use Rattle.message.specs.Answers.{said}
 use Rattle.message_write.specs.Writing.{requestBytes, writing}
+use Rattle.message_write.proofs.WritingLaws.{room-given}
 use Rattle.link.specs.Requests.{total}
 use Rattle.link.specs.OneLink.{windowFits, outstanding, numbered, emptyLink, issuing, appended, issuedLink, answeredBy, emptied}
 use Rattle.link.specs.History as link
@@ -25,7 +26,7 @@ use Rattle.link.proofs.LinkLaws.{Orderly, orderly-facts}
 use Rattle.link.proofs.IssueLaws.{issuing-tells}
 use Rattle.link.proofs.AnswerLaws.{AnswerWas, kept, freed, answer-was}
 use Rattle.link.proofs.Moves.{Good, nextRequest, outstanding-appended, total-append, outstanding-without}
-use Rattle.link.proofs.HistoryLaws.{room-given, link-run, opened-good, windows-kept}
+use Rattle.link.proofs.HistoryLaws.{link-run, opened-good, windows-kept}
 use Rattle.queue.specs.Queue.{allowance, isSound, opening, issueOutcome, fromLink, answerOf, dropOf}
 use Rattle.queue.specs.declared.queue.RequestQueue.{RequestQueue}
 use Rattle.queue.specs.declared.outcome.Emptied.{Emptied}
