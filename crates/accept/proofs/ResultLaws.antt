@@ -22,7 +22,7 @@ use Rattle.order.specs.declared.compare.Order.{Order}
 use Rattle.order.specs.declared.compare.Order.the-variants.{Less, Equal, Greater}
 use Rattle.record.proofs.RisingLaws.{Rising, both-true}
 use Rattle.table.specs.Steps.Standing.{AllValid}
-use Rattle.table.proofs.RoomLaws.{not-given}
+use Rattle.xdr.proofs.FillingLaws.{not-given}
 use Rattle.table.proofs.TableLaws.{GoodTable, good-table, table-good}
 use Rattle.table.specs.Insert.{placed, insert}
 use Rattle.table.proofs.InsertLaws.{insert-rising}

@@ -1,6 +1,6 @@
 -- What an answer gives, by the checks in turn; and that a refused call changes nothing.
 use Prim.Native.Nat.{ℕ}
-use mathlib.Core.Path.{_≡_, refl, sym, _∙_}
+use mathlib.Core.Path.{_≡_, refl, sym, ap, _∙_}
 use mathlib.Core.Bool.{Bool, true, false, cond}
 use mathlib.Core.List.{List, [], _∷_}
 use native.Mathlib.Omega.{arith}
@@ -8,7 +8,8 @@ use lib.ListN.{length}
 use lib.Dec.{eqb}
 use borrow.Author.Tests.{eq-eqb, ne-eqb, eqb-true}
 use Rattle.xdr.specs.Answers.{atStart}
-use Rattle.xdr.specs.Filling.{Outcome, gives, refuses, inRoom, fillingAnswer, bufferAfter}
+use Rattle.xdr.specs.Filling.{Outcome, inRoom, bufferAfter}
+use Rattle.xdr.proofs.FillingLaws.{refused-is}
 use Rattle.xdr.specs.declared.answer.Refusal.{Refusal}
 use Rattle.xdr.specs.declared.filling.Filling.the-variants as F
 use Rattle.message.specs.declared.answer.Span.{Span}
@@ -69,8 +70,6 @@ answered-kept q f m = go (answeredBy q m) (answer-was q m)
 
 pub issued-kept : {o : Outcome} {q : Link} {size : ℕ} {out after : List ℕ} {r : LinkIssued} {f : Refusal} → Issues o q size out r after → r .filling ≡ F.Refused f
     → (r .link ≡ q) × (after ≡ out)
-issued-kept {o} {q} {size} {out} {after} {r} {f} p e = go (inRoom (length out) o) (sym e ∙ p .fills .answered) (p .link) (p .fills .buffer)
-  where
-    go : (y : Outcome) → F.Refused f ≡ fillingAnswer y → r .link ≡ issuedLink q size y → after ≡ bufferAfter y out → (r .link ≡ q) × (after ≡ out)
-    go (gives l) x g h = let z : _≡_ {A = ℕ} 0 1 = cc in absurd (omega arith)
-    go (refuses k j) x g h = (g, h)
+issued-kept {o} {q} {size} {out} p e =
+    let y = refused-is (inRoom (length out) o) (sym e ∙ p .fills .answered) in
+    (p .link ∙ ap (issuedLink q size) y, p .fills .buffer ∙ ap (λ (x : Outcome). bufferAfter x out) y)

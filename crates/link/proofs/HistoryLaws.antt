@@ -13,6 +13,7 @@ use Rattle.message.specs.declared.answer.ResponseSpan.{ResponseSpan}
 use Rattle.message.specs.declared.kind.ResponseIn.{ResponseIn}
 use Rattle.message.specs.declared.kind.ResponseIn.the-variants as P
 use Rattle.message_write.specs.Writing.{requestBytes}
+use Rattle.xdr.proofs.FillingLaws.{given-room}
 use Rattle.link.specs.Requests.{isConsecutive}
 use Rattle.link.specs.OneLink.{outstanding, windowFits, emptyLink, issuing, appended, issuedLink, withoutOldest, released, answeredBy, emptied}
 use Rattle.link.specs.History.{LinkCall, issue, answer, drop, Event, issueWas, answerWas, dropWas, afterCall, event, final, history, issued, settles, settled, kept, standing}
@@ -66,19 +67,11 @@ stays q e g h n =
       keeps = λ es. sym (ap (λ (l : List Request). kept (e ∷ es) (outstanding q) ++ kept es l) n ∙ append-nil (kept (e ∷ es) (outstanding q)) ∙ kept-past e es (outstanding q) h);
     }
 
-pub room-given : (room : ℕ) (o : Outcome) (l : List ℕ) → inRoom room o ≡ gives l → o ≡ gives l
-room-given room (gives m) l e = go (leb (length m) room) e
-  where
-    go : (t : Bool) → cond t (gives m) (refuses 14 0) ≡ gives l → gives m ≡ gives l
-    go true e = e
-    go false e = let z : _≡_ {A = ℕ} 0 1 = cc in absurd (omega arith)
-room-given room (refuses k p) l e = e
-
 moved-issue : (held limit : ℕ) (q : Link) (r n : List ℕ) (o size : ℕ) (h : List ℕ) (room : ℕ) (x : Outcome)
     → inRoom room (issuing held limit q (requestBytes r n o size h) size) ≡ x → Good q → Moved q (issueWas (q .next) size x) (issuedLink q size x)
 moved-issue held limit q r n o size h room (gives l) e g =
     let s : Orderly q = orderly-facts q (g .orderly) in
-    let a = issuing-tells held limit q r n o size h l s (room-given room (issuing held limit q (requestBytes r n o size h) size) l e) in
+    let a = issuing-tells held limit q r n o size h l s (given-room room (issuing held limit q (requestBytes r n o size h) size) l e .0) in
     let w : Event = issueWas (q .next) size (gives l) in
     let out : outstanding (appended q size) ≡ outstanding q ++ (nextRequest q size ∷ []) = outstanding-appended q size (omega (arith, g .long, a .0, s .high)) in
     record {

@@ -60,10 +60,7 @@ passes false true e = (refl, refl)
 passes false false e = absurd (omega arith)
 
 neither : (a b : Bool) → (a || b) ≡ false → (a ≡ false) × (b ≡ false)
-neither true b e = let z : true ≡ false = e in (e, go z)
-  where
-    go : {c : Bool} → true ≡ false → c ≡ false
-    go e = let z : _≡_ {A = ℕ} 0 1 = cc in absurd (omega arith)
+neither true b e = let z : _≡_ {A = ℕ} 0 1 = cc in absurd (omega arith)
 neither false b e = (refl, e)
 
 -- where neither stands against it there is a free place

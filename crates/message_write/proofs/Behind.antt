@@ -1,10 +1,10 @@
 -- A body behind its header, of which a check needs to know only that it has four bytes.
 use Prim.Native.Nat.{ℕ, _+_, _≤_}
-use mathlib.Core.List.{List, [], _∷_, _++_}
+use mathlib.Core.List.{List, [], _∷_, _++_, append-assoc}
 use mathlib.Core.Path.{_≡_, refl, sym, ap, _∙_}
 use native.Mathlib.Omega.{arith}
 use borrow.Author.Tests.{leb-true}
-use lib.ListN.{length, drop}
+use lib.ListN.{length, drop, length-append}
 use lib.Seq.{drop-at}
 use Rattle.xdr.specs.Reading.{Reading, taken, refused, shifted}
 use Rattle.xdr.specs.Pad.{padded}
@@ -14,6 +14,7 @@ use Rattle.xdr.proofs.EncodedSize.{number-size, bytes-size}
 use Rattle.xdr.proofs.Steps.{Reads, part-read, refused-within}
 use Rattle.xdr.proofs.Told.{Wide, told-same, encoded-at}
 use Rattle.message.specs.Message.{repository}
+use Rattle.message_write.specs.Writing.{requestBytes}
 use Rattle.message_write.specs.Steps.{checkAnswer, bodyCheck}
 
 abbrev pub behind : List ℕ → List ℕ
@@ -49,3 +50,12 @@ behind-string l n e = omega (arith, string-size l)
 pub repository-there : (l t : List ℕ) {r : Reading (List ℕ)} → Reads repository (encode (bytes word) l) 0 r → Reads repository (behind (encode (bytes word) l ++ t)) 4 (shifted 4 r)
 unfolding encode Wide
 repository-there l t h = encoded-at {F = repository} l (0 ∷ 0 ∷ 0 ∷ 0 ∷ []) t (omega arith) refl refl h
+
+-- the bytes of a Request: how many they are, and its fields one behind another
+
+pub request-size : (r n : List ℕ) (o s : ℕ) (h : List ℕ)
+    → length (requestBytes r n o s h) ≡ length (encode (bytes word) r) + (length (encode (bytes word) n) + (8 + (4 + length (encode (bytes word) h))))
+request-size r n o s h = simp (length-append, number-size 8 o, number-size 4 s)
+
+pub request-grouped : (w r n o s h : List ℕ) → ((((w ++ r) ++ n) ++ o) ++ s) ++ h ≡ w ++ (r ++ (n ++ (o ++ (s ++ h))))
+request-grouped w r n o s h = simp append-assoc

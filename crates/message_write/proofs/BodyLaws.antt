@@ -20,8 +20,7 @@ use Rattle.record.specs.KeyValue.{KeyValue, options}
 use Rattle.message.specs.Limits.{optionsLimit}
 use Rattle.message.specs.Message.{RequestBody, index, request, response}
 use Rattle.message_write.specs.Writing.{indexBytes, requestBytes}
-use Rattle.message_write.proofs.Behind.{behind, string-size, behind-string}
-use Rattle.message_write.proofs.RequestLaws.{request-size, request-grouped}
+use Rattle.message_write.proofs.Behind.{behind, string-size, behind-string, request-size, request-grouped}
 
 -- Ping and Pong: nothing behind the header
 pub nothing-parts : {v : Unit {0}} {n : ℕ} → Reads nothing (behind []) 4 (taken v n) → n ≡ 4

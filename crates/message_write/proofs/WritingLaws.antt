@@ -1,14 +1,14 @@
 -- What writing gives, by what the check of its body answered.
 use Prim.Native.Nat.{ℕ, _+_, _%_, _≤_, _<_}
 use mathlib.Core.List.{List, [], _++_}
-use mathlib.Core.Path.{_≡_, refl, sym, ap, _∙_}
-use mathlib.Core.Bool.{Bool, true, false, cond}
+use mathlib.Core.Path.{_≡_, refl, sym, ap, subst, _∙_}
+use mathlib.Core.Bool.{Bool, true, false, cond, _||_}
 use native.Mathlib.Omega.{arith}
 use native.Mathlib.Decide.{decLe}
-use borrow.Author.Tests.{le-leb, lt-leb, eq-eqb, leb-true}
+use borrow.Author.Tests.{le-leb, lt-leb, eq-eqb, eqb-true, leb-true}
 use lib.ListN.{length, take, drop, length-append}
 use lib.Seq.{drop-at, length-take-le}
-use lib.Dec.{leb}
+use lib.Dec.{leb, eqb}
 use Rattle.xdr.specs.Reading.{Reading, taken, refused, shifted, mapped}
 use Rattle.xdr.specs.Format.{Format, read, readAt, encode}
 use Rattle.xdr.specs.Fields.{word}
@@ -18,7 +18,7 @@ use Rattle.xdr.specs.declared.answer.Refusal.{Refusal}
 use Rattle.xdr.specs.declared.filling.Filling.{Filling}
 use Rattle.xdr.specs.declared.filling.Filling.the-variants as Out
 use Rattle.xdr.proofs.EncodedSize.{number-size}
-use Rattle.xdr.proofs.FillingLaws.{fills-by, fills-given}
+use Rattle.xdr.proofs.FillingLaws.{fills-given, fills-kept}
 use Rattle.xdr.proofs.Steps.{Reads, checked-passed, both-read, shifted-zero, ends}
 use Rattle.xdr.proofs.Told.{Wide, encoded-at, number-alone}
 use Rattle.xdr.proofs.Within.{Within, within}
@@ -60,13 +60,13 @@ by-body id k b p q = go (decLe id 4095)
         ∙ ap (λ (x : ℕ). asRead m (shifted 4 (read (body (kindOf x)) b))) t)
     go (no h) = simp (lt-leb id 4095 (omega arith))
 
--- a call that answers a refusal has kept the buffer
-pub fills-kept : (out : List ℕ) {x : Outcome} {r : Filling} {f : Refusal} → r ≡ fillingAnswer (inRoom (length out) x) → r ≡ Out.Refused f → Fills x out r out
-fills-kept out {x} {r} {f} e g = go (inRoom (length out) x) refl (sym g ∙ e)
+-- a type that is one of two
+pub either : (a c k : ℕ) (P : ℕ → Type 0) → (eqb k a || eqb k c) ≡ true → P a → P c → P k
+either a c k P e x y = go (eqb k a) refl e
   where
-    go : (y : Outcome) → inRoom (length out) x ≡ y → Out.Refused f ≡ fillingAnswer y → Fills x out r out
-    go (gives l) q w = let z : _≡_ {A = ℕ} 0 1 = cc in absurd (omega arith)
-    go (refuses k p) q w = fills-by out q (g ∙ w) refl
+    go : (t : Bool) → eqb k a ≡ t → (t || eqb k c) ≡ true → P k
+    go true q e = subst P (sym (eqb-true k a q)) x
+    go false q e = subst P (sym (eqb-true k c e)) y
 
 -- a body that passed its check, the test of the Message ID and that of the room
 pub record Passed {A : Type 0} (F : Format A) (id : ℕ) (b : List ℕ) (size n : ℕ) : Type 0 where

@@ -1,15 +1,16 @@
 // The seven writers. Each checks its body as reading would, then the Message ID and the room; then it puts the header and the fields one behind another.
 ghost use mathlib.Core.Path.{_≡_};
 ghost use mathlib.Core.List.{[], _++_};
-ghost use Prim.Native.Nat.{ℕ, _+_, _≤_, _<_};
+ghost use mathlib.Core.Bool.{true, _||_};
+ghost use Prim.Native.Nat.{ℕ, _+_, _≤_};
+ghost use lib.Dec.{eqb};
 ghost use lib.ListN.{length};
 ghost use Rattle.xdr.specs.Buffer.{filled};
 ghost use Rattle.xdr.specs.Fields.{word};
 ghost use Rattle.xdr.specs.Filling.{fillingAnswer, Fills};
-ghost use Rattle.xdr.specs.Format.{nothing, encode};
+ghost use Rattle.xdr.specs.Format.{encode};
 ghost use Rattle.xdr.specs.Pad.{padded};
-ghost use Rattle.message.specs.Message.{index, message};
-ghost use Rattle.message_write.specs.Steps.{writingBody};
+ghost use Rattle.message.specs.Message.{message};
 ghost use Rattle.message_write.specs.Writing.{indexBytes, requestBytes, responseBytes, writing};
 use crate::check::admitted;
 use crate::check::check_index;
@@ -64,8 +65,8 @@ fn store_request(
 
 // An Index or an IndexUpdate: its files are an encoded array, and bytes after the array's end do not count.
 fn put_index(out: &mut [u8], id: u32, kind: u32, repository: &[u8], files: &[u8]) -> Filling
-    requires { ⌜ kind < 256 ⌝ }
-    ensures { λ r. ⌜ Fills (writingBody index id kind (indexBytes (now (repository .entry)) (now (files .entry))))
+    requires { ⌜ (eqb kind 1 || eqb kind 6) ≡ true ⌝ }
+    ensures { λ r. ⌜ Fills (writing message id kind (indexBytes (now (repository .entry)) (now (files .entry))))
         (now (out .entry)) r (now (out .exit)) ⌝ }
 {
     let answer = admitted(id, check_index(repository, files), out.len());
@@ -80,8 +81,8 @@ fn put_index(out: &mut [u8], id: u32, kind: u32, repository: &[u8], files: &[u8]
 
 // A Ping or a Pong: nothing behind the header.
 fn put_nothing(out: &mut [u8], id: u32, kind: u32) -> Filling
-    requires { ⌜ kind < 256 ⌝ }
-    ensures { λ r. ⌜ Fills (writingBody nothing id kind []) (now (out .entry)) r (now (out .exit)) ⌝ }
+    requires { ⌜ (eqb kind 4 || eqb kind 5) ≡ true ⌝ }
+    ensures { λ r. ⌜ Fills (writing message id kind []) (now (out .entry)) r (now (out .exit)) ⌝ }
 {
     let answer = admitted(id, Filling::Filled(4), out.len());
     let Filling::Filled(_) = answer else {

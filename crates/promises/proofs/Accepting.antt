@@ -21,7 +21,7 @@ use Rattle.table.specs.Table.{isGood, isWithin, records, tableOf, resultingTabl
 use Rattle.order.proofs.SameLaws.{is-same}
 use Rattle.record.proofs.RisingLaws.{both-true}
 use Rattle.table.specs.Steps.Standing.{AllValid}
-use Rattle.table.proofs.RoomLaws.{not-given}
+use Rattle.xdr.proofs.FillingLaws.{not-given}
 use Rattle.table.proofs.TableLaws.{good-table, array-records}
 use Rattle.accept.specs.Resulting.{isNamed, resulting}
 use Rattle.accept.specs.Accepting.{unrepeated, ofRecords, firstRecord, ofIndex, ofKind, ofReading, acceptOutcome}

@@ -9,7 +9,7 @@ use lib.ListN.{length}
 use Rattle.record.specs.File.{File}
 use Rattle.xdr.specs.Filling.{Outcome, gives, refuses, inRoom, bufferAfter}
 use Rattle.table.specs.Table.{isGood, allGood, isWithin, records, tableOf, resultingTable}
-use Rattle.table.proofs.RoomLaws.{not-given, given-room}
+use Rattle.xdr.proofs.FillingLaws.{not-given, given-room}
 use Rattle.record.proofs.RisingLaws.{both-true}
 use Rattle.table.proofs.TableLaws.{GoodTable, good-table, table-good, records-of}
 use Rattle.merge.specs.Merged.{mergedOf}

@@ -16,6 +16,7 @@ use Rattle.message.specs.Answers.{messageIn}
 use Rattle.message.specs.Kinds.{responseIn}
 use Rattle.message.specs.declared.kind.ResponseIn.{ResponseIn}
 use Rattle.message_write.specs.Writing.{requestBytes, writing}
+use Rattle.xdr.proofs.FillingLaws.{given-room}
 use Rattle.link.specs.Requests.{total}
 use Rattle.link.specs.OneLink.{windowFits, outstanding, emptyLink, issuing, appended, issuedLink, answeredBy, emptied}
 use Rattle.link.specs.History as link
@@ -28,7 +29,7 @@ use Rattle.link.proofs.LinkLaws.{Orderly, orderly-facts}
 use Rattle.link.proofs.IssueLaws.{issuing-tells}
 use Rattle.link.proofs.AnswerLaws.{AnswerWas, kept, freed, answer-was}
 use Rattle.link.proofs.Moves.{Good, nextRequest, outstanding-appended, total-append, outstanding-without}
-use Rattle.link.proofs.HistoryLaws.{room-given, link-run, opened-good, windows-kept}
+use Rattle.link.proofs.HistoryLaws.{link-run, opened-good, windows-kept}
 use Rattle.queue.specs.Queue.{allowance, isSound, opening, issueOutcome, fromLink, answerOf, dropOf}
 use Rattle.queue.specs.declared.queue.RequestQueue.{RequestQueue}
 use Rattle.queue.specs.declared.outcome.Emptied.{Emptied}
@@ -74,7 +75,7 @@ issue-within : (q : Link) (r n : List ℕ) (o size : ℕ) (h : List ℕ) (room :
     → total (outstanding q) ≤ allowance → total (outstanding (issuedLink q size x)) ≤ allowance
 issue-within q r n o size h room (gives l) e g t =
     let s : Orderly q = orderly-facts q (g .orderly) in
-    let a = issuing-tells (total (outstanding q)) allowance q r n o size h l s (room-given room (issuing (total (outstanding q)) allowance q (requestBytes r n o size h) size) l e) in
+    let a = issuing-tells (total (outstanding q)) allowance q r n o size h l s (given-room room (issuing (total (outstanding q)) allowance q (requestBytes r n o size h) size) l e .0) in
     let out : outstanding (appended q size) ≡ outstanding q ++ (nextRequest q size ∷ []) = outstanding-appended q size (omega (arith, g .long, a .0, s .high)) in
     rw (out, total-append (outstanding q) (nextRequest q size)) (a .2)
 issue-within q r n o size h room (refuses k p) e g t = t

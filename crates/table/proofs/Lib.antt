@@ -3,7 +3,6 @@ pub mod NewestLaws
 pub mod TableLaws
 pub mod WalkLaws
 pub mod PassLaws
-pub mod RoomLaws
 pub mod InsertLaws
 pub mod UnionLaws
 pub mod SideLaws

@@ -11,7 +11,7 @@ use Rattle.xdr.specs.Fields.{word, hyper}
 use Rattle.xdr.specs.Buffer.{filled}
 use Rattle.xdr.proofs.EncodedSize.{number-size}
 use Rattle.xdr.proofs.BufferLaws.{FilledTo, filled-none, put-next, opaque-count, opaque-next}
-use Rattle.message_write.proofs.RequestLaws.{request-size, request-grouped}
+use Rattle.message_write.proofs.Behind.{request-size, request-grouped}
 use Rattle.message_write.proofs.write.store_request.Statement.{statement}
 use Rattle.message_write.proofs.write.store_request.Tie as tie
 
