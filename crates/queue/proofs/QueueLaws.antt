@@ -16,7 +16,8 @@ use Rattle.link.specs.declared.list.Tally.the-variants.{Unsound, Bytes}
 use Rattle.link.specs.declared.outcome.LinkIssued.{LinkIssued}
 use Rattle.link.proofs.RequestLaws.{both}
 use Rattle.link.proofs.LinkLaws.{tally-bytes, tally-unsound, bytes-of, unsound-of}
-use Rattle.queue.specs.Queue.{allowance, isSound, issueOutcome, soundBytes}
+use Rattle.queue.specs.Queue.{allowance, isSound, issueOutcome}
+use Rattle.queue.specs.Steps.{soundBytes}
 use Rattle.queue.specs.declared.queue.RequestQueue.{RequestQueue}
 
 module _ (q : RequestQueue) where

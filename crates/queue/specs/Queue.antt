@@ -9,8 +9,6 @@ use Rattle.message.specs.Kinds.{responseIn}
 use Rattle.message.specs.declared.answer.Message.{Message}
 use Rattle.link.specs.Requests.{total}
 use Rattle.link.specs.OneLink.{windowFits, outstanding, isOrderly, emptyLink, issuing, answeredBy, emptied}
-use Rattle.link.specs.declared.list.Tally.{Tally}
-use Rattle.link.specs.declared.list.Tally.the-variants.{Unsound, Bytes}
 use Rattle.link.specs.declared.outcome.LinkIssued.{LinkIssued}
 use Rattle.link.specs.declared.outcome.LinkAnswered.{LinkAnswered}
 use Rattle.link.specs.declared.outcome.Release.the-variants as R
@@ -61,7 +59,3 @@ dropOf q =
     cond (isSound q)
     (record { queue = record { link = emptied (q .link) }; verdict = Verdict.Accepted })
     (record { queue = q; verdict = Verdict.Refused (atStart 22) })
-
--- for the steps of the calls: the bytes outstanding of a sound queue, or that it is none
-abbrev pub soundBytes : RequestQueue → Tally
-soundBytes q = cond (isSound q) (Bytes (total (outstanding (q .link)))) Unsound
