@@ -67,7 +67,8 @@ pub extern "C" fn bep_write_request(
     hash: &[u8],
     answer: &mut [u64; 1],
 ) -> u32
-    ensures { λ r. ⌜ Wrote (writing message id 2 (requestBytes (now (repository .entry)) (now (name .entry)) offset length (now (hash .entry))))
+    ensures { λ r. ⌜ Wrote (writing message id 2
+        (requestBytes (now (repository .entry)) (now (name .entry)) offset length (now (hash .entry))))
         (now (out .entry)) r (now (answer .exit)) (now (out .exit)) ⌝ }
 {
     let w = message_write::write_request(out, id, repository, name, offset, length, hash);
