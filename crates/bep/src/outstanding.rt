@@ -138,7 +138,8 @@ pub extern "C" fn bep_queue_issue(
     hash: &[u8],
     answer: &mut [u64; 2],
 ) -> u32
-    ensures { λ r. ⌜ QueueIssues (now (queue .entry)) (requestBytes (now (repository .entry)) (now (name .entry)) offset size (now (hash .entry))) size
+    ensures { λ r. ⌜ QueueIssues (now (queue .entry))
+        (requestBytes (now (repository .entry)) (now (name .entry)) offset size (now (hash .entry))) size
         (now (out .entry)) r (now (answer .exit)) (now (queue .exit)) (now (out .exit)) ⌝ }
 {
     let before = unpacked(queue);

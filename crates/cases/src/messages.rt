@@ -45,7 +45,7 @@ fn answer(m: Message) {
             let name = x.name;
             span(b", name ", name);
             number(b", offset ", x.offset);
-            number(b", length ", x.length as u64);
+            number(b", length ", x.size as u64);
             let hash = x.hash;
             span(b", hash ", hash);
             number(b", end ", x.end as u64);

@@ -201,7 +201,8 @@ impl Link {
         hash: &[u8],
         out: &mut [u8],
     ) -> LinkIssued
-        ensures { λ r. ⌜ Issues (issuing held limit self (requestBytes (now (repository .entry)) (now (name .entry)) offset size (now (hash .entry))) size)
+        ensures { λ r. ⌜ Issues (issuing held limit self
+            (requestBytes (now (repository .entry)) (now (name .entry)) offset size (now (hash .entry))) size)
             self size (now (out .entry)) r (now (out .exit)) ⌝ }
     {
         let fault = self.fault_within(held, limit, size);

@@ -53,7 +53,8 @@ fn store_request(
     requires { ⌜ (length (now repository) ≤ 64) × (length (now name) ≤ 255) × (length (now hash) ≤ 32) ⌝ }
     requires { ⌜ 4 + length (requestBytes (now repository) (now name) offset size (now hash)) ≤ length (now out) ⌝ }
     ensures { λ _. ⌜ now (out .exit)
-        ≡ filled (now (out .entry)) (encode word head ++ requestBytes (now (repository .entry)) (now (name .entry)) offset size (now (hash .entry))) ⌝ }
+        ≡ filled (now (out .entry)) (encode word head ++
+        requestBytes (now (repository .entry)) (now (name .entry)) offset size (now (hash .entry))) ⌝ }
 {
     xdr::put_word(out, 0, head);
     let name_at = 4 + xdr::put_bytes(out, 4, repository);
@@ -111,7 +112,8 @@ pub fn write_index_update(out: &mut [u8], id: u32, repository: &[u8], files: &[u
 // How many bytes a Request takes, or its refusal: what writing it answers where there is room.
 pub fn request_size(id: u32, repository: &[u8], name: &[u8], size: u32, hash: &[u8]) -> Filling
     ensures { λ r. ⌜ ((offset : ℕ)
-        → r ≡ fillingAnswer (writing message id 2 (requestBytes (now (repository .entry)) (now (name .entry)) offset size (now (hash .entry))))) ⌝ }
+        → r ≡ fillingAnswer (writing message id 2
+        (requestBytes (now (repository .entry)) (now (name .entry)) offset size (now (hash .entry))))) ⌝ }
 {
     if ID_LIMIT < id {
         return xdr::refused(5);
@@ -129,7 +131,8 @@ pub fn write_request(
     size: u32,
     hash: &[u8],
 ) -> Filling
-    ensures { λ r. ⌜ Fills (writing message id 2 (requestBytes (now (repository .entry)) (now (name .entry)) offset size (now (hash .entry))))
+    ensures { λ r. ⌜ Fills (writing message id 2
+        (requestBytes (now (repository .entry)) (now (name .entry)) offset size (now (hash .entry))))
         (now (out .entry)) r (now (out .exit)) ⌝ }
 {
     let answer = admitted(id, check_request(repository, name, size, hash), out.len());

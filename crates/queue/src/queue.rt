@@ -105,7 +105,8 @@ impl RequestQueue {
         hash: &[u8],
         out: &mut [u8],
     ) -> Issued
-        ensures { λ r. ⌜ Issues (issueOutcome self (requestBytes (now (repository .entry)) (now (name .entry)) offset size (now (hash .entry))) size)
+        ensures { λ r. ⌜ Issues (issueOutcome self
+            (requestBytes (now (repository .entry)) (now (name .entry)) offset size (now (hash .entry))) size)
             (self .link) size (now (out .entry)) (linkIssued r) (now (out .exit)) ⌝ }
     {
         let Tally::Bytes(held) = self.sound_bytes() else {
