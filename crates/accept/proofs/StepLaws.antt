@@ -11,27 +11,35 @@ use lib.Seq.{drop-cons}
 use Rattle.xdr.specs.Format.{encode}
 use Rattle.record.specs.File.{File, file}
 use Rattle.record.specs.Outline.{outlineOf, fieldsOf}
+use Rattle.record.specs.declared.outline.RecordFields.{RecordFields}
+use Rattle.record.specs.declared.outline.Outline.{Outline}
+use Rattle.order.specs.Order.{compareLists, part}
+use Rattle.order.specs.declared.compare.Order.{Order}
 use Rattle.table.specs.Newest.{bit}
-use Rattle.table.specs.Steps.Side.{sideAt}
+use Rattle.table.specs.Steps.Side.{sideBy, sideOfTwo, sideOf}
 use Rattle.table.specs.Steps.Standing.{At}
 use Rattle.table.specs.declared.side.Side.{Side}
 use Rattle.table.proofs.WalkLaws.{at-last, standing}
 use Rattle.table.proofs.UnionLaws.{union, union-equal, union-right, left-first, right-first}
-use Rattle.table.proofs.SideLaws.{Shows, shows-first, shows-at, Told, told-none, told-left, told-right, told-both, told}
+use Rattle.table.proofs.SideLaws.{side-by, two-by, Shows, shows-first, shows-at, Told, told-none, told-left, told-right, told-both, told}
 use Rattle.merge.specs.Steps.Next.{fromLeft, nextBy, stepBytes}
 use Rattle.merge.specs.declared.next.Step.{Step}
 use Rattle.merge.specs.declared.next.Next.{Next}
 use Rattle.merge.specs.declared.next.Next.the-variants.{End, More}
-use Rattle.merge.proofs.NextLaws.{side-next}
 use Rattle.accept.specs.Resulting.{replacing}
 use Rattle.accept.specs.Steps.Next.{placeOf, replacingStep, nextOver}
 use Rattle.accept.specs.Steps.Sorted.{Places}
 use Rattle.accept.proofs.PlaceLaws.{Stood}
 
 -- by the answers that were given and what they are
-pub next-by : (s : List ℕ) (at : ℕ) (old : List ℕ) (j : ℕ) {t u : Side} {r : Next} → t ≡ sideAt s at old j → t ≡ u → r ≡ nextBy (replacingStep at) at j u → r ≡ nextOver s at old j
+pub next-by : (s : List ℕ) (at : ℕ) (old : List ℕ) (j : ℕ) {x y u v : Outline} {r : Next}
+    → x ≡ outlineOf s at → x ≡ u → y ≡ outlineOf old j → y ≡ v → r ≡ nextBy (replacingStep at) at j (sideOf s u old v) → r ≡ nextOver s at old j
 unfolding nextOver
-next-by s at old j e f k = side-next (replacingStep at) s at old j e f k
+next-by s at old j e f g h k = k ∙ ap (nextBy (replacingStep at) at j) (side-by s at old j e f g h refl)
+
+pub names-by : (s : List ℕ) (at : ℕ) (f : RecordFields) (old : List ℕ) (j : ℕ) (g : Fields) {x o : Order} {r : Next} → x ≡ compareLists (part s (f .name) (f .stop)) (part old (g .name) (g .stop)) → x ≡ o
+    → r ≡ nextBy (replacingStep at) at j (sideBy o f g) → r ≡ nextBy (replacingStep at) at j (sideOfTwo s f old g)
+names-by s at f old j g e h k = k ∙ ap (nextBy (replacingStep at) at j) (two-by s f old g e h)
 
 -- what is left of the places
 

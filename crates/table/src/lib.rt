@@ -3,6 +3,8 @@ pub mod good;
 pub mod newest;
 pub mod side;
 
+pub use good::BYTES_LIMIT;
+pub use good::RECORDS_LIMIT;
 pub use good::is_good;
 pub use good::within_limits;
 pub use newest::compare_records;
