@@ -37,7 +37,7 @@ pub next-by : (s : List ℕ) (at : ℕ) (old : List ℕ) (j : ℕ) {x y u v : Ou
 unfolding nextOver
 next-by s at old j e f g h k = k ∙ ap (nextBy (replacingStep at) at j) (side-by s at old j e f g h refl)
 
-pub names-by : (s : List ℕ) (at : ℕ) (f : RecordFields) (old : List ℕ) (j : ℕ) (g : Fields) {x o : Order} {r : Next} → x ≡ compareLists (part s (f .name) (f .stop)) (part old (g .name) (g .stop)) → x ≡ o
+pub names-by : (s : List ℕ) (at : ℕ) (f : RecordFields) (old : List ℕ) (j : ℕ) (g : RecordFields) {x o : Order} {r : Next} → x ≡ compareLists (part s (f .name) (f .stop)) (part old (g .name) (g .stop)) → x ≡ o
     → r ≡ nextBy (replacingStep at) at j (sideBy o f g) → r ≡ nextBy (replacingStep at) at j (sideOfTwo s f old g)
 names-by s at f old j g e h k = k ∙ ap (nextBy (replacingStep at) at j) (two-by s f old g e h)
 
