@@ -135,7 +135,8 @@ fn read_index(s: &[u8]) -> IndexIn
 // The sender's new table: of the records of an Index, or of an IndexUpdate and the old records that it doesn't mention, in the first bytes of
 // the buffer.
 pub fn accept(old: &[u8], message: &[u8], repository: &[u8], out: &mut [u8]) -> Filling
-    ensures { λ r. ⌜ Fills (acceptOutcome (now (old .entry)) (now (message .entry)) (now (repository .entry))) (now (out .entry)) r (now (out .exit)) ⌝ }
+    ensures { λ r. ⌜ Fills (acceptOutcome (now (old .entry)) (now (message .entry)) (now (repository .entry)))
+        (now (out .entry)) r (now (out .exit)) ⌝ }
 {
     if !table::is_good(old) {
         return xdr::refused(15);

@@ -59,7 +59,8 @@ pub extern "C" fn bep_file(files: &[u8], at: usize, answer: &mut [u64; 8]) -> u3
 // The option at a place.
 #[no_mangle]
 pub extern "C" fn bep_option(options: &[u8], at: usize, answer: &mut [u64; 5]) -> u32
-    ensures { λ r. ⌜ (r ≡ optionNumber (optionOf (now (options .entry)) at)) × (now (answer .exit) ≡ optionWords (optionOf (now (options .entry)) at)) ⌝ }
+    ensures { λ r. ⌜ (r ≡ optionNumber (optionOf (now (options .entry)) at))
+        × (now (answer .exit) ≡ optionWords (optionOf (now (options .entry)) at)) ⌝ }
 {
     let outline = record::option_at(options, at);
     let OptionOutline::Whole(f) = outline else {

@@ -11,11 +11,11 @@ ghost use Rattle.link.specs.Steps.{orderlyBytes, barredAnswer, issuedBy}
 use crate::outcome::LinkAnswered;
 use crate::outcome::LinkIssued;
 use crate::outcome::Release;
-use crate::request::LAST_ID;
 use crate::request::Request;
 use crate::request::following;
 use crate::request::shifted;
 use crate::request::stands_before;
+use message::ID_LIMIT;
 use message::ResponseIn;
 use message::Span;
 use xdr::Filling;
@@ -105,7 +105,7 @@ impl Link {
         if self.window < self.count {
             return false;
         }
-        self.next <= LAST_ID
+        self.next <= ID_LIMIT
     }
 
     // The bytes outstanding, from the youngest request to the oldest, each held to the ID that follows it.

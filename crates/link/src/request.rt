@@ -3,6 +3,7 @@ ghost use mathlib.Core.Path.{_≡_};
 ghost use mathlib.Core.List.{_++_, [], _∷_};
 ghost use lib.ListN.{drop};
 ghost use Rattle.link.specs.Requests.{after, blank, standsBefore};
+use message::ID_LIMIT;
 
 // An outstanding request: its ID and its Length.
 pub struct Request {
@@ -10,21 +11,18 @@ pub struct Request {
     pub size: u32,
 }
 
-// The highest Message ID.
-pub const LAST_ID: u32 = 4095;
-
 // The ID that follows: 0 after 4095.
 pub fn following(id: u32) -> u32
     ensures { λ r. ⌜ r ≡ after id ⌝ }
 {
-    if id < LAST_ID { id + 1 } else { 0 }
+    if id < ID_LIMIT { id + 1 } else { 0 }
 }
 
 // Whether a request can stand before one with the ID `next`.
 pub fn stands_before(e: Request, next: u32) -> bool
     ensures { λ r. ⌜ r ≡ standsBefore e next ⌝ }
 {
-    if LAST_ID < e.id {
+    if ID_LIMIT < e.id {
         return false;
     }
     if following(e.id) != next {

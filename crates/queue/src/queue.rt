@@ -25,9 +25,6 @@ impl RequestQueue {
     // The default window.
     pub const WINDOW: u32 = 16;
 
-    // The largest window, which is as many entries as a link has.
-    pub const WINDOW_LIMIT: u32 = 16;
-
     // The byte allowance.
     pub const ALLOWANCE: u32 = 524288;
 

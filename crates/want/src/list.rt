@@ -105,7 +105,8 @@ fn fill_block(
     requires { ⌜ blockPlace first j + 40 ≤ length (now t) ⌝ }
     requires { ⌜ at + length (listBytes (wantedHere (map now tables) places (now name) file j offset (now t) first)) ≤ length (now out) ⌝ }
     ensures { λ r. ⌜ r ≡ length (listBytes (wantedHere (map now (tables .entry)) places (now (name .entry)) file j offset (now (t .entry)) first)) ⌝ }
-    ensures { λ _. ⌜ now (out .exit) ≡ over (now (out .entry)) at (listBytes (wantedHere (map now (tables .entry)) places (now (name .entry)) file j offset (now (t .entry)) first)) ⌝ }
+    ensures { λ _. ⌜ now (out .exit) ≡ over (now (out .entry)) at
+        (listBytes (wantedHere (map now (tables .entry)) places (now (name .entry)) file j offset (now (t .entry)) first)) ⌝ }
 {
     let size = block_size(t, first, j);
     let hash = block_hash(t, first, j);
@@ -142,8 +143,10 @@ fn fill_blocks(
     requires { ⌜ isGood (tableAt (map now tables) 0) ≡ true ⌝ }
     requires { ⌜ first + blocksSize count ≤ length (now t) ⌝ }
     requires { ⌜ at + length (listBytes (wantedFrom (map now tables) places (now name) file 0 0 (now t) first count)) ≤ length (now out) ⌝ }
-    ensures { λ r. ⌜ r ≡ at + length (listBytes (wantedFrom (map now (tables .entry)) places (now (name .entry)) file 0 0 (now (t .entry)) first count)) ⌝ }
-    ensures { λ _. ⌜ now (out .exit) ≡ over (now (out .entry)) at (listBytes (wantedFrom (map now (tables .entry)) places (now (name .entry)) file 0 0 (now (t .entry)) first count)) ⌝ }
+    ensures { λ r. ⌜ r ≡ at + length
+        (listBytes (wantedFrom (map now (tables .entry)) places (now (name .entry)) file 0 0 (now (t .entry)) first count)) ⌝ }
+    ensures { λ _. ⌜ now (out .exit) ≡ over (now (out .entry)) at
+        (listBytes (wantedFrom (map now (tables .entry)) places (now (name .entry)) file 0 0 (now (t .entry)) first count)) ⌝ }
 {
     let mut next = at;
     let mut offset: u64 = 0;
