@@ -5,8 +5,8 @@ use mathlib.Core.Path.{_≡_, refl, sym, ap, subst, _∙_}
 use mathlib.Core.Bool.{Bool, true, false, cond, _||_}
 use mathlib.Core.List.{List}
 use lib.ListN.{length}
-use lib.Dec.{leb}
-use borrow.Author.Tests.{leb-true, leb-false}
+use lib.Dec.{leb, eqb}
+use borrow.Author.Tests.{leb-true, leb-false, ne-eqb}
 use Rattle.xdr.specs.Filling.{Outcome, gives, refuses, inRoom, fillingAnswer, Fills}
 use Rattle.xdr.specs.declared.filling.Filling.{Filling}
 use Rattle.xdr.proofs.FillingLaws.{fills-same, fills-refused}
@@ -14,6 +14,7 @@ use Rattle.record.specs.Block.{isSize}
 use Rattle.message.specs.Message.{message}
 use Rattle.message_write.specs.Writing.{requestBytes, writing}
 use Rattle.message_write.proofs.WrittenRequest.{written-size}
+use Rattle.message_write.proofs.Numbers.{writing-never}
 use Rattle.link.specs.OneLink.{isFull, faultWithin, withFault, issuing, issuedLink, Issues}
 use Rattle.link.specs.Steps.{barredAnswer, appendedBy, issuedBy}
 use Rattle.link.specs.declared.list.Link.{Link}
@@ -40,19 +41,26 @@ module _ (held limit : ℕ) (q : Link) (b : List ℕ) (size : ℕ) (out : List �
       by-answer (refuses k p) = refl
 
   -- 16 or 17, where there is no fault of the fields
-  pub issue-barred : (k : ℕ) → k ≡ faultWithin held limit q size → (k ≡ 0 → ⊥) → {a w : Filling} → a ≡ fillingAnswer told → w ≡ barredAnswer k a
+  pub issue-barred : (k : ℕ) → k ≡ faultWithin held limit q size → (k ≡ 0 → ⊥) → (room : ℕ) {a w : Filling} → a ≡ fillingAnswer (inRoom room told) → w ≡ barredAnswer k a
       → Issues (issuing held limit q b size) q size out (record { link = q; id = q .next; filling = w }) out
-  issue-barred zero f n e g = absurd (n refl)
-  issue-barred (suc k) f n {a} {w} e g = go told refl
+  issue-barred zero f n room e g = absurd (n refl)
+  issue-barred (suc k) f n room {a} {w} e g = go told refl
     where
       refusal : (m p : ℕ) → withFault (suc k) told ≡ refuses m p → w ≡ fillingAnswer (refuses m p) → Issues (issuing held limit q b size) q size out (record { link = q; id = q .next; filling = w }) out
       refusal m p x y =
           let z : issuing held limit q b size ≡ refuses m p = ap (λ (n : ℕ). withFault n told) (sym f) ∙ x in
           record { fills = fills-refused out z y; id = refl; link = ap (λ (v : Outcome). issuedLink q size (inRoom (length out) v)) (sym z) }
 
+      by-room : (l : List ℕ) (t : Bool) → barredAnswer (suc k) (fillingAnswer (cond t (gives l) (refuses 14 0))) ≡ fillingAnswer (refuses (suc k) 0)
+      by-room l true = refl
+      by-room l false = refl
+
       go : (o : Outcome) → told ≡ o → Issues (issuing held limit q b size) q size out (record { link = q; id = q .next; filling = w }) out
-      go (gives l) p = refusal (suc k) 0 (ap (withFault (suc k)) p) (g ∙ ap (barredAnswer (suc k)) (e ∙ ap fillingAnswer p))
-      go (refuses m i) p = refusal m i (ap (withFault (suc k)) p) (g ∙ ap (barredAnswer (suc k)) (e ∙ ap fillingAnswer p))
+      go (gives l) p = refusal (suc k) 0 (ap (withFault (suc k)) p) (g ∙ ap (barredAnswer (suc k)) (e ∙ ap (λ (o : Outcome). fillingAnswer (inRoom room o)) p) ∙ by-room l (leb (length l) room))
+      go (refuses m i) p =
+          let other : eqb m 14 ≡ false = ne-eqb m 14 (writing-never (q .next) 2 b m i p .1) in
+          refusal m i (ap (withFault (suc k)) p)
+          (g ∙ ap (barredAnswer (suc k)) (e ∙ ap (λ (o : Outcome). fillingAnswer (inRoom room o)) p) ∙ ap (λ (t : Bool). cond t (fillingAnswer (refuses (suc k) 0)) (fillingAnswer (refuses m i))) other)
 
 passes : (a b : Bool) → _≡_ {A = ℕ} 0 (cond a 16 (cond b 0 17)) → (a ≡ false) × (b ≡ true)
 passes true b e = absurd (omega arith)

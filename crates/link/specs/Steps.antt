@@ -1,6 +1,7 @@
 -- The steps of a link's calls.
 use Prim.Native.Nat.{ℕ}
 use mathlib.Core.Bool.{cond}
+use lib.Dec.{eqb}
 use Rattle.xdr.specs.Filling.{refuses, fillingAnswer}
 use Rattle.xdr.specs.declared.filling.Filling.{Filling}
 use Rattle.xdr.specs.declared.filling.Filling.the-variants as F
@@ -15,10 +16,10 @@ use Rattle.link.specs.declared.outcome.LinkIssued.{LinkIssued}
 abbrev pub orderlyBytes : Link → Tally
 orderlyBytes q = cond (isOrderly q) (Bytes (total (outstanding q))) Unsound
 
--- the answer for a request that the window or the limit does not let pass: a fault of its fields, or else theirs
+-- the answer for a request that the window or the limit does not let pass, by what writing it into no room answered: a fault of its fields, or else theirs
 abbrev pub barredAnswer : (fault : ℕ) → Filling → Filling
 barredAnswer fault (F.Filled n) = fillingAnswer (refuses fault 0)
-barredAnswer fault (F.Refused r) = F.Refused r
+barredAnswer fault (F.Refused r) = cond (eqb (r .number) 14) (fillingAnswer (refuses fault 0)) (F.Refused r)
 
 -- the link after a writer's answer
 abbrev pub appendedBy : Link → (size : ℕ) → Filling → Link

@@ -69,14 +69,18 @@ fn settled(oldest: Request, data: Span) -> Release
     }
 }
 
-// The answer for a request that the window or the limit does not let pass: a fault of its fields comes first.
+// The answer for a request that the window or the limit does not let pass, by what writing it into no room answered: a fault of its fields
+// comes first.
 fn barred(fault: u32, answer: Filling) -> Filling
     ensures { λ r. ⌜ r ≡ barredAnswer fault answer ⌝ }
 {
-    let Filling::Filled(_) = answer else {
-        return answer;
+    let Filling::Refused(r) = answer else {
+        return xdr::refused(fault);
     };
-    xdr::refused(fault)
+    if r.number == 14 {
+        return xdr::refused(fault);
+    }
+    answer
 }
 
 impl Link {
@@ -207,7 +211,16 @@ impl Link {
     {
         let fault = self.fault_within(held, limit, size);
         if fault != 0 {
-            let answer = message_write::request_size(self.next, repository, name, size, hash);
+            let mut none = [0u8; 1];
+            let answer = message_write::write_request(
+                &mut none,
+                self.next,
+                repository,
+                name,
+                offset,
+                size,
+                hash,
+            );
             return LinkIssued {
                 link: self,
                 id: self.next,

@@ -3,3 +3,4 @@ pub mod Behind
 pub mod WritingLaws
 pub mod BodyLaws
 pub mod WrittenRequest
+pub mod Numbers

@@ -5,7 +5,6 @@
 mod check;
 pub mod write;
 
-pub use write::request_size;
 pub use write::write_index;
 pub use write::write_index_update;
 pub use write::write_options;

@@ -2,12 +2,12 @@
 ghost use mathlib.Core.Path.{_≡_};
 ghost use mathlib.Core.List.{[], _++_};
 ghost use mathlib.Core.Bool.{true, _||_};
-ghost use Prim.Native.Nat.{ℕ, _+_, _≤_};
+ghost use Prim.Native.Nat.{_+_, _≤_};
 ghost use lib.Dec.{eqb};
 ghost use lib.ListN.{length};
 ghost use Rattle.xdr.specs.Buffer.{filled};
 ghost use Rattle.xdr.specs.Fields.{word};
-ghost use Rattle.xdr.specs.Filling.{fillingAnswer, Fills};
+ghost use Rattle.xdr.specs.Filling.{Fills};
 ghost use Rattle.xdr.specs.Format.{encode};
 ghost use Rattle.xdr.specs.Pad.{padded};
 ghost use Rattle.message.specs.Message.{message};
@@ -107,18 +107,6 @@ pub fn write_index_update(out: &mut [u8], id: u32, repository: &[u8], files: &[u
         (now (out .entry)) r (now (out .exit)) ⌝ }
 {
     put_index(out, id, 6, repository, files)
-}
-
-// How many bytes a Request takes, or its refusal: what writing it answers where there is room.
-pub fn request_size(id: u32, repository: &[u8], name: &[u8], size: u32, hash: &[u8]) -> Filling
-    ensures { λ r. ⌜ ((offset : ℕ)
-        → r ≡ fillingAnswer (writing message id 2
-        (requestBytes (now (repository .entry)) (now (name .entry)) offset size (now (hash .entry))))) ⌝ }
-{
-    if ID_LIMIT < id {
-        return xdr::refused(5);
-    }
-    check_request(repository, name, size, hash)
 }
 
 // A Request.

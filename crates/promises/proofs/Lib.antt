@@ -1,7 +1,6 @@
 -- The promises.
 pub mod Worked
 pub mod Messages
-pub mod Numbers
 mod MemoryLaws
 pub mod Merges
 pub mod SampleMerges

@@ -14,22 +14,29 @@ body c = let a = c .args in requestBytes (now (a .repository)) (now (a .name)) (
 
 returns : tie.Need-returns
 returns c =
-    let a = c .before .before .before .before .before .before .before .before .args in
-    issue-barred (a .held) (a .limit) (a .self) (body (c .before .before .before .before .before .before .before .before)) (a .size) (now (a .out)) _ (c .before .before .before .fault-within .ensures) (c .before .before .if1 .taken) (c .before .request-size .ensures (a .offset)) (c .barred .ensures)
+    let start = c .before .before .before .before .before .before .before .before .before .before in
+    let a = start .args in
+    issue-barred (a .held) (a .limit) (a .self) (body start) (a .size) (now (a .out)) _ (c .before .before .before .before .before .fault-within .ensures) (c .before .before .before .before .if1 .taken) _
+    (c .before .before .write-request .ensures .answered) (c .barred .ensures)
 
 issued-requires : tie.Need-issued-requires
-issued-requires c κs = let a = c .before .before .before .before .before .before .before .before .before .before .args in unfull (a .held) (a .limit) (a .self) (a .size) (sym (c .before .before .before .before .if1 .left) ∙ c .before .before .before .before .before .fault-within .ensures) .1
+issued-requires c κs =
+    let a = c .before .before .before .before .before .before .before .before .before .before .args in
+    unfull (a .held) (a .limit) (a .self) (a .size) (sym (c .before .before .before .before .if1 .left) ∙ c .before .before .before .before .before .fault-within .ensures) .1
 
 returns-2 : tie.Need-returns-2
 returns-2 c =
-    let a = c .before .before .before .before .before .before .before .before .before .before .before .args in
-    issue-written (a .held) (a .limit) (a .self) (body (c .before .before .before .before .before .before .before .before .before .before .before)) (a .size) (now (a .out)) (sym (c .before .before .before .before .before .if1 .left) ∙ c .before .before .before .before .before .before .fault-within .ensures) (c .before .before .before .write-request .ensures) (c .issued .ensures)
+    let start = c .before .before .before .before .before .before .before .before .before .before .before in
+    let a = start .args in
+    issue-written (a .held) (a .limit) (a .self) (body start) (a .size) (now (a .out)) (sym (c .before .before .before .before .before .if1 .left) ∙ c .before .before .before .before .before .before .fault-within .ensures)
+    (c .before .before .before .write-request2 .ensures) (c .issued .ensures)
 
 pub issue-spec : {M : Type 1} → statement M
 issue-spec =
     tie.close
     (tie.spec
     (λ c κs. search needs)
+    (λ c. search needs)
     (λ c κs. search needs)
     (λ c κs. search needs)
     returns

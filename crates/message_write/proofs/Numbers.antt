@@ -1,4 +1,4 @@
--- Reading and writing messages never refuse with 13: that number is for accepting only. Nor does 14 come from the fields: it is the room's alone.
+-- Writing a message is never refused with 13, which is for accepting only, nor its fields with 14, which is the room's alone.
 use Prim.Native.Nat.{ℕ}
 use native.Mathlib.Omega.{arith}
 use mathlib.Core.Path.{_≡_, refl, _∙_}
@@ -11,10 +11,7 @@ use Rattle.xdr.specs.Filling.{refuses}
 use Rattle.message.specs.Limits.{idLimit}
 use Rattle.message.specs.Message.{MessageValue, message}
 use Rattle.message.proofs.MessageNumbers.{message-number}
 use Rattle.message_write.specs.Writing.{messageBytes, asRead, writing}
-
-pub reading-never : (s : List ℕ) (k p : ℕ) → read message s ≡ refused k p → (k ≡ 13 → ⊥) × (k ≡ 14 → ⊥)
-reading-never s k p e = message-number s k p e
 
 pub writing-never : (id type : ℕ) (b : List ℕ) (k p : ℕ) → writing message id type b ≡ refuses k p → (k ≡ 13 → ⊥) × (k ≡ 14 → ⊥)
 unfolding writing
