@@ -111,9 +111,9 @@ pub fn check_index(repository: &[u8], files: &[u8]) -> Filling
 }
 
 // The body of a Request, whatever its offset.
-pub fn check_request(repository: &[u8], name: &[u8], length: u32, hash: &[u8]) -> Filling
+pub fn check_request(repository: &[u8], name: &[u8], size: u32, hash: &[u8]) -> Filling
     ensures { λ r. ⌜ ((offset : ℕ)
-        → r ≡ bodyCheck request (requestBytes (now (repository .entry)) (now (name .entry)) offset length (now (hash .entry)))) ⌝ }
+        → r ≡ bodyCheck request (requestBytes (now (repository .entry)) (now (name .entry)) offset size (now (hash .entry)))) ⌝ }
 {
     let first = check_text(repository, REPOSITORY_LIMIT);
     let Bytes::Taken(_, repository_size) = first else {
@@ -125,7 +125,7 @@ pub fn check_request(repository: &[u8], name: &[u8], length: u32, hash: &[u8]) -
         return refused_at(second.refusal(), name_at);
     };
     let size_at = name_at + name_size + 8;
-    if !record::is_size(length) {
+    if !record::is_size(size) {
         return Filling::Refused(Refusal {
             number: 10,
             place: size_at,

@@ -73,7 +73,7 @@ long-offset c =
 
 -- the whole message, with an offset
 abbrev whole : tie.After-known-told2 → ℕ → List ℕ
-whole c o = let a = c .before .before .before .before .before .before .before .before .before .before .before .args in behind (requestBytes (now (a .repository)) (now (a .name)) o (a .length) (now (a .hash)))
+whole c o = let a = c .before .before .before .before .before .before .before .before .before .before .before .args in behind (requestBytes (now (a .repository)) (now (a .name)) o (a .size) (now (a .hash)))
 
 abbrev the-hash : tie.After-known-told2 → List ℕ
 the-hash c = encode (bytes word) (now (c .before .before .before .before .before .before .before .before .before .before .before .args .hash))
@@ -81,23 +81,23 @@ the-hash c = encode (bytes word) (now (c .before .before .before .before .before
 offset-there : (c : tie.After-known-told2) (o : ℕ) → Reads hyper (whole c o) (offset-at c) (taken o (offset-at c + 8))
 unfolding Wide
 offset-there c o =
-    let l = encode word (c .before .before .before .before .before .before .before .before .before .before .before .args .length) in
+    let l = encode word (c .before .before .before .before .before .before .before .before .before .before .before .args .size) in
     encoded-at {F = hyper} o (to-offset c) (l ++ the-hash c) (omega arith)
     (sym (append-assoc (to-name (c .before .before .before .before)) (encode (bytes word) (now (c .before .before .before .before .before .before .before .before .before .before .before .args .name))) (encode hyper o ++ (l ++ the-hash c)))) (long-offset c) (number-alone 7 o)
 
-whole-is : (c : tie.After-known-told2) (o : ℕ) → whole c o ≡ (to-offset c ++ encode hyper o) ++ (encode word (c .before .before .before .before .before .before .before .before .before .before .before .args .length) ++ the-hash c)
+whole-is : (c : tie.After-known-told2) (o : ℕ) → whole c o ≡ (to-offset c ++ encode hyper o) ++ (encode word (c .before .before .before .before .before .before .before .before .before .before .before .args .size) ++ the-hash c)
 whole-is c o =
-    let l = encode word (c .before .before .before .before .before .before .before .before .before .before .before .args .length) in
+    let l = encode word (c .before .before .before .before .before .before .before .before .before .before .before .args .size) in
     sym (append-assoc (to-name (c .before .before .before .before)) (encode (bytes word) (now (c .before .before .before .before .before .before .before .before .before .before .before .args .name))) (encode hyper o ++ (l ++ the-hash c)))
     ∙ sym (append-assoc (to-offset c) (encode hyper o) (l ++ the-hash c))
 
 long-length : (c : tie.After-known-told2) (o : ℕ) → length (to-offset c ++ encode hyper o) ≡ offset-at c + 8
 long-length c o = length-append (to-offset c) (encode hyper o) ∙ omega (arith, long-offset c, number-size 8 o)
 
-length-there : (c : tie.After-known-told2) (o : ℕ) → Reads word (whole c o) (offset-at c + 8) (taken (c .before .before .before .before .before .before .before .before .before .before .before .args .length) (offset-at c + 8 + 4))
+length-there : (c : tie.After-known-told2) (o : ℕ) → Reads word (whole c o) (offset-at c + 8) (taken (c .before .before .before .before .before .before .before .before .before .before .before .args .size) (offset-at c + 8 + 4))
 unfolding Wide
 length-there c o =
-    encoded-at {F = word} (c .before .before .before .before .before .before .before .before .before .before .before .args .length) (to-offset c ++ encode hyper o) (the-hash c) (omega arith) (whole-is c o) (long-length c o) (number-alone 3 (c .before .before .before .before .before .before .before .before .before .before .before .args .length))
+    encoded-at {F = word} (c .before .before .before .before .before .before .before .before .before .before .before .args .size) (to-offset c ++ encode hyper o) (the-hash c) (omega arith) (whole-is c o) (long-length c o) (number-alone 3 (c .before .before .before .before .before .before .before .before .before .before .before .args .size))
 
 -- the hash, refused or read, by itself and behind all the rest
 hash-refused : (c : tie.After-refusal3) → Reads hash (encode (bytes word) (now (c .before .before .before .before .before .before .before .before .before .before .before .before .before .before .before .before .before .args .hash))) 0 (refused (c .refusal3 .result .number) (c .refusal3 .result .place))
@@ -110,9 +110,9 @@ hash-read c = bytes-taken (c .before .before .before .check-hash .ensures) (c .b
 hash-there : (c : tie.After-known-told2) (o : ℕ) {r : Reading (List ℕ)}
     → Reads hash (the-hash c) 0 r → Reads hash (whole c o) (offset-at c + 8 + 4) (shifted (offset-at c + 8 + 4) r)
 hash-there c o h =
-    let l = encode word (c .before .before .before .before .before .before .before .before .before .before .before .args .length) in
+    let l = encode word (c .before .before .before .before .before .before .before .before .before .before .before .args .size) in
     last-at ((to-offset c ++ encode hyper o) ++ l) (the-hash c) (whole-is c o ∙ sym (append-assoc (to-offset c ++ encode hyper o) l (the-hash c)))
-    (length-append (to-offset c ++ encode hyper o) l ∙ omega (arith, long-length c o, number-size 4 (c .before .before .before .before .before .before .before .before .before .before .before .args .length))) h
+    (length-append (to-offset c ++ encode hyper o) l ∙ omega (arith, long-length c o, number-size 4 (c .before .before .before .before .before .before .before .before .before .before .before .args .size))) h
 
 refused-at-requires : tie.Need-refused-at-requires
 refused-at-requires c κs =
