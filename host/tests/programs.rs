@@ -188,6 +188,6 @@ fn listing_prints_names_so_that_lines_can_be_told_apart() {
     let printed = run("listing", "odd_name", &[("table", &encode(&[record]))]);
     assert_eq!(
         printed,
-        "0 a\\x7F \\x5Cx41~ deleted modified -9223372036854775808 version 0\n"
+        "0 a\\x7f \\x5cx41~ deleted modified -9223372036854775808 version 0\n"
     );
 }
