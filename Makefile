@@ -2,13 +2,19 @@
 # show: what a sample message holds      cases: the worked cases, a line each      test: the whole gate
 # bench: library and reference side by side      soak N=..: that many generated inputs compared
 .PHONY: run list show cases test bench soak
+SHELL := bash
+.SHELLFLAGS := -eu -o pipefail -c
 
 LIB := target/staticlib/libbep.a
 DIR ?= crates/wanted/data
 
+# A line for each crate, once it is proved.
+PROGRESS := grep --line-buffered '^rt:'
+
 # Proves a program and what it uses, and compiles it.
 target/bin/%: $(wildcard crates/*/src/*.rt)
-	@rt check $* >/dev/null
+	@echo "proving $* and what it uses, some minutes the first time"
+	@rt check $* | $(PROGRESS)
 
 run: target/bin/wanted
 	@cd $(DIR) && $(CURDIR)/target/bin/wanted
@@ -37,4 +43,5 @@ soak: $(LIB)
 	@cd host && SOAK=$(N) cargo test --quiet --release --offline -- generated lists --nocapture
 
 $(LIB): $(wildcard crates/*/src/*.rt)
-	@rt staticlib bep >/dev/null
+	@echo "proving the library, some minutes the first time"
+	@rt staticlib bep | $(PROGRESS)

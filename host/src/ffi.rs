@@ -180,7 +180,7 @@ unsafe extern "C" {
 
     /// Rules on a Request. `answer[0]` is 1 where it is served: `[1]` and `[2]` are start and length
     /// of the name in the message, `[3]` the offset and `[4]` the length. It is 0 where the reply was
-    /// written, and `[1]` its length. Refused, `[1]` is the place.
+    /// written, and `[1]` its length. Refused, `[0]` is the place.
     pub fn bep_serve(
         out: *mut u8,
         out_len: usize,

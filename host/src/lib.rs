@@ -44,6 +44,11 @@
 
 #![deny(missing_docs)]
 
+// The examples of the README are compiled with the others.
+#[cfg(doctest)]
+#[doc = include_str!("../../README.md")]
+struct Readme;
+
 mod answer;
 mod builders;
 mod ffi;

@@ -40,6 +40,28 @@ fn show(program: &Path, message: &[u8]) -> String {
 }
 
 #[test]
+fn the_readme_compiles_and_takes_messages() {
+    let readme = fs::read_to_string(Path::new(MANIFEST).join("../README.md")).unwrap();
+    let (_, example) = readme.split_once("```c\n").expect("an example in C");
+    let (example, _) = example.split_once("```").unwrap();
+    let caller = "
+int main(void)
+{
+    /* a Response with five bytes of data, a Ping, and the first bytes of another message */
+    static const uint8_t input[] = {0, 1, 3, 0, 0, 0, 0, 5, 1, 2, 3, 4, 5, 0, 0, 0, 0, 2, 4, 0, 0, 3};
+    printf(\"%zu taken\\n\", take_messages(input, sizeof input));
+    return 0;
+}
+";
+    let source = scratch("readme.c");
+    fs::write(&source, format!("{example}{caller}")).unwrap();
+    let program = compile(source.to_str().unwrap());
+    let output = Command::new(program).output().unwrap();
+    let printed = String::from_utf8(output.stdout).unwrap();
+    assert_eq!(printed, "5 bytes of data\n20 taken\n");
+}
+
+#[test]
 fn the_c_example_shows_messages() {
     let program = compile("examples/show.c");
 

@@ -64,6 +64,51 @@ fn wanted_prints_nothing_but_a_closing_line_where_nothing_is_wanted() {
     assert_eq!(run("wanted", "all_held", &files), "wanted 0\n");
 }
 
+/// A good table of 65,536 bytes, the most that a table may have: 1,636 blocks.
+fn full_table() -> Vec<u8> {
+    let table = encode(&[file("a", 0..1_024), file(&"b".repeat(40), 1_024..1_636)]);
+    assert_eq!(table.len(), 65_536);
+    table
+}
+
+#[test]
+fn wanted_takes_full_tables_and_refuses_a_byte_more() {
+    let full = full_table();
+    let mut over = full.clone();
+    over.push(0);
+    for (name, blocks) in [
+        ("local", 0),
+        ("peer1", 1_636),
+        ("peer2", 1_636),
+        ("peer3", 1_636),
+        ("peer4", 1_636),
+    ] {
+        let printed = run("wanted", &format!("full_{name}"), &[(name, &full)]);
+        assert!(printed.ends_with(&format!("wanted {blocks}\n")), "{name}");
+        let refused = run("wanted", &format!("over_{name}"), &[(name, &over)]);
+        assert_eq!(refused, "refused 15\n", "{name}");
+    }
+}
+
+#[test]
+fn wanted_asks_each_peer_for_what_it_alone_lists() {
+    let table = |name: &str, number: u32| encode(&[file(name, number..number + 1)]);
+    let (first, second) = (table("a", 1), table("b", 2));
+    let (third, fourth) = (table("c", 3), table("d", 4));
+    let files: [(&str, &[u8]); 4] = [
+        ("peer1", &first),
+        ("peer2", &second),
+        ("peer3", &third),
+        ("peer4", &fourth),
+    ];
+    let expected = "file 0 block 0 offset 0 length 5 peer 1\n\
+                    file 1 block 0 offset 0 length 5 peer 2\n\
+                    file 2 block 0 offset 0 length 5 peer 3\n\
+                    file 3 block 0 offset 0 length 5 peer 4\n\
+                    wanted 4\n";
+    assert_eq!(run("wanted", "each_alone", &files), expected);
+}
+
 #[test]
 fn wanted_refuses_what_is_no_good_table() {
     let long = vec![0; 65_537];
@@ -123,4 +168,26 @@ fn listing_prints_a_line_for_each_record() {
     let printed = run("listing", "full", &[("table", &encode(&files))]);
     assert_eq!(printed.lines().count(), 512);
     assert!(printed.ends_with("511 511 blocks 1 bytes 5 modified 0 version 0\n"));
+}
+
+#[test]
+fn listing_takes_a_full_table_and_refuses_a_byte_more() {
+    let mut table = full_table();
+    let full = run("listing", "full_table", &[("table", &table)]);
+    assert_eq!(full.lines().count(), 2);
+    table.push(0);
+    let over = run("listing", "a_byte_more", &[("table", &table)]);
+    assert_eq!(over, "refused 15\n");
+}
+
+#[test]
+fn listing_prints_names_so_that_lines_can_be_told_apart() {
+    let mut record = file("a\u{7f} \\x41~", 0..0);
+    record.flags = 0x3000;
+    record.modified = i64::MIN;
+    let printed = run("listing", "odd_name", &[("table", &encode(&[record]))]);
+    assert_eq!(
+        printed,
+        "0 a\\x7f \\x5cx41~ deleted modified -9223372036854775808 version 0\n"
+    );
 }

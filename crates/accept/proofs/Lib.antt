@@ -4,7 +4,6 @@ pub mod OverlayLaws
 pub mod KeptLaws
 pub mod SlotLaws
 pub mod ShiftLaws
-pub mod NextLaws
 pub mod PlaceLaws
 pub mod SortLaws
 pub mod StepLaws

@@ -10,18 +10,20 @@ use Rattle.record.specs.File.{File}
 use Rattle.table.specs.Limits.{recordsLimit, bytesLimit}
 use Rattle.table.specs.Table.{isGood, records, tableOf}
 use Rattle.table.proofs.TableLaws.{table-length, good-table}
-use Rattle.table.specs.Standing.{bytesOf, At}
+use Rattle.table.specs.Steps.Standing.{bytesOf, At}
 use Rattle.table.proofs.WalkLaws.{at-start, at-last}
+use Rattle.table.specs.Newest.{bit}
+use Rattle.table.proofs.UnionLaws.{union}
 use Rattle.table.proofs.PassLaws.{Counted, counted-none}
 use Rattle.merge.specs.declared.next.Step.{Step}
 use Rattle.merge.specs.declared.next.Next.{Next}
 use Rattle.merge.specs.declared.next.Next.the-variants.{End, More}
 use Rattle.merge.proofs.NotingLaws.{Noting, noting-none}
-use Rattle.accept.specs.Next.{nextOf}
-use Rattle.accept.specs.Resulting.{byName, resulting}
-use Rattle.accept.specs.Sorted.{Places, InOrder}
+use Rattle.accept.specs.Steps.Next.{placeOf, nextOver}
+use Rattle.accept.specs.Resulting.{replacing, byName, resulting}
+use Rattle.accept.specs.Steps.Sorted.{Places, SortedPlaces}
 use Rattle.accept.proofs.InsertLaws.{by-name-count, by-name-size}
-use Rattle.accept.proofs.OverlayLaws.{overlay, overlay-sorted}
+use Rattle.accept.proofs.OverlayLaws.{overlay-sorted}
 use Rattle.accept.proofs.KeptLaws.{resulting-is}
 use Rattle.accept.proofs.StepLaws.{Took, Steps, steps}
 
@@ -34,10 +36,10 @@ pub record Left (s places old : List ℕ) (i j : ℕ) : Type 0 where
   pub right : At old j gs
 
 abbrev pub rest : {s places old : List ℕ} {i j : ℕ} → Left s places old i j → List File
-rest l = overlay (l .fs) (l .gs)
+rest l = union replacing (l .fs) (l .gs)
 
 -- before the first step all are
-module _ (s places old : List ℕ) (update : Bool) (p : InOrder s places) (b : IsBytes old) (g : isGood old ≡ true) where
+module _ (s places old : List ℕ) (update : Bool) (p : SortedPlaces s places) (b : IsBytes old) (g : isGood old ≡ true) where
   abbrev all : List File
   all = resulting update (records s) (records old)
 
@@ -48,20 +50,20 @@ module _ (s places old : List ℕ) (update : Bool) (p : InOrder s places) (b : I
   starts true = at-start (good-table old b g)
   starts false = at-last old
 
-  abbrev begun : {j : ℕ} → j ≡ cond update 4 (length old) → Left s places old 0 j
-  begun e = record { fs = byName (records s) []; gs = source; left = p .standing; inside = omega arith; right = subst (λ (k : ℕ). At old k source) (sym e) (starts update) }
+  abbrev starting : {j : ℕ} → j ≡ cond update 4 (length old) → Left s places old 0 j
+  starting e = record { fs = byName (records s) []; gs = source; left = p .standing; inside = omega arith; right = subst (λ (k : ℕ). At old k source) (sym e) (starts update) }
 
   result-is : all ≡ byName (records s) source
   result-is = resulting-is update (records s) (records old) (p .distinct) (good-table old b g .rising)
 
-  begun-all : overlay (byName (records s) []) source ≡ all
-  begun-all = overlay-sorted (records s) source ∙ sym result-is
+  starting-all : union replacing (byName (records s) []) source ≡ all
+  starting-all = overlay-sorted (records s) source ∙ sym result-is
 
-  pub begun-noting : (notes : List ℕ) → length notes ≡ 1024 → {j : ℕ} → j ≡ cond update 4 (length old) → (l : Left s places old 0 j) × Counted all (rest l) 0 4 × Noting s old all (rest l) notes 0 0
-  begun-noting notes h e = (
-    begun e,
-    subst (λ (l : List File). Counted all l 0 4) (sym begun-all) (counted-none all),
-    subst (λ (l : List File). Noting s old all l notes 0 0) (sym begun-all) (noting-none s old all notes h),
+  pub starting-noting : (notes : List ℕ) → length notes ≡ 1024 → {j : ℕ} → j ≡ cond update 4 (length old) → (l : Left s places old 0 j) × Counted all (rest l) 0 4 × Noting s old all (rest l) notes 0 0
+  starting-noting notes h e = (
+    starting e,
+    subst (λ (l : List File). Counted all l 0 4) (sym starting-all) (counted-none all),
+    subst (λ (l : List File). Noting s old all l notes 0 0) (sym starting-all) (noting-none s old all notes h),
   )
 
   -- what the sizes can be at most
@@ -79,12 +81,16 @@ module _ (s places old : List ℕ) (update : Bool) (p : InOrder s places) (b : I
 module _ {s places old : List ℕ} {i j : ℕ} (l : Left s places old i j) where
   -- the next step, by the answer that was given
 
-  pub took : {r : Next} {t : Step} → r ≡ nextOf s places i old j → r ≡ More t → Took s places (l .fs) old (l .gs) (i + j) t
-  took e f = subst (Steps s places i (l .fs) old j (l .gs)) (sym e ∙ f) (steps s places i old j (l .fs) (l .gs) (l .inside) (l .left) (l .right))
+  next : {at : ℕ} {r n : Next} → at ≡ placeOf s places i → r ≡ nextOver s at old j → r ≡ n → Steps s places i (l .fs) old j (l .gs) n
+  next e f g =
+      subst (Steps s places i (l .fs) old j (l .gs)) (sym (sym g ∙ f ∙ ap (λ (k : ℕ). nextOver s k old j) e)) (steps s places i old j (l .fs) (l .gs) (l .inside) (l .left) (l .right))
 
-  pub none-left : {r : Next} → r ≡ nextOf s places i old j → r ≡ End → rest l ≡ []
-  none-left e f = subst (Steps s places i (l .fs) old j (l .gs)) (sym e ∙ f) (steps s places i old j (l .fs) (l .gs) (l .inside) (l .left) (l .right))
+  pub took : {at : ℕ} {r : Next} {t : Step} → at ≡ placeOf s places i → r ≡ nextOver s at old j → r ≡ More t → Took s places i (l .fs) old j (l .gs) t
+  took e f g = next e f g
+
+  pub none-left : {at : ℕ} {r : Next} → at ≡ placeOf s places i → r ≡ nextOver s at old j → r ≡ End → rest l ≡ []
+  none-left e f g = next e f g
 
   -- what is left after it
-  abbrev pub after : {t : Step} → Took s places (l .fs) old (l .gs) (i + j) t → Left s places old (t .i) (t .j)
-  after t = record { fs = t .lefts; gs = t .rights; left = t .left; inside = t .inside; right = t .right }
+  abbrev pub after : {n : ℕ} {t : Step} → n ≡ bit (t .left) → Took s places i (l .fs) old j (l .gs) t → Left s places old (i + n) (t .j)
+  after {n} e t = record { fs = t .lefts; gs = t .rights; left = subst (λ (k : ℕ). Places s (drop (i + k) places) (t .lefts)) (sym e) (t .left); inside = omega (arith, e, t .inside); right = t .right }

@@ -1,6 +1,6 @@
 -- The Index or IndexUpdate that was found in a message: what accepting it does, and where its parts are.
 use Prim.Native.Nat.{ℕ, _+_, _-_, _≤_}
-use mathlib.Core.List.{List, []}
+use mathlib.Core.List.{List}
 use mathlib.Core.Path.{_≡_, refl, sym, ap, subst, _∙_}
 use mathlib.Core.Bool.{Bool, true, false}
 use native.Mathlib.Omega.{arith}
@@ -8,6 +8,7 @@ use lib.ListN.{length, take, drop, length-take, length-drop}
 use Rattle.xdr.specs.Reading.{Reading, taken, shifted, refused as unread}
 use Rattle.xdr.specs.Number.{IsBytes}
 use Rattle.xdr.specs.Format.{read, readAt}
+use Rattle.xdr.specs.Filling.{refuses}
 use Rattle.xdr.specs.declared.answer.Refusal.{Refusal}
 use Rattle.xdr.proofs.NumberLaws.{bytes-drop}
 use Rattle.xdr.proofs.Steps.{Reads, opened, passed, ends, ends-word}
@@ -17,26 +18,24 @@ use Rattle.xdr.proofs.Corollaries.{read-exactly}
 use Rattle.record.specs.File.{File}
 use Rattle.record.proofs.OutlineLaws.{word-read}
 use Rattle.message.specs.Header.{typeOf, idOf}
-use Rattle.message.specs.Message.{Kind, isIndex, isRequest, isResponse, isPing, isPong, isIndexUpdate, isOptions, kindOf, Body, body, Sent, index, message}
+use Rattle.message.specs.Message.{Kind, isIndex, isRequest, isResponse, isPing, isPong, isIndexUpdate, isOptions, kindOf, Body, body, MessageValue, index, message}
 use Rattle.message.specs.Answers.{past, indexSpan, bodyAnswer, messageAnswer}
 use Rattle.message.specs.declared.answer.IndexSpan.{IndexSpan}
 use Rattle.table.specs.Limits.{recordsLimit}
 use Rattle.order.specs.Order.{isEqual, compareLists, part}
 use Rattle.table.specs.Table.{table, isGood, records, tableOf}
-use Rattle.table.specs.Filling.{refused, tableInto}
-use Rattle.table.specs.Standing.{AllValid}
+use Rattle.table.specs.Steps.Standing.{AllValid}
 use Rattle.table.proofs.TableLaws.{valid-parts, array-records}
-use Rattle.accept.specs.Resulting.{resulting}
-use Rattle.accept.specs.Accepting.{unrepeated, listed, ofKind, ofReading, acceptOutcome}
-use Rattle.accept.specs.Found.{foundIn, foundRefusal}
-use Rattle.accept.specs.Sorted.{IsArray}
-use Rattle.accept.specs.declared.found.Found.{Found}
-use Rattle.accept.specs.declared.found.Found.the-variants as F
+use Rattle.accept.specs.Accepting.{ofRecords, ofIndex, ofKind, ofReading, acceptOutcome}
+use Rattle.message.specs.Kinds.{indexIn, indexRefusal}
+use Rattle.accept.specs.Steps.Sorted.{IsArray, ofArray}
+use Rattle.message.specs.declared.kind.IndexIn.{IndexIn}
+use Rattle.message.specs.declared.kind.IndexIn.the-variants as F
 
 -- what was found of a body of some kind
 record Body-found (k : Kind) (b : Body k) (next : ℕ) (m : List ℕ) (update : Bool) (x : IndexSpan) : Type 0 where
   sent : List ℕ × List File
-  outcome : (old expected : List ℕ) (room : ℕ) → ofKind old expected room k b ≡ listed update old expected room sent
+  outcome : (old expected : List ℕ) → ofKind old expected k b ≡ ofIndex update old expected sent
   reads : Reads index m 4 (taken sent next)
   span : x ≡ indexSpan sent next
 
@@ -46,70 +45,70 @@ no-list e = let z : _≡_ {A = ℕ} 0 1 = cc in absurd (omega arith)
 no-refusal : {r : Refusal} {update : Bool} {x : IndexSpan} {P : Type 0} → F.Taken update x ≡ F.Refused r → P
 no-refusal e = let z : _≡_ {A = ℕ} 0 1 = cc in absurd (omega arith)
 
-body-found : (k : Kind) (b : Body k) (id next : ℕ) (m : List ℕ) {update : Bool} {x : IndexSpan} → Reads (body k) m 4 (taken b next) → foundIn (bodyAnswer k id (taken b next)) ≡ F.Taken update x
+body-found : (k : Kind) (b : Body k) (id next : ℕ) (m : List ℕ) {update : Bool} {x : IndexSpan} → Reads (body k) m 4 (taken b next) → indexIn (bodyAnswer k id (taken b next)) ≡ F.Taken update x
     → Body-found k b next m update x
 body-found isIndex b id next m {update} {x} r e =
-    let u : false ≡ update = cc in record { sent = b; outcome = λ old expected room. ap (λ (v : Bool). listed v old expected room b) u; reads = r; span = cc }
+    let u : false ≡ update = cc in record { sent = b; outcome = λ old expected. ap (λ (v : Bool). ofIndex v old expected b) u; reads = r; span = cc }
 body-found isRequest b id next m r e = no-list e
 body-found isResponse b id next m r e = no-list e
 body-found isPing b id next m r e = no-list e
 body-found isPong b id next m r e = no-list e
 body-found isIndexUpdate b id next m {update} {x} r e =
-    let u : true ≡ update = cc in record { sent = b; outcome = λ old expected room. ap (λ (v : Bool). listed v old expected room b) u; reads = r; span = cc }
+    let u : true ≡ update = cc in record { sent = b; outcome = λ old expected. ap (λ (v : Bool). ofIndex v old expected b) u; reads = r; span = cc }
 body-found isOptions b id next m r e = no-list e
 
 -- what was found in a message
 pub record Listing (m : List ℕ) (update : Bool) (x : IndexSpan) : Type 0 where
   pub sent : List ℕ × List File
   pub next : ℕ
-  pub outcome : (old expected : List ℕ) (room : ℕ) → ofReading old expected room (readAt message m 0) ≡ listed update old expected room sent
+  pub outcome : (old expected : List ℕ) → ofReading old expected (readAt message m 0) ≡ ofIndex update old expected sent
   pub reads : Reads index m 4 (taken sent next)
   pub span : x ≡ indexSpan sent next
 
-pub found-list : (m : List ℕ) {f : Found} {update : Bool} {x : IndexSpan} → f ≡ foundIn (messageAnswer (readAt message m 0)) → f ≡ F.Taken update x → Listing m update x
+pub found-list : (m : List ℕ) {f : IndexIn} {update : Bool} {x : IndexSpan} → f ≡ indexIn (messageAnswer (readAt message m 0)) → f ≡ F.Taken update x → Listing m update x
 found-list m {f} {update} {x} e q = go (readAt message m 0) refl
   where
-    go : (r : Reading Sent) → readAt message m 0 ≡ r → Listing m update x
+    go : (r : Reading MessageValue) → readAt message m 0 ≡ r → Listing m update x
     go (taken v next) h =
         let p = pair-parts (record { is = h }) in
         let at : p .0 ≡ 4 = ends-word (passed (passed (passed (p .1)))) .0 in
         let w = body-found (kindOf (typeOf (v .0))) (v .1) (idOf (v .0)) next m (subst (λ (k : ℕ). Reads (body (kindOf (typeOf (v .0)))) m k (taken (v .1) next)) at (p .2))
-        (ap (λ (r : Reading Sent). foundIn (messageAnswer r)) (sym h) ∙ sym e ∙ q) in
+        (ap (λ (r : Reading MessageValue). indexIn (messageAnswer r)) (sym h) ∙ sym e ∙ q) in
         record {
           sent = w .sent;
           next = next;
-          outcome = λ old expected room. ap (ofReading old expected room) h ∙ w .outcome old expected room;
+          outcome = λ old expected. ap (ofReading old expected) h ∙ w .outcome old expected;
           reads = w .reads;
           span = w .span;
         }
-    go (unread k p) h = no-list (ap (λ (r : Reading Sent). foundIn (messageAnswer r)) (sym h) ∙ sym e ∙ q)
+    go (unread k p) h = no-list (ap (λ (r : Reading MessageValue). indexIn (messageAnswer r)) (sym h) ∙ sym e ∙ q)
 
 -- a refusal
 
-other : {r : Refusal} → F.Refused (record { number = 18; place = 0 }) ≡ F.Refused r → refused 18 0 ≡ refused (r .number) (r .place)
-other e = ap (λ (u : Found). refused (foundRefusal u .number) (foundRefusal u .place)) e
+other : {r : Refusal} → F.Refused (record { number = 18; place = 0 }) ≡ F.Refused r → refuses 18 0 ≡ refuses (r .number) (r .place)
+other e = ap (λ (u : IndexIn). refuses (indexRefusal u .number) (indexRefusal u .place)) e
 
-body-refused : (k : Kind) (b : Body k) (id next : ℕ) {r : Refusal} → foundIn (bodyAnswer k id (taken b next)) ≡ F.Refused r
-    → (old expected : List ℕ) (room : ℕ) → ofKind old expected room k b ≡ refused (r .number) (r .place)
-body-refused isIndex b id next e old expected room = no-refusal e
-body-refused isRequest b id next e old expected room = other e
-body-refused isResponse b id next e old expected room = other e
-body-refused isPing b id next e old expected room = other e
-body-refused isPong b id next e old expected room = other e
-body-refused isIndexUpdate b id next e old expected room = no-refusal e
-body-refused isOptions b id next e old expected room = other e
+body-refused : (k : Kind) (b : Body k) (id next : ℕ) {r : Refusal} → indexIn (bodyAnswer k id (taken b next)) ≡ F.Refused r
+    → (old expected : List ℕ) → ofKind old expected k b ≡ refuses (r .number) (r .place)
+body-refused isIndex b id next e old expected = no-refusal e
+body-refused isRequest b id next e old expected = other e
+body-refused isResponse b id next e old expected = other e
+body-refused isPing b id next e old expected = other e
+body-refused isPong b id next e old expected = other e
+body-refused isIndexUpdate b id next e old expected = no-refusal e
+body-refused isOptions b id next e old expected = other e
 
-found-refused : (m : List ℕ) {f : Found} {r g : Refusal} → f ≡ foundIn (messageAnswer (readAt message m 0)) → f ≡ F.Refused r → g ≡ foundRefusal f
-    → (old expected : List ℕ) (room : ℕ) → ofReading old expected room (readAt message m 0) ≡ refused (g .number) (g .place)
-found-refused m {f} {r} {g} e q s old expected room = go (readAt message m 0) refl ∙ ap (λ (u : Refusal). refused (u .number) (u .place)) (sym (s ∙ ap foundRefusal q))
+found-refused : (m : List ℕ) {f : IndexIn} {r g : Refusal} → f ≡ indexIn (messageAnswer (readAt message m 0)) → f ≡ F.Refused r → g ≡ indexRefusal f
+    → (old expected : List ℕ) → ofReading old expected (readAt message m 0) ≡ refuses (g .number) (g .place)
+found-refused m {f} {r} {g} e q s old expected = go (readAt message m 0) refl ∙ ap (λ (u : Refusal). refuses (u .number) (u .place)) (sym (s ∙ ap indexRefusal q))
   where
-    go : (x : Reading Sent) → readAt message m 0 ≡ x → ofReading old expected room (readAt message m 0) ≡ refused (r .number) (r .place)
+    go : (x : Reading MessageValue) → readAt message m 0 ≡ x → ofReading old expected (readAt message m 0) ≡ refuses (r .number) (r .place)
     go (taken v next) h =
-        ap (ofReading old expected room) h
-        ∙ body-refused (kindOf (typeOf (v .0))) (v .1) (idOf (v .0)) next (ap (λ (x : Reading Sent). foundIn (messageAnswer x)) (sym h) ∙ sym e ∙ q) old expected room
+        ap (ofReading old expected) h
+        ∙ body-refused (kindOf (typeOf (v .0))) (v .1) (idOf (v .0)) next (ap (λ (x : Reading MessageValue). indexIn (messageAnswer x)) (sym h) ∙ sym e ∙ q) old expected
     go (unread k p) h =
-        ap (ofReading old expected room) h
-        ∙ ap (λ (u : Found). refused (foundRefusal u .number) (foundRefusal u .place)) (ap (λ (x : Reading Sent). foundIn (messageAnswer x)) (sym h) ∙ sym e ∙ q)
+        ap (ofReading old expected) h
+        ∙ ap (λ (u : IndexIn). refuses (indexRefusal u .number) (indexRefusal u .place)) (ap (λ (x : Reading MessageValue). indexIn (messageAnswer x)) (sym h) ∙ sym e ∙ q)
 
 -- an array that was read at a place
 
@@ -181,29 +180,27 @@ module _ {m : List ℕ} {update : Bool} {x : IndexSpan} (b : IsBytes m) (l : Lis
 
   -- what accepting it does
 
-  module _ (old expected : List ℕ) (room : ℕ) (g : isGood old ≡ true) where
-    pub by-list : acceptOutcome old m expected room ≡ listed update old expected room (l .sent)
+  module _ (old expected : List ℕ) (g : isGood old ≡ true) where
+    pub by-list : acceptOutcome old m expected ≡ ofIndex update old expected (l .sent)
     unfolding acceptOutcome
-    by-list = rw g (l .outcome old expected room)
+    by-list = rw g (l .outcome old expected)
 
-    pub another-repository : isEqual (compareLists repository expected) ≡ false → acceptOutcome old m expected room ≡ refused 21 0
+    pub another-repository : isEqual (compareLists repository expected) ≡ false → acceptOutcome old m expected ≡ refuses 21 0
     another-repository e = by-list ∙ rw e refl
 
-    pub this-repository : isEqual (compareLists repository expected) ≡ true
-        → let p = part m (x .files .start) (x .end) in
-        acceptOutcome old m expected room ≡ unrepeated [] (x .files .start + 4) (records p) (tableInto (resulting update (records p) (records old)) room)
+    pub this-repository : isEqual (compareLists repository expected) ≡ true → acceptOutcome old m expected ≡ ofArray update (x .files .start) (part m (x .files .start) (x .end)) old
     this-repository e =
         by-list
         ∙ rw e refl
-        ∙ ap (λ (k : ℕ). unrepeated [] (k + 4) (l .sent .1) (tableInto (resulting update (l .sent .1) (records old)) room)) (sym starts)
-        ∙ ap (λ (fs : List File). unrepeated [] (x .files .start + 4) fs (tableInto (resulting update fs (records old)) room)) (sym (array-part .0))
+        ∙ ap (λ (k : ℕ). ofRecords update (k + 4) (l .sent .1) (records old)) (sym starts)
+        ∙ ap (λ (fs : List File). ofRecords update (x .files .start + 4) fs (records old)) (sym (array-part .0))
 
-module _ (old m expected : List ℕ) (room : ℕ) where
-  pub old-bad : isGood old ≡ false → acceptOutcome old m expected room ≡ refused 15 0
+module _ (old m expected : List ℕ) where
+  pub old-bad : isGood old ≡ false → acceptOutcome old m expected ≡ refuses 15 0
   unfolding acceptOutcome
   old-bad e = rw e refl
 
-  pub message-refused : {f : Found} {r g : Refusal} → isGood old ≡ true → f ≡ foundIn (messageAnswer (readAt message m 0)) → f ≡ F.Refused r → g ≡ foundRefusal f
-      → acceptOutcome old m expected room ≡ refused (g .number) (g .place)
+  pub message-refused : {f : IndexIn} {r g : Refusal} → isGood old ≡ true → f ≡ indexIn (messageAnswer (readAt message m 0)) → f ≡ F.Refused r → g ≡ indexRefusal f
+      → acceptOutcome old m expected ≡ refuses (g .number) (g .place)
   unfolding acceptOutcome
-  message-refused h e q s = rw h (found-refused m e q s old expected room)
+  message-refused h e q s = rw h (found-refused m e q s old expected)

@@ -10,7 +10,7 @@ use lib.Dec.{leb}
 use Rattle.xdr.specs.Pad.{padded}
 use Rattle.record.specs.File.{File}
 use Rattle.record.specs.Outline.{wordAt, fieldsFrom, outlineFrom, outlineOf, fieldsOf}
-use Rattle.record.specs.declared.outline.Fields.{Fields}
+use Rattle.record.specs.declared.outline.RecordFields.{RecordFields}
 use Rattle.record.specs.declared.outline.Outline.{Outline}
 use Rattle.record.specs.declared.outline.Outline.the-variants as O
 use Rattle.order.specs.Order.{isEqual, compareLists, part}
@@ -18,20 +18,21 @@ use Rattle.order.specs.declared.compare.Order.{Order}
 use Rattle.order.specs.declared.compare.Order.the-variants.{Less, Equal, Greater}
 use Rattle.order.proofs.OrderLaws.{Below, equal-same, same-equal, greater-above, above-greater, below-trans}
 use Rattle.record.proofs.RisingLaws.{Above, Rising}
-use Rattle.table.specs.Standing.{At}
+use Rattle.table.specs.Steps.Standing.{At}
 use Rattle.table.proofs.WalkLaws.{standing}
-use Rattle.accept.specs.Resulting.{isNamed, insert}
-use Rattle.accept.specs.Slots.{nameOf, slotBy, slotOf}
-use Rattle.accept.specs.Sorted.{Places}
+use Rattle.table.specs.Insert.{insert}
+use Rattle.table.proofs.InsertLaws.{above-below, insert-greater, insert-first}
+use Rattle.accept.specs.Resulting.{isNamed, replacing}
+use Rattle.accept.specs.Steps.Slots.{nameOf, slotBy, slotOf}
+use Rattle.accept.specs.Steps.Sorted.{Places}
 use Rattle.accept.specs.declared.slot.Slot.{Slot}
 use Rattle.accept.specs.declared.slot.Slot.the-variants.{Free, Repeated}
-use Rattle.accept.proofs.InsertLaws.{insert-greater, insert-first, above-below}
 
 -- a record stands at a place
 abbrev pub Stood : List ℕ → ℕ → File → Type 0
 Stood s at f = (rest : List File) × At s at (f ∷ rest)
 
-outline-stop : (s : List ℕ) (at : ℕ) (g : Fields) → outlineOf s at ≡ O.Whole g → g .stop ≡ at + 4 + wordAt s at
+outline-stop : (s : List ℕ) (at : ℕ) (g : RecordFields) → outlineOf s at ≡ O.Whole g → g .stop ≡ at + 4 + wordAt s at
 unfolding outlineOf outlineFrom
 outline-stop s at g e = go (leb (fieldsFrom s (at + 4) (at + 4 + wordAt s at) (at + 4 + padded (wordAt s at)) .past) (length s)) e
   where
@@ -79,9 +80,9 @@ rising-back : (a b : List File) → Rising (a ++ b) → Rising b
 rising-back [] b r = r
 rising-back (g ∷ a) b r = rising-back a b (r .1)
 
-insert-split : (f : File) (a b : List File) → Beneath a (f .name) → Above (f .name) b → insert f (a ++ b) ≡ a ++ f ∷ b
-insert-split f [] b h k = insert-first f b k
-insert-split f (g ∷ a) b h k = insert-greater f g (a ++ b) (above-greater (g .name) (f .name) (h .0)) ∙ ap (λ (l : List File). g ∷ l) (insert-split f a b (h .1) k)
+insert-split : (f : File) (a b : List File) → Beneath a (f .name) → Above (f .name) b → insert replacing f (a ++ b) ≡ a ++ f ∷ b
+insert-split f [] b h k = insert-first replacing f b k
+insert-split f (g ∷ a) b h k = insert-greater replacing f g (a ++ b) (above-greater (g .name) (f .name) (h .0)) ∙ ap (λ (l : List File). g ∷ l) (insert-split f a b (h .1) k)
 
 named-above : (n : List ℕ) (b : List File) → Above n b → Rising b → isNamed n b ≡ false
 named-above n [] a r = refl
@@ -187,8 +188,8 @@ module _ (s ps : List ℕ) (fs : List File) (f : File) where
           ap (isNamed (f .name)) (sym (free .whole))
           ∙ named-split (f .name) (free .front) (free .back) (free .beneath) (free .above) (rising-back (free .front) (free .back) (subst Rising (sym (free .whole)) r))
 
-      pub free-placed : Places s (take j ps ++ (at ∷ drop j ps)) (insert f fs)
+      pub free-placed : Places s (take j ps ++ (at ∷ drop j ps)) (insert replacing f fs)
       free-placed =
-          subst (λ (l : List File). Places s (take j ps ++ (at ∷ drop j ps)) l) (sym (insert-split f (free .front) (free .back) (free .beneath) (free .above)) ∙ ap (insert f) (free .whole))
+          subst (λ (l : List File). Places s (take j ps ++ (at ∷ drop j ps)) l) (sym (insert-split f (free .front) (free .back) (free .beneath) (free .above)) ∙ ap (insert replacing f) (free .whole))
           (subst (λ (n : ℕ). Places s (take n ps ++ (at ∷ drop n ps)) (free .front ++ f ∷ free .back)) (free .counted)
           (places-split s ps (free .front) (free .back) at f p (subst (Places s ps) (sym (free .whole)) w)))

@@ -3,42 +3,41 @@ use Prim.Native.Nat.{ℕ, _≤_}
 use mathlib.Core.List.{List, [], _∷_}
 use mathlib.Core.Path.{_≡_, refl, sym, ap, subst, _∙_}
 use mathlib.Core.Bool.{Bool, true, false, cond}
-use native.Mathlib.Omega.{arith}
 use borrow.Author.Tests.{leb-true}
 use lib.ListN.{length}
 use lib.Dec.{leb}
 use Rattle.xdr.specs.Reading.{Reading, taken, refused as unread}
 use Rattle.xdr.specs.Number.{IsBytes}
 use Rattle.xdr.specs.Format.{read, readAt, Valid}
+use Rattle.xdr.specs.Filling.{Outcome, gives, refuses}
 use Rattle.xdr.proofs.Steps.{shifted-zero}
 use Rattle.xdr.proofs.Corollaries.{read-exactly}
 use Rattle.record.specs.File.{File, file}
 use Rattle.message.specs.Header.{typeOf}
-use Rattle.message.specs.Message.{Kind, isIndex, isRequest, isResponse, isPing, isPong, isIndexUpdate, isOptions, kindOf, Body, body, Sent, message}
+use Rattle.message.specs.Message.{Kind, isIndex, isRequest, isResponse, isPing, isPong, isIndexUpdate, isOptions, kindOf, Body, body, MessageValue, message}
 use Rattle.table.specs.Limits.{recordsLimit, bytesLimit}
 use Rattle.order.specs.Order.{isEqual, compareLists}
-use Rattle.table.specs.Table.{isGood, isWithin, records, tableOf}
-use Rattle.table.specs.Filling.{Outcome, accepted, refused, tableInto}
+use Rattle.table.specs.Table.{isGood, isWithin, records, tableOf, resultingTable}
 use Rattle.order.specs.declared.compare.Order.{Order}
 use Rattle.order.specs.declared.compare.Order.the-variants.{Less, Equal, Greater}
 use Rattle.record.proofs.RisingLaws.{Rising, both-true}
-use Rattle.table.specs.Standing.{AllValid}
+use Rattle.table.specs.Steps.Standing.{AllValid}
+use Rattle.xdr.proofs.FillingLaws.{not-given}
 use Rattle.table.proofs.TableLaws.{GoodTable, good-table, table-good}
-use Rattle.accept.specs.Resulting.{isNamed, unmentioned, placed, insert, byName, resulting}
-use Rattle.accept.specs.Accepting.{unrepeated, firstRecord, listed, ofKind, ofReading, acceptOutcome}
-use Rattle.accept.proofs.InsertLaws.{insert-rising}
+use Rattle.table.specs.Insert.{placed, insert}
+use Rattle.table.proofs.InsertLaws.{insert-rising}
+use Rattle.accept.specs.Resulting.{isNamed, unmentioned, replacing, byName, resulting}
+use Rattle.accept.specs.Accepting.{unrepeated, ofRecords, firstRecord, ofIndex, ofKind, ofReading, acceptOutcome}
+use Rattle.accept.proofs.InsertLaws.{replacing-one}
 use Rattle.accept.proofs.KeptLaws.{kept-above}
-
-not-accepted : {k p : ℕ} {l : List ℕ} {P : Type 0} → refused k p ≡ accepted l → P
-not-accepted e = let z : _≡_ {A = ℕ} 0 1 = cc in absurd (omega arith)
 
 -- the resulting records are valid, and their names rise
 
-insert-valid : (f : File) (l : List File) → Valid file f → AllValid l → AllValid (insert f l)
+insert-valid : (f : File) (l : List File) → Valid file f → AllValid l → AllValid (insert replacing f l)
 insert-valid f [] v w = (v, tt)
 insert-valid f (g ∷ l) v w = go (compareLists (f .name) (g .name)) (insert-valid f l v (w .1))
   where
-    go : (o : Order) → AllValid (insert f l) → AllValid (placed o f g l (insert f l))
+    go : (o : Order) → AllValid (insert replacing f l) → AllValid (placed replacing o f g l (insert replacing f l))
     go Less ih = (v, w)
     go Equal ih = (v, w .1)
     go Greater ih = (w .0, ih)
@@ -46,12 +45,12 @@ insert-valid f (g ∷ l) v w = go (compareLists (f .name) (g .name)) (insert-val
 by-name-valid : (fs l : List File) → AllValid fs → AllValid l → AllValid (byName fs l)
 unfolding byName
 by-name-valid [] l v w = w
-by-name-valid (f ∷ fs) l v w = by-name-valid fs (insert f l) (v .1) (insert-valid f l (v .0) w)
+by-name-valid (f ∷ fs) l v w = by-name-valid fs (insert replacing f l) (v .1) (insert-valid f l (v .0) w)
 
 by-name-rising : (fs l : List File) → Rising l → Rising (byName fs l)
 unfolding byName
 by-name-rising [] l r = r
-by-name-rising (f ∷ fs) l r = by-name-rising fs (insert f l) (insert-rising f l r)
+by-name-rising (f ∷ fs) l r = by-name-rising fs (insert replacing f l) (insert-rising replacing replacing-one f l r)
 
 kept-valid : (fs gs : List File) → AllValid gs → AllValid (unmentioned fs gs)
 kept-valid fs [] w = tt
@@ -81,11 +80,11 @@ resulting-rising false fs gs r = by-name-rising fs [] tt
 
 -- what an accepted outcome went through
 
-into-accepted : (fs : List File) (room : ℕ) (l : List ℕ) → AllValid fs → Rising fs → tableInto fs room ≡ accepted l → GoodTable l fs
-into-accepted fs room l v r e = go (isWithin (length fs) (length (tableOf fs))) refl (leb (length (tableOf fs)) room) e
+table-gave : (fs : List File) (l : List ℕ) → AllValid fs → Rising fs → resultingTable fs ≡ gives l → GoodTable l fs
+table-gave fs l v r e = go (isWithin (length fs) (length (tableOf fs))) refl e
   where
-    go : (b : Bool) → isWithin (length fs) (length (tableOf fs)) ≡ b → (c : Bool) → cond b (cond c (accepted (tableOf fs)) (refused 14 0)) (refused 19 0) ≡ accepted l → GoodTable l fs
-    go true w true q =
+    go : (b : Bool) → isWithin (length fs) (length (tableOf fs)) ≡ b → cond b (gives (tableOf fs)) (refuses 19 0) ≡ gives l → GoodTable l fs
+    go true w q =
         let is : l ≡ tableOf fs = cc in
         let p = both-true (leb (length fs) recordsLimit) (leb (length (tableOf fs)) bytesLimit) w in
         record {
@@ -95,15 +94,14 @@ into-accepted fs room l v r e = go (isWithin (length fs) (length (tableOf fs))) 
           rising = r;
           short = subst (λ (k : List ℕ). length k ≤ bytesLimit) (sym is) (leb-true (length (tableOf fs)) bytesLimit (p .1));
         }
-    go true w false q = not-accepted q
-    go false w c q = not-accepted q
+    go false w q = not-given q
 
-unrepeated-accepted : (before : List File) (at : ℕ) (fs : List File) (next : Outcome) (l : List ℕ) → unrepeated before at fs next ≡ accepted l → next ≡ accepted l
-unrepeated-accepted before at [] next l e = e
-unrepeated-accepted before at (f ∷ fs) next l e = go (isNamed (f .name) before) e (λ q. unrepeated-accepted (f ∷ before) _ fs next l q)
+unrepeated-gave : (before : List File) (at : ℕ) (fs : List File) (next : Outcome) (l : List ℕ) → unrepeated before at fs next ≡ gives l → next ≡ gives l
+unrepeated-gave before at [] next l e = e
+unrepeated-gave before at (f ∷ fs) next l e = go (isNamed (f .name) before) e (λ q. unrepeated-gave (f ∷ before) _ fs next l q)
   where
-    go : {x : Outcome} (b : Bool) → cond b (refused 13 at) x ≡ accepted l → (x ≡ accepted l → next ≡ accepted l) → next ≡ accepted l
-    go true q ih = not-accepted q
+    go : {x : Outcome} (b : Bool) → cond b (refuses 13 at) x ≡ gives l → (x ≡ gives l → next ≡ gives l) → next ≡ gives l
+    go true q ih = not-given q
     go false q ih = ih q
 
 -- the sender's table of records that it sent
@@ -112,46 +110,46 @@ pub record Result (old l : List ℕ) : Type 0 where
   pub sent : List File
   pub good : GoodTable l (resulting update sent (records old))
 
-module _ (old expected : List ℕ) (room : ℕ) (l : List ℕ) (b : IsBytes old) (g : isGood old ≡ true) where
-  listed-accepted : (update : Bool) (sent : List ℕ × List File) → AllValid (sent .1) → listed update old expected room sent ≡ accepted l → Result old l
-  listed-accepted update sent v e = go (isEqual (compareLists (sent .0) expected)) e
+module _ (old expected l : List ℕ) (b : IsBytes old) (g : isGood old ≡ true) where
+  index-gave : (update : Bool) (sent : List ℕ × List File) → AllValid (sent .1) → ofIndex update old expected sent ≡ gives l → Result old l
+  index-gave update sent v e = go (isEqual (compareLists (sent .0) expected)) e
     where
-      go : (t : Bool) → cond t (unrepeated [] (firstRecord (sent .0)) (sent .1) (tableInto (resulting update (sent .1) (records old)) room)) (refused 21 0) ≡ accepted l → Result old l
+      go : (t : Bool) → cond t (ofRecords update (firstRecord (sent .0)) (sent .1) (records old)) (refuses 21 0) ≡ gives l → Result old l
       go true q = record {
         update = update;
         sent = sent .1;
-        good = into-accepted (resulting update (sent .1) (records old)) room l (resulting-valid update (sent .1) (records old) v (good-table old b g .valid))
+        good = table-gave (resulting update (sent .1) (records old)) l (resulting-valid update (sent .1) (records old) v (good-table old b g .valid))
             (resulting-rising update (sent .1) (records old) (good-table old b g .rising))
-            (unrepeated-accepted [] (firstRecord (sent .0)) (sent .1) (tableInto (resulting update (sent .1) (records old)) room) l q);
+            (unrepeated-gave [] (firstRecord (sent .0)) (sent .1) (resultingTable (resulting update (sent .1) (records old))) l q);
       }
-      go false q = not-accepted q
+      go false q = not-given q
 
-  kind-accepted : (k : Kind) (s : Body k) → Valid (body k) s → ofKind old expected room k s ≡ accepted l → Result old l
+  kind-gave : (k : Kind) (s : Body k) → Valid (body k) s → ofKind old expected k s ≡ gives l → Result old l
   unfolding Valid
-  kind-accepted isIndex s v e = listed-accepted false s (v .1 .1) e
-  kind-accepted isRequest s v e = not-accepted e
-  kind-accepted isResponse s v e = not-accepted e
-  kind-accepted isPing s v e = not-accepted e
-  kind-accepted isPong s v e = not-accepted e
-  kind-accepted isIndexUpdate s v e = listed-accepted true s (v .1 .1) e
-  kind-accepted isOptions s v e = not-accepted e
+  kind-gave isIndex s v e = index-gave false s (v .1 .1) e
+  kind-gave isRequest s v e = not-given e
+  kind-gave isResponse s v e = not-given e
+  kind-gave isPing s v e = not-given e
+  kind-gave isPong s v e = not-given e
+  kind-gave isIndexUpdate s v e = index-gave true s (v .1 .1) e
+  kind-gave isOptions s v e = not-given e
 
-  reading-accepted : (m : List ℕ) → IsBytes m → ofReading old expected room (readAt message m 0) ≡ accepted l → Result old l
+  reading-gave : (m : List ℕ) → IsBytes m → ofReading old expected (readAt message m 0) ≡ gives l → Result old l
   unfolding readAt Valid
-  reading-accepted m c e = go (read message m) refl (ap (ofReading old expected room) (sym (shifted-zero (read message m))) ∙ e)
+  reading-gave m c e = go (read message m) refl (ap (ofReading old expected) (sym (shifted-zero (read message m))) ∙ e)
     where
-      go : (r : Reading Sent) → read message m ≡ r → ofReading old expected room r ≡ accepted l → Result old l
-      go (taken v n) q h = kind-accepted (kindOf (typeOf (v .0))) (v .1) (read-exactly message m v n c q .1 .1) h
-      go (unread k p) q h = not-accepted h
+      go : (r : Reading MessageValue) → read message m ≡ r → ofReading old expected r ≡ gives l → Result old l
+      go (taken v n) q h = kind-gave (kindOf (typeOf (v .0))) (v .1) (read-exactly message m v n c q .1 .1) h
+      go (unread k p) q h = not-given h
 
 -- an accepted call fills in a good table: of what was sent, and of what it keeps of the old table
-pub accept-result : (old m expected : List ℕ) (room : ℕ) (l : List ℕ) → IsBytes old → IsBytes m → acceptOutcome old m expected room ≡ accepted l → Result old l
+pub accept-result : (old m expected l : List ℕ) → IsBytes old → IsBytes m → acceptOutcome old m expected ≡ gives l → Result old l
 unfolding acceptOutcome
-accept-result old m expected room l b c e = go (isGood old) refl e
+accept-result old m expected l b c e = go (isGood old) refl e
   where
-    go : (t : Bool) → isGood old ≡ t → cond t (ofReading old expected room (readAt message m 0)) (refused 15 0) ≡ accepted l → Result old l
-    go true g q = reading-accepted old expected room l b g m c q
-    go false g q = not-accepted q
+    go : (t : Bool) → isGood old ≡ t → cond t (ofReading old expected (readAt message m 0)) (refuses 15 0) ≡ gives l → Result old l
+    go true g q = reading-gave old expected l b g m c q
+    go false g q = not-given q
 
-pub accept-good : (old m expected : List ℕ) (room : ℕ) (l : List ℕ) → IsBytes old → IsBytes m → acceptOutcome old m expected room ≡ accepted l → isGood l ≡ true
-accept-good old m expected room l b c e = let r = accept-result old m expected room l b c e in table-good l (resulting (r .update) (r .sent) (records old)) (r .good)
+pub accept-good : (old m expected l : List ℕ) → IsBytes old → IsBytes m → acceptOutcome old m expected ≡ gives l → isGood l ≡ true
+accept-good old m expected l b c e = let r = accept-result old m expected l b c e in table-good l (resulting (r .update) (r .sent) (records old)) (r .good)

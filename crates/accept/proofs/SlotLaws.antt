@@ -12,7 +12,7 @@ use Rattle.order.specs.declared.compare.Order.{Order}
 use Rattle.order.specs.declared.compare.Order.the-variants.{Less, Equal, Greater}
 use Rattle.order.proofs.PartLaws.{part-beyond}
 use Rattle.record.proofs.RisingLaws.{is-less}
-use Rattle.accept.specs.Slots.{nameOf, slotBy, slotOf}
+use Rattle.accept.specs.Steps.Slots.{nameOf, slotBy, slotOf}
 use Rattle.accept.specs.declared.slot.Slot.the-variants.{Free, Repeated}
 
 -- its length isn't there

@@ -10,42 +10,44 @@ use lib.Seq.{append-snoc}
 use Rattle.xdr.specs.Format.{encode}
 use Rattle.record.specs.File.{File, file}
 use Rattle.record.specs.Outline.{outlineOf, fieldsOf}
-use Rattle.record.specs.declared.outline.Fields.{Fields}
+use Rattle.record.specs.declared.outline.RecordFields.{RecordFields}
 use Rattle.record.specs.declared.outline.Outline.{Outline}
 use Rattle.record.specs.declared.outline.Outline.the-variants as O
 use Rattle.table.specs.Limits.{recordsLimit}
 use Rattle.order.specs.Order.{isEqual, compareLists}
 use Rattle.table.specs.Table.{records}
-use Rattle.table.specs.Filling.{Outcome, refused}
+use Rattle.xdr.specs.Filling.{Outcome, refuses}
 use Rattle.order.specs.declared.compare.Order.{Order}
 use Rattle.order.specs.declared.compare.Order.the-variants.{Less, Equal, Greater}
-use Rattle.order.proofs.OrderLaws.{turned, compare-turned}
+use Rattle.order.proofs.OrderLaws.{reversed, compare-reversed}
 use Rattle.record.proofs.RisingLaws.{Rising}
-use Rattle.table.specs.Standing.{At}
+use Rattle.table.specs.Steps.Standing.{At}
 use Rattle.table.proofs.WalkLaws.{array-start, standing, Headed, at-whole, at-short}
-use Rattle.accept.specs.Resulting.{isNamed, insert, byName}
+use Rattle.table.specs.Insert.{insert}
+use Rattle.table.proofs.InsertLaws.{insert-rising}
+use Rattle.accept.specs.Resulting.{isNamed, replacing, byName}
 use Rattle.accept.specs.Accepting.{unrepeated}
-use Rattle.accept.specs.Slots.{nameOf, slotOf}
-use Rattle.accept.specs.Sorted.{IsArray, Places, Distinct, InOrder}
+use Rattle.accept.specs.Steps.Slots.{nameOf, slotOf}
+use Rattle.accept.specs.Steps.Sorted.{IsArray, Places, Distinct, SortedPlaces}
 use Rattle.accept.specs.declared.slot.Slot.{Slot}
 use Rattle.accept.specs.declared.slot.Slot.the-variants.{Free, Repeated}
-use Rattle.accept.proofs.InsertLaws.{insert-rising, named-swap, insert-named, by-name-more, by-name-none}
+use Rattle.accept.proofs.InsertLaws.{replacing-one, named-swap, insert-named, by-name-more, by-name-none}
 use Rattle.accept.proofs.PlaceLaws.{slot-taken, free-inside, free-new, free-placed}
 
 -- one record more at the end
 
-by-name-last : (fs : List File) (f : File) (l : List File) → byName (fs ++ f ∷ []) l ≡ insert f (byName fs l)
-by-name-last [] f l = by-name-more f [] l ∙ by-name-none (insert f l) ∙ ap (insert f) (sym (by-name-none l))
-by-name-last (g ∷ fs) f l = by-name-more g (fs ++ f ∷ []) l ∙ by-name-last fs f (insert g l) ∙ ap (insert f) (sym (by-name-more g fs l))
+by-name-last : (fs : List File) (f : File) (l : List File) → byName (fs ++ f ∷ []) l ≡ insert replacing f (byName fs l)
+by-name-last [] f l = by-name-more f [] l ∙ by-name-none (insert replacing f l) ∙ ap (insert replacing f) (sym (by-name-none l))
+by-name-last (g ∷ fs) f l = by-name-more g (fs ++ f ∷ []) l ∙ by-name-last fs f (insert replacing g l) ∙ ap (insert replacing f) (sym (by-name-more g fs l))
 
 named-last : (n : List ℕ) (l : List File) (f : File) → isNamed n (l ++ f ∷ []) ≡ cond (isEqual (compareLists n (f .name))) true (isNamed n l)
 named-last n [] f = refl
 named-last n (g ∷ l) f = ap (cond (isEqual (compareLists n (g .name))) true) (named-last n l f) ∙ named-swap (isEqual (compareLists n (g .name))) (isEqual (compareLists n (f .name))) (isNamed n l)
 
-turned-equal : (o : Order) → isEqual (turned o) ≡ isEqual o
-turned-equal Less = refl
-turned-equal Equal = refl
-turned-equal Greater = refl
+reversed-equal : (o : Order) → isEqual (reversed o) ≡ isEqual o
+reversed-equal Less = refl
+reversed-equal Equal = refl
+reversed-equal Greater = refl
 
 neither : (a b : Bool) → cond a true b ≡ false → (a ≡ false) × (b ≡ false)
 neither true b e = let z : _≡_ {A = ℕ} 0 1 = cc in absurd (omega arith)
@@ -55,7 +57,7 @@ distinct-last : (l : List File) (f : File) → Distinct l → isNamed (f .name) 
 distinct-last [] f d e = (refl, tt)
 distinct-last (g ∷ l) f d e =
     let q = neither (isEqual (compareLists (f .name) (g .name))) (isNamed (f .name) l) e in
-    let other : isEqual (compareLists (g .name) (f .name)) ≡ false = ap isEqual (compare-turned (f .name) (g .name)) ∙ turned-equal (compareLists (f .name) (g .name)) ∙ q .0 in
+    let other : isEqual (compareLists (g .name) (f .name)) ≡ false = ap isEqual (compare-reversed (f .name) (g .name)) ∙ reversed-equal (compareLists (f .name) (g .name)) ∙ q .0 in
     (named-last (g .name) l f ∙ rw (other, d .0) refl, distinct-last l f (d .1) (q .1))
 
 -- so far the first n records are in order
@@ -92,7 +94,7 @@ sorting-none s places a =
 
 module _ {s places : List ℕ} {at n : ℕ} (a : IsArray s) (l : Sorting s places at n) where
   -- no record is left
-  pub sorting-all : {x : Outline} → x ≡ outlineOf s at → x ≡ O.Short → InOrder s (take n places)
+  pub sorting-all : {x : Outline} → x ≡ outlineOf s at → x ≡ O.Short → SortedPlaces s (take n places)
   sorting-all e q =
       let z = at-short (l .here) e q in
       let whole : l .done ≡ records s = sym (append-nil (l .done)) ∙ ap (λ (u : List File). l .done ++ u) (sym z) ∙ l .all in
@@ -103,18 +105,18 @@ module _ {s places : List ℕ} {at n : ℕ} (a : IsArray s) (l : Sorting s place
         unrefused = λ base next. l .left base next ∙ ap (λ (u : List File). unrepeated (l .before) (base + at) u next) z;
       }
 
-  module _ {x : Outline} {g : Fields} (e : x ≡ outlineOf s at) (q : x ≡ O.Whole g) where
+  module _ {x : Outline} {g : RecordFields} (e : x ≡ outlineOf s at) (q : x ≡ O.Whole g) where
     -- the next record
     nr : Headed s at (l .rest) g
     nr = at-whole (l .here) e q
 
     past-is : g .past ≡ at + length (encode file (nr .head))
-    past-is = ap (λ (h : Fields). h .past) (nr .fields) ∙ standing (nr .stands) .sized
+    past-is = ap (λ (h : RecordFields). h .past) (nr .fields) ∙ standing (nr .stands) .sized
 
     pub sorting-grows : (at < g .past) × (g .past ≤ length s)
     sorting-grows =
         let p = standing (nr .stands) in
-        let m : g .past ≡ fieldsOf at (nr .head) .past = ap (λ (h : Fields). h .past) (nr .fields) in
+        let m : g .past ≡ fieldsOf at (nr .head) .past = ap (λ (h : RecordFields). h .past) (nr .fields) in
         (omega (arith, m), subst (λ (k : ℕ). k ≤ length s) (sym m) (p .next .inside))
 
     pub sorting-few : n < recordsLimit
@@ -124,14 +126,14 @@ module _ {s places : List ℕ} {at n : ℕ} (a : IsArray s) (l : Sorting s place
 
     -- its name stood before
     pub sorting-repeated : {y : Slot} {ps : List ℕ} → ps ≡ take n places → y ≡ slotOf s ps (length ps) (nameOf s at) → y ≡ Repeated
-        → (at ≤ length s) × ((base : ℕ) (next : Outcome) → unrepeated [] (base + 4) (records s) next ≡ refused 13 (base + at))
+        → (at ≤ length s) × ((base : ℕ) (next : Outcome) → unrepeated [] (base + 4) (records s) next ≡ refuses 13 (base + at))
     sorting-repeated {y} {ps} h u v =
         let w = slot-taken s ps (byName (l .done) []) (nr .head) at (nr .tail, nr .stands) (subst (λ (p : List ℕ). Places s p (byName (l .done) [])) (sym h) (l .standing)) (l .rising) u v in (
           l .here .inside,
           λ base next.
               l .left base next
               ∙ ap (λ (r : List File). unrepeated (l .before) (base + at) r next) (nr .is)
-              ∙ ap (λ (b : Bool). cond b (refused 13 (base + at)) (unrepeated (nr .head ∷ l .before) (base + at + length (encode file (nr .head))) (nr .tail) next)) (sym (l .names (nr .head .name)) ∙ w),
+              ∙ ap (λ (b : Bool). cond b (refuses 13 (base + at)) (unrepeated (nr .head ∷ l .before) (base + at + length (encode file (nr .head))) (nr .tail) next)) (sym (l .names (nr .head .name)) ∙ w),
         )
 
     module _ {y : Slot} {ps : List ℕ} {j : ℕ} (h : ps ≡ take n places) (u : y ≡ slotOf s ps (length ps) (nameOf s at)) (v : y ≡ Free j) where
@@ -144,7 +146,7 @@ module _ {s places : List ℕ} {at n : ℕ} (a : IsArray s) (l : Sorting s place
       new : isNamed (nr .head .name) (byName (l .done) []) ≡ false
       new = free-new s ps (byName (l .done) []) (nr .head) at (nr .tail, nr .stands) stands-so (l .rising) u v
 
-      sorted-last : byName (l .done ++ nr .head ∷ []) [] ≡ insert (nr .head) (byName (l .done) [])
+      sorted-last : byName (l .done ++ nr .head ∷ []) [] ≡ insert replacing (nr .head) (byName (l .done) [])
       sorted-last = by-name-last (l .done) (nr .head) []
 
       names-more : (x : List ℕ) {b : Bool} → isNamed x (byName (l .done) []) ≡ b
@@ -156,13 +158,13 @@ module _ {s places : List ℕ} {at n : ℕ} (a : IsArray s) (l : Sorting s place
         done = l .done ++ nr .head ∷ [];
         rest = nr .tail;
         all = append-snoc (l .done) (nr .head) (nr .tail) ∙ ap (λ (r : List File). l .done ++ r) (sym (nr .is)) ∙ l .all;
-        here = subst (λ (p : ℕ). At s p (nr .tail)) (sym (ap (λ (h : Fields). h .past) (nr .fields))) (standing (nr .stands) .next);
+        here = subst (λ (p : ℕ). At s p (nr .tail)) (sym (ap (λ (h : RecordFields). h .past) (nr .fields))) (standing (nr .stands) .next);
         counted = length-append (l .done) (nr .head ∷ []) ∙ ap (λ (i : ℕ). i + 1) (l .counted);
         standing =
             subst (λ (p : List ℕ). Places s p (byName (l .done ++ nr .head ∷ []) [])) (sym (k ∙ ap (λ (p : List ℕ). take j p ++ (at ∷ drop j p)) (sym h)))
             (subst (Places s (take j ps ++ (at ∷ drop j ps))) (sym sorted-last)
             (free-placed s ps (byName (l .done) []) (nr .head) at (nr .tail, nr .stands) stands-so (l .rising) u v));
-        rising = subst Rising (sym sorted-last) (insert-rising (nr .head) (byName (l .done) []) (l .rising));
+        rising = subst Rising (sym sorted-last) (insert-rising replacing replacing-one (nr .head) (byName (l .done) []) (l .rising));
         distinct = distinct-last (l .done) (nr .head) (l .distinct) (sym (l .names-done (nr .head .name)) ∙ new);
         before = nr .head ∷ l .before;
         names = λ x. names-more x (l .names x);
@@ -170,6 +172,6 @@ module _ {s places : List ℕ} {at n : ℕ} (a : IsArray s) (l : Sorting s place
         left = λ base next.
             l .left base next
             ∙ ap (λ (r : List File). unrepeated (l .before) (base + at) r next) (nr .is)
-            ∙ ap (λ (b : Bool). cond b (refused 13 (base + at)) (unrepeated (nr .head ∷ l .before) (base + at + length (encode file (nr .head))) (nr .tail) next)) (sym (l .names (nr .head .name)) ∙ new)
+            ∙ ap (λ (b : Bool). cond b (refuses 13 (base + at)) (unrepeated (nr .head ∷ l .before) (base + at + length (encode file (nr .head))) (nr .tail) next)) (sym (l .names (nr .head .name)) ∙ new)
             ∙ ap (λ (p : ℕ). unrepeated (nr .head ∷ l .before) p (nr .tail) next) (add-assoc base at (length (encode file (nr .head))) ∙ ap (λ (p : ℕ). base + p) (sym past-is));
       }

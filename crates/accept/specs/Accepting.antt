@@ -5,48 +5,49 @@ use mathlib.Core.Bool.{Bool, true, false, cond}
 use lib.ListN.{length}
 use Rattle.xdr.specs.Reading.{Reading, taken, refused as unread}
 use Rattle.xdr.specs.Format.{readAt, encode}
+use Rattle.xdr.specs.Filling.{Outcome, refuses}
 use Rattle.record.specs.File.{File, file}
 use Rattle.message.specs.Header.{typeOf}
-use Rattle.message.specs.Message.{Kind, isIndex, isRequest, isResponse, isPing, isPong, isIndexUpdate, isOptions, kindOf, Body, Sent, message}
+use Rattle.message.specs.Message.{Kind, isIndex, isRequest, isResponse, isPing, isPong, isIndexUpdate, isOptions, kindOf, Body, MessageValue, message}
 use Rattle.message.specs.Answers.{past}
 use Rattle.order.specs.Order.{isEqual, compareLists}
-use Rattle.table.specs.Table.{isGood, records}
-use Rattle.table.specs.Filling.{Outcome, refused, tableInto}
+use Rattle.table.specs.Table.{isGood, records, resultingTable}
 use Rattle.accept.specs.Resulting.{isNamed, resulting}
 
 -- no record from a place on has the name of one before it: else the place of the first that has (13)
 abbrev pub unrepeated : (before : List File) → (at : ℕ) → List File → Outcome → Outcome
 unrepeated before at [] next = next
 unrepeated before at (f ∷ fs) next =
-    cond (isNamed (f .name) before) (refused 13 at) (unrepeated (f ∷ before) (at + length (encode file f)) fs next)
+    cond (isNamed (f .name) before) (refuses 13 at) (unrepeated (f ∷ before) (at + length (encode file f)) fs next)
+
+-- records of which the first stands at a place: no name stands twice (13), and the resulting table is within the limits (19)
+abbrev pub ofRecords : (update : Bool) → (at : ℕ) → (sent old : List File) → Outcome
+ofRecords update at sent old = unrepeated [] at sent (resultingTable (resulting update sent old))
 
 -- the place of the first record of a message: the count of them stands after the Repository
 abbrev pub firstRecord : (repository : List ℕ) → ℕ
 firstRecord repository = past 4 repository + 4
 
--- an Index or an IndexUpdate: its Repository is the one expected (21), no name stands twice (13), and the resulting table is within the limits
--- (19) and fits the buffer (14)
-abbrev pub listed : (update : Bool) → (old expected : List ℕ) → (room : ℕ) → List ℕ × List File → Outcome
-listed update old expected room sent =
-    cond (isEqual (compareLists (sent .0) expected))
-    (unrepeated [] (firstRecord (sent .0)) (sent .1) (tableInto (resulting update (sent .1) (records old)) room))
-    (refused 21 0)
+-- an Index or an IndexUpdate: its Repository is the one expected (21), and then its records
+abbrev pub ofIndex : (update : Bool) → (old expected : List ℕ) → List ℕ × List File → Outcome
+ofIndex update old expected sent =
+    cond (isEqual (compareLists (sent .0) expected)) (ofRecords update (firstRecord (sent .0)) (sent .1) (records old)) (refuses 21 0)
 
 -- a message of each kind: only an Index and an IndexUpdate are accepted (18)
-abbrev pub ofKind : (old expected : List ℕ) → (room : ℕ) → (k : Kind) → Body k → Outcome
-ofKind old expected room isIndex sent = listed false old expected room sent
-ofKind old expected room isRequest sent = refused 18 0
-ofKind old expected room isResponse sent = refused 18 0
-ofKind old expected room isPing sent = refused 18 0
-ofKind old expected room isPong sent = refused 18 0
-ofKind old expected room isIndexUpdate sent = listed true old expected room sent
-ofKind old expected room isOptions sent = refused 18 0
+abbrev pub ofKind : (old expected : List ℕ) → (k : Kind) → Body k → Outcome
+ofKind old expected isIndex sent = ofIndex false old expected sent
+ofKind old expected isRequest sent = refuses 18 0
+ofKind old expected isResponse sent = refuses 18 0
+ofKind old expected isPing sent = refuses 18 0
+ofKind old expected isPong sent = refuses 18 0
+ofKind old expected isIndexUpdate sent = ofIndex true old expected sent
+ofKind old expected isOptions sent = refuses 18 0
 
 -- what was read, or the refusal of the reading as it is
-abbrev pub ofReading : (old expected : List ℕ) → (room : ℕ) → Reading Sent → Outcome
-ofReading old expected room (taken m next) = ofKind old expected room (kindOf (typeOf (m .0))) (m .1)
-ofReading old expected room (unread k p) = refused k p
+abbrev pub ofReading : (old expected : List ℕ) → Reading MessageValue → Outcome
+ofReading old expected (taken m next) = ofKind old expected (kindOf (typeOf (m .0))) (m .1)
+ofReading old expected (unread k p) = refuses k p
 
 -- the old table is good (15), whatever the message is, and then the message
-unfoldable pub acceptOutcome : (old sent expected : List ℕ) → (room : ℕ) → Outcome
-acceptOutcome old sent expected room = cond (isGood old) (ofReading old expected room (readAt message sent 0)) (refused 15 0)
+unfoldable pub acceptOutcome : (old sent expected : List ℕ) → Outcome
+acceptOutcome old sent expected = cond (isGood old) (ofReading old expected (readAt message sent 0)) (refuses 15 0)

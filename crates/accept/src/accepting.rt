@@ -1,26 +1,27 @@
 // Accepting an Index or an IndexUpdate.
 ghost use mathlib.Core.Path.{_≡_};
-ghost use mathlib.Core.List.{[], _∷_, _++_};
 ghost use mathlib.Core.Bool.{true, cond};
-ghost use Prim.Native.Nat.{_+_, _-_, _≤_, _<_};
-ghost use lib.ListN.{length, take, drop};
-ghost use Rattle.table.specs.Table.{isGood, records};
-ghost use Rattle.table.specs.Filling.{fillingAnswer, bufferAfter, tableInto};
-ghost use Rattle.merge.specs.Notes.{Measured};
-ghost use Rattle.accept.specs.Resulting.{resulting};
-ghost use Rattle.accept.specs.Accepting.{unrepeated, acceptOutcome};
-ghost use Rattle.accept.specs.Sorted.{IsArray, InOrder, SortedTo};
-use crate::found::Found;
-use crate::found::find;
+ghost use Prim.Native.Nat.{_+_, _<_};
+ghost use lib.ListN.{length};
+ghost use Rattle.xdr.specs.Filling.{Fills};
+ghost use Rattle.message.specs.Answers.{messageIn};
+ghost use Rattle.message.specs.Kinds.{indexIn};
+ghost use Rattle.table.specs.Table.{isGood, resultingTable};
+ghost use Rattle.merge.specs.Steps.Notes.{Noted};
+ghost use Rattle.accept.specs.Accepting.{acceptOutcome};
+ghost use Rattle.accept.specs.Steps.Sorted.{IsArray, resultOf, ofArray, insertedAt, SortedPlaces, SortedTo};
 use crate::next::next_at;
+use crate::next::place_of;
+use crate::next::taken_by;
 use crate::slot::Slot;
 use crate::slot::slot_of;
 use merge::next::Next;
 use merge::notes::Size;
 use merge::notes::note;
 use merge::notes::put_table;
+use message::IndexIn;
 use record::Outline;
-use table::Filling;
+use xdr::Filling;
 use xdr::Refusal;
 
 // How many records are in order, or the place of the first whose name stood before.
@@ -32,7 +33,7 @@ enum Sorting {
 // A place among places: those behind it move up, and the last is lost.
 fn insert_at(places: &mut [usize], j: usize, at: usize)
     requires { ⌜ j < length (now places) ⌝ }
-    ensures { λ _. ⌜ now (places .exit) ≡ take j (now (places .entry)) ++ (at ∷ take (length (now (places .entry)) - 1 - j) (drop j (now (places .entry)))) ⌝ }
+    ensures { λ _. ⌜ now (places .exit) ≡ insertedAt (now (places .entry)) j at ⌝ }
 {
     let mut k = places.len() - 1;
     while j < k {
@@ -74,8 +75,8 @@ fn start_of(old: &[u8], update: bool) -> usize
 
 // Notes the resulting records, as far as there is room, and measures the resulting table.
 fn note_records(s: &[u8], places: &[usize], old: &[u8], update: bool, notes: &mut [usize]) -> Size
-    requires { ⌜ InOrder (now s) (now places) × (isGood (now old) ≡ true) × (length (now notes) ≡ 1024) ⌝ }
-    ensures { λ r. ⌜ (r .noted ≤ length (now (notes .exit))) × Measured (now (s .entry)) (now (old .entry)) (take (r .noted) (now (notes .exit))) (resulting update (records (now (s .entry))) (records (now (old .entry)))) (r .count) (r .bytes) ⌝ }
+    requires { ⌜ SortedPlaces (now s) (now places) × (isGood (now old) ≡ true) × (length (now notes) ≡ 1024) ⌝ }
+    ensures { λ r. ⌜ Noted (now (s .entry)) (now (old .entry)) (now (notes .exit)) (resultOf update (now (s .entry)) (now (old .entry))) r ⌝ }
 {
     let mut i = 0;
     let mut j = start_of(old, update);
@@ -83,7 +84,7 @@ fn note_records(s: &[u8], places: &[usize], old: &[u8], update: bool, notes: &mu
     let mut bytes = 4;
     let mut noted = 0;
     loop {
-        let Next::More(step) = next_at(s, places, i, old, j) else {
+        let Next::More(step) = next_at(s, place_of(s, places, i), old, j) else {
             return Size {
                 count,
                 bytes,
@@ -93,15 +94,15 @@ fn note_records(s: &[u8], places: &[usize], old: &[u8], update: bool, notes: &mu
         bytes += step.end - step.start;
         count += 1;
         noted += note(notes, noted, step);
-        i = step.i;
+        i += taken_by(step);
         j = step.j;
     }
 }
 
 // The resulting table of records in order, in the first bytes of the buffer.
 fn fill(s: &[u8], places: &[usize], old: &[u8], update: bool, out: &mut [u8]) -> Filling
-    requires { ⌜ InOrder (now s) (now places) × (isGood (now old) ≡ true) ⌝ }
-    ensures { λ r. ⌜ (r ≡ fillingAnswer (tableInto (resulting update (records (now (s .entry))) (records (now (old .entry)))) (length (now (out .entry))))) × (now (out .exit) ≡ bufferAfter (tableInto (resulting update (records (now (s .entry))) (records (now (old .entry)))) (length (now (out .entry)))) (now (out .entry))) ⌝ }
+    requires { ⌜ SortedPlaces (now s) (now places) × (isGood (now old) ≡ true) ⌝ }
+    ensures { λ r. ⌜ Fills (resultingTable (resultOf update (now (s .entry)) (now (old .entry)))) (now (out .entry)) r (now (out .exit)) ⌝ }
 {
     let mut notes = [0usize; 1024];
     let size = note_records(s, places, old, update, &mut notes);
@@ -112,7 +113,7 @@ fn fill(s: &[u8], places: &[usize], old: &[u8], update: bool, out: &mut [u8]) ->
 // The records of a message's array, which begins at a place of the message.
 fn accept_list(s: &[u8], start: usize, old: &[u8], update: bool, out: &mut [u8]) -> Filling
     requires { ⌜ IsArray (now s) × (isGood (now old) ≡ true) × (start + length (now s) < 18446744073709551616) ⌝ }
-    ensures { λ r. ⌜ (r ≡ fillingAnswer (unrepeated [] (start + 4) (records (now (s .entry))) (tableInto (resulting update (records (now (s .entry))) (records (now (old .entry)))) (length (now (out .entry)))))) × (now (out .exit) ≡ bufferAfter (unrepeated [] (start + 4) (records (now (s .entry))) (tableInto (resulting update (records (now (s .entry))) (records (now (old .entry)))) (length (now (out .entry))))) (now (out .entry))) ⌝ }
+    ensures { λ r. ⌜ Fills (ofArray update start (now (s .entry)) (now (old .entry))) (now (out .entry)) r (now (out .exit)) ⌝ }
 {
     let mut places = [0usize; 512];
     match sort(s, &mut places) {
@@ -124,22 +125,30 @@ fn accept_list(s: &[u8], start: usize, old: &[u8], update: bool, out: &mut [u8])
     }
 }
 
+// The Index or IndexUpdate at the front of some bytes.
+fn read_index(s: &[u8]) -> IndexIn
+    ensures { λ r. ⌜ r ≡ indexIn (messageIn (now (s .entry))) ⌝ }
+{
+    message::index_in(message::read(s))
+}
+
 // The sender's new table: of the records of an Index, or of an IndexUpdate and the old records that it doesn't mention, in the first bytes of
 // the buffer.
 pub fn accept(old: &[u8], message: &[u8], repository: &[u8], out: &mut [u8]) -> Filling
-    ensures { λ r. ⌜ (r ≡ fillingAnswer (acceptOutcome (now (old .entry)) (now (message .entry)) (now (repository .entry)) (length (now (out .entry))))) × (now (out .exit) ≡ bufferAfter (acceptOutcome (now (old .entry)) (now (message .entry)) (now (repository .entry)) (length (now (out .entry)))) (now (out .entry))) ⌝ }
+    ensures { λ r. ⌜ Fills (acceptOutcome (now (old .entry)) (now (message .entry)) (now (repository .entry)))
+        (now (out .entry)) r (now (out .exit)) ⌝ }
 {
     if !table::is_good(old) {
-        return table::refused(15);
+        return xdr::refused(15);
     }
-    let found = find(message);
-    let Found::Taken(update, x) = found else {
+    let found = read_index(message);
+    let IndexIn::Taken { update, index: x } = found else {
         return Filling::Refused(found.refusal());
     };
     let stop = x.repository.start + x.repository.length;
     let order = order::compare_bytes(order::part(message, x.repository.start, stop), repository);
     if !order.is_equal() {
-        return table::refused(21);
+        return xdr::refused(21);
     }
     let start = x.files.start;
     accept_list(order::part(message, start, x.end), start, old, update, out)

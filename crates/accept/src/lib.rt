@@ -1,6 +1,5 @@
 // Accepting an Index or an IndexUpdate: the sender's new table into a lent buffer.
 pub mod accepting;
-mod found;
 mod next;
 mod slot;
 

@@ -1,7 +1,7 @@
 // Where a record goes among records that are in order.
 ghost use mathlib.Core.Path.{_≡_};
 ghost use lib.ListN.{length};
-ghost use Rattle.accept.specs.Slots.{nameOf, slotOf};
+ghost use Rattle.accept.specs.Steps.Slots.{nameOf, slotOf};
 use xdr::Word;
 
 // Behind so many records, or nowhere, since one of them has its name.

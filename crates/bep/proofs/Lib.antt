@@ -1,5 +1,5 @@
 -- Laws of the answers as words.
-mod WriteLaws
+mod FillingLaws
 mod TableLaws
 mod StepLaws
 mod PackLaws

@@ -6,9 +6,9 @@ use mathlib.Core.Path.{_≡_, refl, sym, ap, _∙_}
 use mathlib.Core.List.{List, [], _∷_, _++_, append-nil, append-assoc}
 use lib.ListN.{length, length-append, length-set, take, drop, getD, set, replicate, drop-of-length-le, length-drop}
 use lib.Seq.{paste, paste-suc, set-at, append-snoc, take-all, take-suc, getD-drop}
-use Rattle.queue.specs.Requests.{blank}
-use Rattle.queue.specs.declared.request.Request.{Request}
-use Rattle.queue.specs.declared.queue.RequestQueue.{RequestQueue}
+use Rattle.link.specs.Requests.{blank}
+use Rattle.link.specs.declared.request.Request.{Request}
+use Rattle.link.specs.declared.list.Link.{Link}
 use Rattle.bep.specs.Queues.{tabulated, entryAt, queueOf, pairs, wordsOf}
 
 -- twice a number, one further
@@ -24,18 +24,18 @@ pair-id [] i = refl
 pair-id (e ∷ es) zero = refl
 pair-id (e ∷ es) (suc i) = ap (λ (k : ℕ). getD (pairs (e ∷ es)) k 0) (twice i) ∙ pair-id es i
 
-pair-length : (es : List Request) (i : ℕ) → getD (pairs es) (suc (2 * i)) 0 ≡ getD es i blank .length
+pair-length : (es : List Request) (i : ℕ) → getD (pairs es) (suc (2 * i)) 0 ≡ getD es i blank .size
 pair-length [] i = refl
 pair-length (e ∷ es) zero = refl
 pair-length (e ∷ es) (suc i) = ap (λ (k : ℕ). getD (pairs (e ∷ es)) (suc k) 0) (twice i) ∙ pair-length es i
 
 -- a turn that stores one entry
 pub put-more : (d : List ℕ) (i : ℕ) (es : List Request) → 4 + 2 * i < length d → i < length es
-    → set (set (paste d 3 (pairs es) (2 * i)) (3 + 2 * i) (getD es i blank .id)) (4 + 2 * i) (getD es i blank .length)
+    → set (set (paste d 3 (pairs es) (2 * i)) (3 + 2 * i) (getD es i blank .id)) (4 + 2 * i) (getD es i blank .size)
     ≡ paste d 3 (pairs es) (2 * (i + 1))
 put-more d i es hd he =
     let p : List ℕ = pairs es in
-    let x : ℕ = getD es i blank .length in
+    let x : ℕ = getD es i blank .size in
     let lp : length p ≡ 2 * length es = length-pairs es in
     let k : 4 + 2 * i ≡ 3 + suc (2 * i) = omega arith in
     let n : suc (suc (2 * i)) ≡ 2 * (i + 1) = omega arith in
@@ -67,8 +67,8 @@ heads (x ∷ y ∷ []) a b c h = absurd (omega arith)
 heads (x ∷ y ∷ z ∷ ws) a b c h = refl
 
 -- the whole
-pub packed : (ws : List ℕ) (q : RequestQueue) → length ws ≡ 35 → length (q .entries) ≡ 16
-    → paste (set (set (set ws 0 (q .window)) 1 (q .next)) 2 (q .count)) 3 (pairs (q .entries)) 32 ≡ wordsOf q
+pub packed : (ws : List ℕ) (q : Link) → length ws ≡ 35 → length (q .entries) ≡ 16
+    → paste (set (set (set ws 0 (q .window)) 1 (q .next)) 2 (q .count)) 3 (pairs (q .entries)) 32 ≡ wordsOf (record { link = q })
 packed ws q l e =
     let d : List ℕ = set (set (set ws 0 (q .window)) 1 (q .next)) 2 (q .count) in
     let h : List ℕ = q .window ∷ q .next ∷ q .count ∷ [] in
@@ -83,7 +83,7 @@ packed ws q l e =
 
 pairs-append : (a b : List Request) → pairs (a ++ b) ≡ pairs a ++ pairs b
 pairs-append [] b = refl
-pairs-append (e ∷ a) b = ap (λ (l : List ℕ). e .id ∷ e .length ∷ l) (pairs-append a b)
+pairs-append (e ∷ a) b = ap (λ (l : List ℕ). e .id ∷ e .size ∷ l) (pairs-append a b)
 
 -- the words of the entries that were taken up
 pairs-tabulated : (ws : List ℕ) (n : ℕ) → 3 + 2 * n ≤ length ws → pairs (tabulated (entryAt ws) n) ≡ take (2 * n) (drop 3 ws)

@@ -4,20 +4,21 @@ use Prim.Native.Nat.{ℕ, zero, suc, _+_, _*_}
 use mathlib.Core.List.{List, [], _∷_, _++_}
 use mathlib.Core.Path.{_≡_}
 use lib.ListN.{length, getD}
+use Rattle.xdr.specs.Filling.{Outcome, inRoom, fillingAnswer, bufferAfter}
+use Rattle.xdr.specs.declared.filling.Filling.{Filling}
+use Rattle.xdr.specs.declared.filling.Filling.the-variants as F
 use Rattle.message.specs.declared.answer.Message.{Message}
-use Rattle.message_write.specs.Writing.{writtenBuffer}
-use Rattle.queue.specs.Requests.{total}
-use Rattle.queue.specs.Queue.{outstanding, issueReading, issueOf, answerOf}
-use Rattle.queue.specs.declared.request.Request.{Request}
+use Rattle.link.specs.Requests.{total}
+use Rattle.link.specs.OneLink.{outstanding, issuedLink}
+use Rattle.link.specs.declared.request.Request.{Request}
+use Rattle.link.specs.declared.outcome.Release.{Release}
+use Rattle.link.specs.declared.outcome.Release.the-variants as R
+use Rattle.queue.specs.Queue.{issueOutcome, answerOf}
 use Rattle.queue.specs.declared.queue.RequestQueue.{RequestQueue}
-use Rattle.queue.specs.declared.outcome.Changed.{Changed}
-use Rattle.queue.specs.declared.outcome.Change.{Change}
-use Rattle.queue.specs.declared.outcome.Change.the-variants as C
-use Rattle.queue.specs.declared.outcome.Issued.{Issued}
-use Rattle.queue.specs.declared.outcome.Issuing.{Issuing}
-use Rattle.queue.specs.declared.outcome.Issuing.the-variants as I
-use Rattle.queue.specs.declared.outcome.Answering.{Answering}
-use Rattle.queue.specs.declared.outcome.Answering.the-variants as A
+use Rattle.queue.specs.declared.outcome.Emptied.{Emptied}
+use Rattle.queue.specs.declared.outcome.Verdict.{Verdict}
+use Rattle.queue.specs.declared.outcome.Verdict.the-variants as Ruled
+use Rattle.bep.specs.Filling.{fillingNumber}
 
 -- f at 0, 1, .., n - 1
 abbrev pub tabulated : {X : Type 0} → (ℕ → X) → ℕ → List X
@@ -26,67 +27,67 @@ tabulated f (suc n) = tabulated f n ++ (f n ∷ [])
 
 -- entry i
 abbrev pub entryAt : List ℕ → ℕ → Request
-entryAt ws i = record { id = getD ws (3 + 2 * i) 0; length = getD ws (4 + 2 * i) 0 }
+entryAt ws i = record { id = getD ws (3 + 2 * i) 0; size = getD ws (4 + 2 * i) 0 }
 
 -- the queue that words are
 abbrev pub queueOf : List ℕ → RequestQueue
-queueOf ws = record { window = getD ws 0 0; next = getD ws 1 0; count = getD ws 2 0; entries = tabulated (entryAt ws) 16 }
+queueOf ws = record { link = record { window = getD ws 0 0; next = getD ws 1 0; count = getD ws 2 0; entries = tabulated (entryAt ws) 16 } }
 
 -- the ID and the Length of each request
 abbrev pub pairs : List Request → List ℕ
 pairs [] = []
-pairs (r ∷ rs) = r .id ∷ r .length ∷ pairs rs
+pairs (r ∷ rs) = r .id ∷ r .size ∷ pairs rs
 
 -- the words of a queue
 abbrev pub wordsOf : RequestQueue → List ℕ
-wordsOf q = q .window ∷ q .next ∷ q .count ∷ pairs (q .entries)
+wordsOf q = q .link .window ∷ q .link .next ∷ q .link .count ∷ pairs (q .link .entries)
 
 -- the number that an opening or a drop returns
-abbrev pub changeNumber : Change → ℕ
-changeNumber C.Made = 0
-changeNumber (C.Refused r) = r .number
+abbrev pub verdictNumber : Verdict → ℕ
+verdictNumber Ruled.Accepted = 0
+verdictNumber (Ruled.Refused r) = r .number
 
 -- an opening or a drop with these results
-abbrev pub Becomes : Changed → (number : ℕ) (queue : List ℕ) → Type 0
-Becomes d number queue = (number ≡ changeNumber (d .outcome)) × (queue ≡ wordsOf (d .queue))
-
--- the number that an issue returns
-abbrev pub issuingNumber : Issuing → ℕ
-issuingNumber (I.Issued id n) = 0
-issuingNumber (I.Refused r) = r .number
+pub record Becomes (d : Emptied) (number : ℕ) (queue : List ℕ) : Type 0 where
+  pub number-is : number ≡ verdictNumber (d .verdict)
+  pub queue-is : queue ≡ wordsOf (d .queue)
 
 -- how many bytes were written and the request's ID, or the place
-abbrev pub issuingWords : Issuing → List ℕ
-issuingWords (I.Issued id n) = n ∷ id ∷ []
-issuingWords (I.Refused r) = r .place ∷ 0 ∷ []
+abbrev pub issuedWords : (id : ℕ) → Filling → List ℕ
+issuedWords id (F.Filled n) = n ∷ id ∷ []
+issuedWords id (F.Refused r) = r .place ∷ 0 ∷ []
+
+-- what an issue into a buffer writes, or its refusal
+abbrev pub issueInto : (ws body : List ℕ) (size : ℕ) (before : List ℕ) → Outcome
+issueInto ws body size before = inRoom (length before) (issueOutcome (queueOf ws) body size)
 
 -- an issue by the queue that the words `ws` are, into the buffer `before`, with these results
-pub record Issues (ws body : List ℕ) (size : ℕ) (before : List ℕ) (number : ℕ) (words queue after : List ℕ) : Type 0 where
-  pub number-is : number ≡ issuingNumber (issueOf (queueOf ws) body size (length before) .outcome)
-  pub words-are : words ≡ issuingWords (issueOf (queueOf ws) body size (length before) .outcome)
-  pub queue-is : queue ≡ wordsOf (issueOf (queueOf ws) body size (length before) .queue)
-  pub buffer-is : after ≡ writtenBuffer before (issueReading (queueOf ws) body size (length before))
+pub record QueueIssues (ws body : List ℕ) (size : ℕ) (before : List ℕ) (number : ℕ) (words queue after : List ℕ) : Type 0 where
+  pub number-is : number ≡ fillingNumber (fillingAnswer (issueInto ws body size before))
+  pub words-are : words ≡ issuedWords (queueOf ws .link .next) (fillingAnswer (issueInto ws body size before))
+  pub queue-is : queue ≡ wordsOf (record { link = issuedLink (queueOf ws .link) size (issueInto ws body size before) })
+  pub buffer-is : after ≡ bufferAfter (issueInto ws body size before) before
 
 -- the number that an answer returns: 0 where a request was released
-abbrev pub answeringNumber : Answering → ℕ
-answeringNumber (A.Data r d) = 0
-answeringNumber (A.NotAvailable r) = 0
-answeringNumber (A.WrongSize r) = 0
-answeringNumber (A.Refused r) = r .number
+abbrev pub releaseNumber : Release → ℕ
+releaseNumber (R.Data id size d) = 0
+releaseNumber (R.NotAvailable id size) = 0
+releaseNumber (R.WrongSize id size) = 0
+releaseNumber (R.Refused r) = r .number
 
 -- which of the three it was, the released request's ID and Length, and where the data stand; or the place
-abbrev pub answeringWords : Answering → List ℕ
-answeringWords (A.Data r d) = 0 ∷ r .id ∷ r .length ∷ d .start ∷ d .length ∷ []
-answeringWords (A.NotAvailable r) = 1 ∷ r .id ∷ r .length ∷ 0 ∷ 0 ∷ []
-answeringWords (A.WrongSize r) = 2 ∷ r .id ∷ r .length ∷ 0 ∷ 0 ∷ []
-answeringWords (A.Refused r) = r .place ∷ 0 ∷ 0 ∷ 0 ∷ 0 ∷ []
+abbrev pub releaseWords : Release → List ℕ
+releaseWords (R.Data id size d) = 0 ∷ id ∷ size ∷ d .start ∷ d .length ∷ []
+releaseWords (R.NotAvailable id size) = 1 ∷ id ∷ size ∷ 0 ∷ 0 ∷ []
+releaseWords (R.WrongSize id size) = 2 ∷ id ∷ size ∷ 0 ∷ 0 ∷ []
+releaseWords (R.Refused r) = r .place ∷ 0 ∷ 0 ∷ 0 ∷ 0 ∷ []
 
 -- an answer to the queue that the words `ws` are, with these results
-pub record Answers (ws : List ℕ) (m : Message) (number : ℕ) (words queue : List ℕ) : Type 0 where
-  pub number-is : number ≡ answeringNumber (answerOf (queueOf ws) m .outcome)
-  pub words-are : words ≡ answeringWords (answerOf (queueOf ws) m .outcome)
+pub record QueueAnswers (ws : List ℕ) (m : Message) (number : ℕ) (words queue : List ℕ) : Type 0 where
+  pub number-is : number ≡ releaseNumber (answerOf (queueOf ws) m .release)
+  pub words-are : words ≡ releaseWords (answerOf (queueOf ws) m .release)
   pub queue-is : queue ≡ wordsOf (answerOf (queueOf ws) m .queue)
 
 -- how many requests are outstanding, and their bytes
 abbrev pub totalWords : RequestQueue → List ℕ
-totalWords q = length (outstanding q) ∷ total (outstanding q) ∷ []
+totalWords q = length (outstanding (q .link)) ∷ total (outstanding (q .link)) ∷ []

@@ -1,36 +1,18 @@
--- What the calls on tables give: the number that a call returns, the one word of its answer, and the lent buffer.
+-- What the calls on tables give that fill no buffer.
 use Prim.Native.Nat.{ℕ}
 use mathlib.Core.List.{List, [], _∷_}
 use mathlib.Core.Path.{_≡_}
 use mathlib.Core.Bool.{Bool, cond}
+use Rattle.record.specs.Outline.{outlineOf}
 use Rattle.record.specs.declared.outline.Outline.{Outline}
 use Rattle.record.specs.declared.outline.Outline.the-variants as O
 use Rattle.table.specs.Newest.{compareAt}
-use Rattle.table.specs.Filling.{Outcome, fillingAnswer, bufferAfter}
-use Rattle.table.specs.declared.filling.Filling.{Filling}
-use Rattle.table.specs.declared.filling.Filling.the-variants as F
 use Rattle.order.specs.declared.compare.Order.{Order}
 use Rattle.order.specs.declared.compare.Order.the-variants.{Less, Equal, Greater}
 
 -- a good table, or 15
 abbrev pub goodNumber : Bool → ℕ
 goodNumber good = cond good 0 15
-
--- the number that a call returns which fills a buffer
-abbrev pub fillingNumber : Filling → ℕ
-fillingNumber (F.Filled n) = 0
-fillingNumber (F.Refused r) = r .number
-
--- how many bytes were filled in, or the place
-abbrev pub fillingWords : Filling → List ℕ
-fillingWords (F.Filled n) = n ∷ []
-fillingWords (F.Refused r) = r .place ∷ []
-
--- a call that does `o` was given the buffer `before` and has these results
-pub record Gave (o : Outcome) (before : List ℕ) (number : ℕ) (words after : List ℕ) : Type 0 where
-  pub number-is : number ≡ fillingNumber (fillingAnswer o)
-  pub words-are : words ≡ fillingWords (fillingAnswer o)
-  pub buffer-is : after ≡ bufferAfter o before
 
 -- the first record is lower, equal, or higher
 abbrev pub orderWord : Order → ℕ
@@ -49,3 +31,7 @@ abbrev pub comparedWords : List ℕ → Outline → List ℕ → Outline → Lis
 comparedWords a O.Short b o = 0 ∷ []
 comparedWords a (O.Whole f) b O.Short = 0 ∷ []
 comparedWords a (O.Whole f) b (O.Whole g) = orderWord (compareAt a f b g) ∷ []
+
+-- the records at places of two tables are so compared
+abbrev pub Compares : (a : List ℕ) → (i : ℕ) → (b : List ℕ) → (j number : ℕ) → (words : List ℕ) → Type 0
+Compares a i b j number words = (number ≡ comparedNumber (outlineOf a i) (outlineOf b j)) × (words ≡ comparedWords a (outlineOf a i) b (outlineOf b j))

@@ -10,7 +10,7 @@ use Rattle.message.specs.declared.answer.ResponseSpan.{ResponseSpan}
 use Rattle.message.specs.declared.answer.OptionsSpan.{OptionsSpan}
 use Rattle.message.specs.declared.answer.Message.{Message}
 use Rattle.message.specs.declared.answer.Message.the-variants as M
-use Rattle.record.specs.declared.outline.Fields.{Fields}
+use Rattle.record.specs.declared.outline.RecordFields.{RecordFields}
 use Rattle.record.specs.declared.outline.Outline.{Outline}
 use Rattle.record.specs.declared.outline.Outline.the-variants as O
 use Rattle.record.specs.declared.option_outline.OptionFields.{OptionFields}
@@ -27,7 +27,7 @@ indexWords type id x =
 -- Request: words 3 and 4 are the Repository, 5 and 6 the Name, 7 the Offset, 8 the Length, 9 and 10 the Hash
 abbrev pub requestWords : (id : ℕ) → RequestSpan → List ℕ
 requestWords id x =
-    x .end ∷ 2 ∷ id ∷ x .repository .start ∷ x .repository .length ∷ x .name .start ∷ x .name .length ∷ x .offset ∷ x .length ∷ x .hash .start ∷ x .hash .length ∷ []
+    x .end ∷ 2 ∷ id ∷ x .repository .start ∷ x .repository .length ∷ x .name .start ∷ x .name .length ∷ x .offset ∷ x .size ∷ x .hash .start ∷ x .hash .length ∷ []
 
 -- Response: words 3 and 4 are the Data
 abbrev pub responseWords : (id : ℕ) → ResponseSpan → List ℕ
@@ -68,7 +68,7 @@ readNumber (M.Options id x) = 0
 readNumber (M.Refused r) = r .number
 
 -- a file: the place past it, its name's start and length, Flags, the 64 bits of Modified, Version, the number of its blocks and the place of the first
-abbrev pub fieldWords : Fields → List ℕ
+abbrev pub fieldWords : RecordFields → List ℕ
 fieldWords f = f .past ∷ f .name ∷ (f .stop - f .name) ∷ f .flags ∷ f .modified ∷ f .version ∷ f .blocks ∷ f .first ∷ []
 
 -- a file that is there, or zeros

@@ -6,14 +6,14 @@ ghost use Rattle.record.specs.Outline.{outlineOf};
 ghost use Rattle.record.specs.OptionOutline.{optionOf};
 ghost use Rattle.walker.specs.Walk.{stepAt};
 ghost use Rattle.bep.specs.Words.{fieldWords, fileWords, fileNumber, keyWords, optionWords, optionNumber, stepNumber, stepWords};
-use record::Fields;
 use record::OptionFields;
 use record::OptionOutline;
 use record::Outline;
+use record::RecordFields;
 use walker::Step;
 
 // A record's fields as words; the name's length is its end less its start.
-fn field_words(f: Fields) -> [u64; 8]
+fn field_words(f: RecordFields) -> [u64; 8]
     requires { ⌜ f .name ≤ f .stop ⌝ }
     ensures { λ r. ⌜ r ≡ fieldWords f ⌝ }
 {
@@ -59,7 +59,8 @@ pub extern "C" fn bep_file(files: &[u8], at: usize, answer: &mut [u64; 8]) -> u3
 // The option at a place.
 #[no_mangle]
 pub extern "C" fn bep_option(options: &[u8], at: usize, answer: &mut [u64; 5]) -> u32
-    ensures { λ r. ⌜ (r ≡ optionNumber (optionOf (now (options .entry)) at)) × (now (answer .exit) ≡ optionWords (optionOf (now (options .entry)) at)) ⌝ }
+    ensures { λ r. ⌜ (r ≡ optionNumber (optionOf (now (options .entry)) at))
+        × (now (answer .exit) ≡ optionWords (optionOf (now (options .entry)) at)) ⌝ }
 {
     let outline = record::option_at(options, at);
     let OptionOutline::Whole(f) = outline else {

@@ -3,33 +3,37 @@
 // Any words may be given: those of a queue that is not sound are refused with 22 and left as they were.
 ghost use mathlib.Core.Path.{_≡_};
 ghost use lib.Seq.{paste};
-ghost use Rattle.message.specs.Answers.{said};
+ghost use Rattle.message.specs.Answers.{messageIn};
 ghost use Rattle.message_write.specs.Writing.{requestBytes};
 ghost use Rattle.queue.specs.Queue.{opening, dropOf};
-ghost use Rattle.bep.specs.Queues.{queueOf, pairs, wordsOf, changeNumber, Becomes, issuingNumber, issuingWords, Issues, answeringNumber, answeringWords, Answers, totalWords};
-use queue::Answering;
-use queue::Change;
-use queue::Issuing;
-use queue::Request;
+ghost use Rattle.bep.specs.Filling.{fillingNumber};
+ghost use Rattle.bep.specs.Queues.{queueOf, pairs, wordsOf, verdictNumber, Becomes, issuedWords, QueueIssues, releaseNumber, releaseWords, QueueAnswers, totalWords};
+use link::Link;
+use link::Release;
+use link::Request;
 use queue::RequestQueue;
+use queue::Verdict;
+use xdr::Filling;
 
 // The queue that words are.
 fn unpacked(words: &[u32; 35]) -> RequestQueue
     ensures { λ r. ⌜ r ≡ queueOf (now (words .entry)) ⌝ }
 {
-    let mut entries = [Request { id: 0, length: 0 }; 16];
+    let mut entries = [Request { id: 0, size: 0 }; 16];
     for i in 0..16 {
         let e = Request {
             id: words[3 + 2 * i],
-            length: words[4 + 2 * i],
+            size: words[4 + 2 * i],
         };
         entries[i] = e;
     }
     RequestQueue {
-        window: words[0],
-        next: words[1],
-        count: words[2],
-        entries,
+        link: Link {
+            window: words[0],
+            next: words[1],
+            count: words[2],
+            entries,
+        },
     }
 }
 
@@ -41,7 +45,7 @@ fn put_entries(words: [u32; 35], entries: [Request; 16]) -> [u32; 35]
     for i in 0..16 {
         let e = entries[i];
         out[3 + 2 * i] = e.id;
-        out[4 + 2 * i] = e.length;
+        out[4 + 2 * i] = e.size;
     }
     out
 }
@@ -51,33 +55,34 @@ fn packed(queue: RequestQueue) -> [u32; 35]
     ensures { λ r. ⌜ r ≡ wordsOf queue ⌝ }
 {
     let mut words = [0u32; 35];
-    words[0] = queue.window;
-    words[1] = queue.next;
-    words[2] = queue.count;
-    let entries = queue.entries;
+    let link = queue.link;
+    words[0] = link.window;
+    words[1] = link.next;
+    words[2] = link.count;
+    let entries = link.entries;
     put_entries(words, entries)
 }
 
 // The number that an opening or a drop returns.
-fn change_number(o: Change) -> u32
-    ensures { λ r. ⌜ r ≡ changeNumber o ⌝ }
+fn verdict_number(o: Verdict) -> u32
+    ensures { λ r. ⌜ r ≡ verdictNumber o ⌝ }
 {
     match o {
-        Change::Made => 0,
-        Change::Refused(r) => r.number,
+        Verdict::Accepted => 0,
+        Verdict::Refused(r) => r.number,
     }
 }
 
 // Fills the answer of an issue, and gives its number.
-fn give_issuing(o: Issuing, answer: &mut [u64; 2]) -> u32
-    ensures { λ r. ⌜ (r ≡ issuingNumber o) × (now (answer .exit) ≡ issuingWords o) ⌝ }
+fn give_issued(id: u32, w: Filling, answer: &mut [u64; 2]) -> u32
+    ensures { λ r. ⌜ (r ≡ fillingNumber w) × (now (answer .exit) ≡ issuedWords id w) ⌝ }
 {
-    match o {
-        Issuing::Issued(id, n) => {
+    match w {
+        Filling::Filled(n) => {
             *answer = [n as u64, id as u64];
             0
         }
-        Issuing::Refused(r) => {
+        Filling::Refused(r) => {
             *answer = [r.place as u64, 0];
             r.number
         }
@@ -85,29 +90,23 @@ fn give_issuing(o: Issuing, answer: &mut [u64; 2]) -> u32
 }
 
 // Fills the answer of an answer to the queue, and gives its number.
-fn give_answering(o: Answering, answer: &mut [u64; 5]) -> u32
-    ensures { λ r. ⌜ (r ≡ answeringNumber o) × (now (answer .exit) ≡ answeringWords o) ⌝ }
+fn give_release(o: Release, answer: &mut [u64; 5]) -> u32
+    ensures { λ r. ⌜ (r ≡ releaseNumber o) × (now (answer .exit) ≡ releaseWords o) ⌝ }
 {
     match o {
-        Answering::Data(e, d) => {
-            *answer = [
-                0,
-                e.id as u64,
-                e.length as u64,
-                d.start as u64,
-                d.length as u64,
-            ];
+        Release::Data { id, size, data: d } => {
+            *answer = [0, id as u64, size as u64, d.start as u64, d.length as u64];
             0
         }
-        Answering::NotAvailable(e) => {
-            *answer = [1, e.id as u64, e.length as u64, 0, 0];
+        Release::NotAvailable { id, size } => {
+            *answer = [1, id as u64, size as u64, 0, 0];
             0
         }
-        Answering::WrongSize(e) => {
-            *answer = [2, e.id as u64, e.length as u64, 0, 0];
+        Release::WrongSize { id, size } => {
+            *answer = [2, id as u64, size as u64, 0, 0];
             0
         }
-        Answering::Refused(r) => {
+        Release::Refused(r) => {
             *answer = [r.place as u64, 0, 0, 0, 0];
             r.number
         }
@@ -123,8 +122,8 @@ pub extern "C" fn bep_queue_open(queue: &mut [u32; 35], window: u32) -> u32
     let d = RequestQueue::open_with(window);
     let q = d.queue;
     *queue = packed(q);
-    let o = d.outcome;
-    change_number(o)
+    let o = d.verdict;
+    verdict_number(o)
 }
 
 // Issues a Request with the next ID: the answer is the number of bytes written and the ID, or the place and 0.
@@ -135,18 +134,20 @@ pub extern "C" fn bep_queue_issue(
     repository: &[u8],
     name: &[u8],
     offset: u64,
-    length: u32,
+    size: u32,
     hash: &[u8],
     answer: &mut [u64; 2],
 ) -> u32
-    ensures { λ r. ⌜ Issues (now (queue .entry)) (requestBytes (now (repository .entry)) (now (name .entry)) offset length (now (hash .entry))) length (now (out .entry)) r (now (answer .exit)) (now (queue .exit)) (now (out .exit)) ⌝ }
+    ensures { λ r. ⌜ QueueIssues (now (queue .entry))
+        (requestBytes (now (repository .entry)) (now (name .entry)) offset size (now (hash .entry))) size
+        (now (out .entry)) r (now (answer .exit)) (now (queue .exit)) (now (out .exit)) ⌝ }
 {
     let before = unpacked(queue);
-    let d = before.issue(repository, name, offset, length, hash, out);
+    let d = before.issue(repository, name, offset, size, hash, out);
     let q = d.queue;
     *queue = packed(q);
-    let o = d.outcome;
-    give_issuing(o, answer)
+    let w = d.filling;
+    give_issued(d.id, w, answer)
 }
 
 // Releases the oldest request by the Response to it: the answer is 0 where it brought the data, 1 where they are not available and 2 where
@@ -157,14 +158,14 @@ pub extern "C" fn bep_queue_answer(
     message: &[u8],
     answer: &mut [u64; 5],
 ) -> u32
-    ensures { λ r. ⌜ Answers (now (queue .entry)) (said (now (message .entry))) r (now (answer .exit)) (now (queue .exit)) ⌝ }
+    ensures { λ r. ⌜ QueueAnswers (now (queue .entry)) (messageIn (now (message .entry))) r (now (answer .exit)) (now (queue .exit)) ⌝ }
 {
     let before = unpacked(queue);
     let d = before.answer(message);
     let q = d.queue;
     *queue = packed(q);
-    let o = d.outcome;
-    give_answering(o, answer)
+    let o = d.release;
+    give_release(o, answer)
 }
 
 // Releases everything: the link is gone.
@@ -176,8 +177,8 @@ pub extern "C" fn bep_queue_drop(queue: &mut [u32; 35]) -> u32
     let d = before.drop_link();
     let q = d.queue;
     *queue = packed(q);
-    let o = d.outcome;
-    change_number(o)
+    let o = d.verdict;
+    verdict_number(o)
 }
 
 // How many requests are outstanding, and their bytes. Any queue has them.

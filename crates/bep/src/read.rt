@@ -1,6 +1,6 @@
 // Reading a message.
 ghost use mathlib.Core.Path.{_≡_};
-ghost use Rattle.message.specs.Answers.{said};
+ghost use Rattle.message.specs.Answers.{messageIn};
 ghost use Rattle.bep.specs.Words.{indexWords, requestWords, responseWords, pingWords, optionsWords, placeWords, readWords, readNumber};
 use message::IndexSpan;
 use message::Message;
@@ -45,7 +45,7 @@ fn request_words(id: u32, x: RequestSpan) -> [u64; 11]
         name.start as u64,
         name.length as u64,
         x.offset,
-        x.length as u64,
+        x.size as u64,
         hash.start as u64,
         hash.length as u64,
     ]
@@ -134,7 +134,7 @@ fn read_number(m: Message) -> u32
 // Reads the message at the front of some bytes: whatever follows its end belongs to the next one.
 #[no_mangle]
 pub extern "C" fn bep_read(input: &[u8], answer: &mut [u64; 11]) -> u32
-    ensures { λ r. ⌜ (r ≡ readNumber (said (now (input .entry)))) × (now (answer .exit) ≡ readWords (said (now (input .entry)))) ⌝ }
+    ensures { λ r. ⌜ (r ≡ readNumber (messageIn (now (input .entry)))) × (now (answer .exit) ≡ readWords (messageIn (now (input .entry)))) ⌝ }
 {
     let m = message::read(input);
     *answer = read_words(m);

@@ -1,13 +1,11 @@
 // Which blocks to request, and where a table lists a block.
 ghost use mathlib.Core.List.{[], _∷_};
-ghost use mathlib.Core.Path.{_≡_};
-ghost use lib.ListN.{length};
 ghost use Rattle.want.specs.Listing.{blockWith};
 ghost use Rattle.want.specs.Found.{foundIn};
 ghost use Rattle.want.specs.Wanted.{requestOutcome};
-ghost use Rattle.bep.specs.Tables.{Gave};
-ghost use Rattle.bep.specs.Search.{foundNumber, foundWords};
-use crate::tables::give_filling;
+ghost use Rattle.bep.specs.Filling.{Gives};
+ghost use Rattle.bep.specs.Search.{Finds};
+use crate::filling::give;
 use want::Found;
 
 // The request list of a local table and four peers' tables.
@@ -21,19 +19,21 @@ pub extern "C" fn bep_request_list<'a>(
     peer4: &'a [u8],
     answer: &mut [u64; 1],
 ) -> u32
-    ensures { λ r. ⌜ Gave (requestOutcome (now (local .entry)) (now (peer1 .entry) ∷ now (peer2 .entry) ∷ now (peer3 .entry) ∷ now (peer4 .entry) ∷ []) (length (now (out .entry)))) (now (out .entry)) r (now (answer .exit)) (now (out .exit)) ⌝ }
+    ensures { λ r. ⌜ Gives
+        (requestOutcome (now (local .entry)) (now (peer1 .entry) ∷ now (peer2 .entry) ∷ now (peer3 .entry) ∷ now (peer4 .entry) ∷ []))
+        (now (out .entry)) r (now (answer .exit)) (now (out .exit)) ⌝ }
 {
     let f = want::request_list(local, peer1, peer2, peer3, peer4, out);
-    give_filling(f, answer)
+    give(f, answer)
 }
 
 // Where a table first lists a block with this length and hash.
 #[no_mangle]
 pub extern "C" fn bep_find(table: &[u8], size: u32, hash: &[u8], answer: &mut [u64; 3]) -> u32
-    ensures { λ r. ⌜ (r ≡ foundNumber (foundIn (now (table .entry)) (blockWith size (now (hash .entry))))) × (now (answer .exit) ≡ foundWords (foundIn (now (table .entry)) (blockWith size (now (hash .entry))))) ⌝ }
+    ensures { λ r. ⌜ Finds (foundIn (now (table .entry)) (blockWith size (now (hash .entry)))) r (now (answer .exit)) ⌝ }
 {
     match want::find_local(table, size, hash) {
-        Found::At(record, block) => {
+        Found::At { record, block } => {
             *answer = [1, record as u64, block as u64];
             0
         }

@@ -1,30 +1,13 @@
 // Tables: whether bytes are a good one, which of two records is the newer, and the calls that fill a lent buffer with a table.
 ghost use mathlib.Core.Path.{_≡_};
-ghost use lib.ListN.{length};
-ghost use Rattle.record.specs.Outline.{outlineOf};
 ghost use Rattle.table.specs.Table.{isGood};
 ghost use Rattle.merge.specs.Answer.{mergeOutcome};
 ghost use Rattle.accept.specs.Accepting.{acceptOutcome};
-ghost use Rattle.bep.specs.Tables.{goodNumber, fillingNumber, fillingWords, Gave, orderWord, comparedNumber, comparedWords};
+ghost use Rattle.bep.specs.Filling.{Gives};
+ghost use Rattle.bep.specs.Tables.{goodNumber, orderWord, Compares};
+use crate::filling::give;
 use order::Order;
 use record::Outline;
-use table::Filling;
-
-// Fills the answer of a call that fills a buffer, and gives its number.
-pub fn give_filling(f: Filling, answer: &mut [u64; 1]) -> u32
-    ensures { λ r. ⌜ (r ≡ fillingNumber f) × (now (answer .exit) ≡ fillingWords f) ⌝ }
-{
-    match f {
-        Filling::Filled(n) => {
-            *answer = [n as u64];
-            0
-        }
-        Filling::Refused(r) => {
-            *answer = [r.place as u64];
-            r.number
-        }
-    }
-}
 
 // Whether bytes are a good table: 0, or 15.
 #[no_mangle]
@@ -51,7 +34,7 @@ fn order_word(o: Order) -> u64
 // Compares the record at a place of one table with that at a place of another, by which is the newer: names do not count.
 #[no_mangle]
 pub extern "C" fn bep_compare(a: &[u8], i: usize, b: &[u8], j: usize, answer: &mut [u64; 1]) -> u32
-    ensures { λ r. ⌜ (r ≡ comparedNumber (outlineOf (now (a .entry)) i) (outlineOf (now (b .entry)) j)) × (now (answer .exit) ≡ comparedWords (now (a .entry)) (outlineOf (now (a .entry)) i) (now (b .entry)) (outlineOf (now (b .entry)) j)) ⌝ }
+    ensures { λ r. ⌜ Compares (now (a .entry)) i (now (b .entry)) j r (now (answer .exit)) ⌝ }
 {
     let first = record::outline_at(a, i);
     let second = record::outline_at(b, j);
@@ -70,10 +53,10 @@ pub extern "C" fn bep_compare(a: &[u8], i: usize, b: &[u8], j: usize, answer: &m
 // Merges two tables.
 #[no_mangle]
 pub extern "C" fn bep_merge(out: &mut [u8], a: &[u8], b: &[u8], answer: &mut [u64; 1]) -> u32
-    ensures { λ r. ⌜ Gave (mergeOutcome (now (a .entry)) (now (b .entry)) (length (now (out .entry)))) (now (out .entry)) r (now (answer .exit)) (now (out .exit)) ⌝ }
+    ensures { λ r. ⌜ Gives (mergeOutcome (now (a .entry)) (now (b .entry))) (now (out .entry)) r (now (answer .exit)) (now (out .exit)) ⌝ }
 {
     let f = merge::merge(a, b, out);
-    give_filling(f, answer)
+    give(f, answer)
 }
 
 // The sender's new table, by an Index or an IndexUpdate.
@@ -85,8 +68,10 @@ pub extern "C" fn bep_accept(
     repository: &[u8],
     answer: &mut [u64; 1],
 ) -> u32
-    ensures { λ r. ⌜ Gave (acceptOutcome (now (old .entry)) (now (message .entry)) (now (repository .entry)) (length (now (out .entry)))) (now (out .entry)) r (now (answer .exit)) (now (out .exit)) ⌝ }
+    ensures { λ r. ⌜ Gives
+        (acceptOutcome (now (old .entry)) (now (message .entry)) (now (repository .entry)))
+        (now (out .entry)) r (now (answer .exit)) (now (out .exit)) ⌝ }
 {
     let f = accept::accept(old, message, repository, out);
-    give_filling(f, answer)
+    give(f, answer)
 }

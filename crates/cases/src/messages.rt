@@ -2,7 +2,7 @@
 use message::IndexSpan;
 use message::Message;
 use message::Span;
-use message_write::Written;
+use xdr::Filling;
 
 fn number(label: &[u8], n: u64) {
     lines::text(label);
@@ -45,7 +45,7 @@ fn answer(m: Message) {
             let name = x.name;
             span(b", name ", name);
             number(b", offset ", x.offset);
-            number(b", length ", x.length as u64);
+            number(b", length ", x.size as u64);
             let hash = x.hash;
             span(b", hash ", hash);
             number(b", end ", x.end as u64);
@@ -98,17 +98,17 @@ pub fn vectors() {
 }
 
 // What a writer answered: the bytes written and what reading gives of them, or the refusal and whether the buffer is as it was.
-fn written(label: &[u8], w: Written, out: &[u8]) {
+fn written(label: &[u8], w: Filling, out: &[u8]) {
     lines::text(label);
     match w {
-        Written::Filled(n) => {
+        Filling::Filled(n) => {
             number(b": filled ", n as u64);
             lines::text(b", ");
             if n <= out.len() {
                 read(b"back", &out[0..n]);
             }
         }
-        Written::Refused(r) => lines::refused(out, r),
+        Filling::Refused(r) => lines::refused(out, r),
     }
 }
 

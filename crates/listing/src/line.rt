@@ -1,6 +1,6 @@
 // What a line is made of.
 use libc::STDOUT_FILENO;
-use record::Fields;
+use record::RecordFields;
 use walker::Step;
 
 pub fn text(s: &[u8]) {
@@ -12,14 +12,20 @@ fn labelled(label: &[u8], n: u64) {
     io::print_decimal(STDOUT_FILENO, n);
 }
 
-// A byte of a name: a control byte in hexadecimal.
+// Whether a byte of a name is printed as it is: control bytes are not, nor the backslash that they are written with.
+fn is_plain(b: u8) -> bool {
+    match b {
+        0..=31 | 92 | 127 => false,
+        _ => true,
+    }
+}
+
+// A byte of a name: one that isn't plain in hexadecimal.
 fn name_byte(b: u8) {
-    if 32 <= b {
-        if b != 127 {
-            let one = [b];
-            text(&one);
-            return;
-        }
+    if is_plain(b) {
+        let one = [b];
+        text(&one);
+        return;
     }
     text(b"\\x");
     io::print_hex(STDOUT_FILENO, b as u64, 2);
@@ -43,7 +49,7 @@ fn modified(m: u64) {
 }
 
 // Deleted, invalid, or the blocks of the file and their bytes.
-fn contents(table: &[u8], f: Fields) {
+fn contents(table: &[u8], f: RecordFields) {
     if record::is_deleted(f.flags) {
         text(b" deleted");
         return;
@@ -56,7 +62,7 @@ fn contents(table: &[u8], f: Fields) {
     labelled(b" bytes ", record::offset_of(table, f.first, f.blocks));
 }
 
-fn line(table: &[u8], number: u32, f: Fields) {
+fn line(table: &[u8], number: u32, f: RecordFields) {
     labelled(b"", number as u64);
     text(b" ");
     name(order::part(table, f.name, f.stop));

@@ -10,11 +10,14 @@ use Rattle.order.specs.Order.{compareLists}
 use Rattle.table.specs.Newest.{compareFiles}
 use Rattle.order.specs.declared.compare.Order.{Order}
 use Rattle.order.specs.declared.compare.Order.the-variants.{Less, Equal, Greater}
-use Rattle.order.proofs.OrderLaws.{Below, equal-same, greater-above, below-trans, below-irrefl, below-asym}
-use Rattle.table.proofs.NewestLaws.{at-least-itself, at-least-turned, at-least-trans, at-least-same}
+use Rattle.order.proofs.OrderLaws.{Below, equal-same, below-trans, below-irrefl, below-asym}
+use Rattle.table.proofs.NewestLaws.{at-least-itself, at-least-reversed, at-least-trans, at-least-same}
 use Rattle.record.proofs.RisingLaws.{Above, Rising, rising-is, rising-test}
-use Rattle.merge.specs.Merged.{higherBy, placed, insert, insertAll, mergedOf}
-use Rattle.merge.specs.Highest.{joined, AtLeast, Topped, Highest}
+use Rattle.table.specs.Insert.{placed, insert}
+use Rattle.table.proofs.InsertLaws.{insert-rising, insert-from}
+use Rattle.merge.specs.Merged.{higherBy, higher, insertAll, mergedOf}
+use Rattle.merge.proofs.TwoLaws.{higher-one}
+use Rattle.merge.specs.Highest.{joined, AtLeast, Covered, Highest}
 
 abbrev pub _∈_ : File → List File → Type 0
 f ∈ l = List·Memᴰ f l
@@ -30,97 +33,55 @@ above-all n (g ∷ gs) a s f m = go (List·Memᴰ·cases-cons m) (λ k. above-al
     go (inl e) ih = rw e a
     go (inr k) ih = below-trans n (g .name) (f .name) a (ih k)
 
--- one record put among others
+-- what covers
 
-higher-name : (f g : File) → f .name ≡ g .name → (o : Order) → higherBy o f g .name ≡ g .name
-higher-name f g e Less = refl
-higher-name f g e Equal = e
-higher-name f g e Greater = e
+pub itself : (l : List File) (f : File) → f ∈ l → Covered l f
+itself l f m = record { cover = f; within = m; named = refl; high = at-least-itself f }
 
-insert-above : (n : List ℕ) (f : File) (l : List File) → Below n (f .name) → Above n l → Above n (insert f l)
-insert-above n f [] h a = h
-insert-above n f (g ∷ gs) h a = go (compareLists (f .name) (g .name)) refl
+later : (g : File) (l : List File) (f : File) → Covered l f → Covered (g ∷ l) f
+later g l f t = record { cover = t .cover; within = List·Memᴰ·tail (t .within); named = t .named; high = t .high }
+
+pub through : (l : List File) (f g : File) → g .name ≡ f .name → AtLeast g f → Covered l g → Covered l f
+through l f g e h t = record { cover = t .cover; within = t .within; named = t .named ∙ e; high = at-least-trans f g (t .cover) h (t .high) }
+
+higher-covers : (f g : File) (gs : List File) → f .name ≡ g .name → (o : Order) → compareFiles f g ≡ o → Covered (higherBy o f g ∷ gs) f × Covered (higherBy o f g ∷ gs) g
+higher-covers f g gs n Less e =
+    (record { cover = g; within = List·Memᴰ·head refl; named = sym n; high = at-least-reversed f g e }, itself (g ∷ gs) g (List·Memᴰ·head refl))
+higher-covers f g gs n Equal e =
+    (itself (f ∷ gs) f (List·Memᴰ·head refl), record { cover = f; within = List·Memᴰ·head refl; named = n; high = λ h. let z : _≡_ {A = ℕ} 0 1 = cc (sym e ∙ h) in omega arith })
+higher-covers f g gs n Greater e =
+    (itself (f ∷ gs) f (List·Memᴰ·head refl), record { cover = f; within = List·Memᴰ·head refl; named = n; high = λ h. let z : _≡_ {A = ℕ} 0 1 = cc (sym e ∙ h) in omega arith })
+
+insert-covers : (f : File) (l : List File) (y : File) → y ∈ (f ∷ l) → Covered (insert higher f l) y
+insert-covers f [] y m = itself (f ∷ []) y m
+insert-covers f (g ∷ gs) y m = go (compareLists (f .name) (g .name)) refl (List·Memᴰ·cases-cons m) (insert-covers f gs y)
   where
-    go : (o : Order) → compareLists (f .name) (g .name) ≡ o → Above n (placed o f g gs (insert f gs))
-    go Less e = h
-    go Equal e = rw (higher-name f g (equal-same (f .name) (g .name) e) (compareFiles f g)) a
-    go Greater e = a
-
-insert-rising : (f : File) (l : List File) → Rising l → Rising (insert f l)
-insert-rising f [] s = (tt, tt)
-insert-rising f (g ∷ gs) s = go (compareLists (f .name) (g .name)) refl (insert-rising f gs (s .1))
-  where
-    go : (o : Order) → compareLists (f .name) (g .name) ≡ o → Rising (insert f gs) → Rising (placed o f g gs (insert f gs))
-    go Less e ih = (e, s)
-    go Equal e ih = (rw (higher-name f g (equal-same (f .name) (g .name) e) (compareFiles f g)) (s .0), s .1)
-    go Greater e ih = (insert-above (g .name) f gs (greater-above (f .name) (g .name) e) (s .0), ih)
-
-higher-from : (f g : File) (gs : List File) (y : File) (o : Order) → y ≡ higherBy o f g → y ∈ (f ∷ g ∷ gs)
-higher-from f g gs y Less e = List·Memᴰ·tail (List·Memᴰ·head e)
-higher-from f g gs y Equal e = List·Memᴰ·head e
-higher-from f g gs y Greater e = List·Memᴰ·head e
-
-insert-from : (f : File) (l : List File) (y : File) → y ∈ insert f l → y ∈ (f ∷ l)
-insert-from f [] y m = m
-insert-from f (g ∷ gs) y m = go (compareLists (f .name) (g .name)) m (insert-from f gs y)
-  where
-    past : y ∈ (f ∷ gs) → y ∈ (f ∷ g ∷ gs)
-    past k = ⊎-elim (λ e. List·Memᴰ·head e) (λ q. List·Memᴰ·tail (List·Memᴰ·tail q)) (List·Memᴰ·cases-cons k)
-
-    go : (o : Order) → y ∈ placed o f g gs (insert f gs) → (y ∈ insert f gs → y ∈ (f ∷ gs)) → y ∈ (f ∷ g ∷ gs)
-    go Less k ih = k
-    go Equal k ih = ⊎-elim (λ e. higher-from f g gs y (compareFiles f g) e) (λ q. List·Memᴰ·tail (List·Memᴰ·tail q)) (List·Memᴰ·cases-cons k)
-    go Greater k ih = ⊎-elim (λ e. List·Memᴰ·tail (List·Memᴰ·head e)) (λ q. past (ih q)) (List·Memᴰ·cases-cons k)
-
--- what tops
-
-pub itself : (l : List File) (f : File) → f ∈ l → Topped l f
-itself l f m = record { top = f; within = m; named = refl; high = at-least-itself f }
-
-later : (g : File) (l : List File) (f : File) → Topped l f → Topped (g ∷ l) f
-later g l f t = record { top = t .top; within = List·Memᴰ·tail (t .within); named = t .named; high = t .high }
-
-pub through : (l : List File) (f g : File) → g .name ≡ f .name → AtLeast g f → Topped l g → Topped l f
-through l f g e h t = record { top = t .top; within = t .within; named = t .named ∙ e; high = at-least-trans f g (t .top) h (t .high) }
-
-higher-tops : (f g : File) (gs : List File) → f .name ≡ g .name → (o : Order) → compareFiles f g ≡ o → Topped (higherBy o f g ∷ gs) f × Topped (higherBy o f g ∷ gs) g
-higher-tops f g gs n Less e =
-    (record { top = g; within = List·Memᴰ·head refl; named = sym n; high = at-least-turned f g e }, itself (g ∷ gs) g (List·Memᴰ·head refl))
-higher-tops f g gs n Equal e =
-    (itself (f ∷ gs) f (List·Memᴰ·head refl), record { top = f; within = List·Memᴰ·head refl; named = n; high = λ h. let z : _≡_ {A = ℕ} 0 1 = cc (sym e ∙ h) in omega arith })
-higher-tops f g gs n Greater e =
-    (itself (f ∷ gs) f (List·Memᴰ·head refl), record { top = f; within = List·Memᴰ·head refl; named = n; high = λ h. let z : _≡_ {A = ℕ} 0 1 = cc (sym e ∙ h) in omega arith })
-
-insert-tops : (f : File) (l : List File) (y : File) → y ∈ (f ∷ l) → Topped (insert f l) y
-insert-tops f [] y m = itself (f ∷ []) y m
-insert-tops f (g ∷ gs) y m = go (compareLists (f .name) (g .name)) refl (List·Memᴰ·cases-cons m) (insert-tops f gs y)
-  where
-    same : (l : List File) (x : File) → y ≡ x → Topped l x → Topped l y
+    same : (l : List File) (x : File) → y ≡ x → Covered l x → Covered l y
     same l x e t = rw e t
 
-    go : (o : Order) → compareLists (f .name) (g .name) ≡ o → (y ≡ f) ⊎ (y ∈ (g ∷ gs)) → (y ∈ (f ∷ gs) → Topped (insert f gs) y) → Topped (placed o f g gs (insert f gs)) y
+    go : (o : Order) → compareLists (f .name) (g .name) ≡ o → (y ≡ f) ⊎ (y ∈ (g ∷ gs)) → (y ∈ (f ∷ gs) → Covered (insert higher f gs) y) → Covered (placed higher o f g gs (insert higher f gs)) y
     go Less n (inl e) ih = itself (f ∷ g ∷ gs) y (List·Memᴰ·head e)
     go Less n (inr k) ih = itself (f ∷ g ∷ gs) y (List·Memᴰ·tail k)
-    go Equal n (inl e) ih = same (higherBy (compareFiles f g) f g ∷ gs) f e (higher-tops f g gs (equal-same (f .name) (g .name) n) (compareFiles f g) refl .0)
+    go Equal n (inl e) ih = same (higherBy (compareFiles f g) f g ∷ gs) f e (higher-covers f g gs (equal-same (f .name) (g .name) n) (compareFiles f g) refl .0)
     go Equal n (inr k) ih =
-        ⊎-elim (λ e. same (higherBy (compareFiles f g) f g ∷ gs) g e (higher-tops f g gs (equal-same (f .name) (g .name) n) (compareFiles f g) refl .1))
+        ⊎-elim (λ e. same (higherBy (compareFiles f g) f g ∷ gs) g e (higher-covers f g gs (equal-same (f .name) (g .name) n) (compareFiles f g) refl .1))
         (λ q. itself (higherBy (compareFiles f g) f g ∷ gs) y (List·Memᴰ·tail q)) (List·Memᴰ·cases-cons k)
-    go Greater n (inl e) ih = later g (insert f gs) y (ih (List·Memᴰ·head e))
+    go Greater n (inl e) ih = later g (insert higher f gs) y (ih (List·Memᴰ·head e))
     go Greater n (inr k) ih =
-        ⊎-elim (λ e. itself (g ∷ insert f gs) y (List·Memᴰ·head e)) (λ q. later g (insert f gs) y (ih (List·Memᴰ·tail q))) (List·Memᴰ·cases-cons k)
+        ⊎-elim (λ e. itself (g ∷ insert higher f gs) y (List·Memᴰ·head e)) (λ q. later g (insert higher f gs) y (ih (List·Memᴰ·tail q))) (List·Memᴰ·cases-cons k)
 
 -- the merged table is the highest record of each name
 
-one-more : (f : File) (fs l : List File) → Highest fs l → Highest (f ∷ fs) (insert f l)
+one-more : (f : File) (fs l : List File) → Highest fs l → Highest (f ∷ fs) (insert higher f l)
 one-more f fs l h =
     record {
-      rising = rising-test (insert f l) (insert-rising f l (rising-is l (h .rising)));
-      from = λ y m. ⊎-elim (λ e. List·Memᴰ·head e) (λ k. List·Memᴰ·tail (h .from y k)) (List·Memᴰ·cases-cons (insert-from f l y m));
-      tops = λ y m. ⊎-elim (λ e. insert-tops f l y (List·Memᴰ·head e)) (λ k. over y (h .tops y k)) (List·Memᴰ·cases-cons m);
+      rising = rising-test (insert higher f l) (insert-rising higher higher-one f l (rising-is l (h .rising)));
+      from = λ y m. ⊎-elim (λ e. List·Memᴰ·head e) (λ k. List·Memᴰ·tail (h .from y k)) (insert-from higher higher-one f l y m);
+      covers = λ y m. ⊎-elim (λ e. insert-covers f l y (List·Memᴰ·head e)) (λ k. over y (h .covers y k)) (List·Memᴰ·cases-cons m);
     }
   where
-    over : (y : File) → Topped l y → Topped (insert f l) y
-    over y t = through (insert f l) y (t .top) (t .named) (t .high) (insert-tops f l (t .top) (List·Memᴰ·tail (t .within)))
+    over : (y : File) → Covered l y → Covered (insert higher f l) y
+    over y t = through (insert higher f l) y (t .cover) (t .named) (t .high) (insert-covers f l (t .cover) (List·Memᴰ·tail (t .within)))
 
 all-more : (t fs l : List File) → Highest fs l → Highest (t ++ fs) (insertAll t l)
 all-more [] fs l h = h
@@ -128,7 +89,7 @@ all-more (f ∷ t) fs l h = one-more f (t ++ fs) (insertAll t l) (all-more t fs 
 
 pub merged-highest : (ts : List (List File)) → Highest (joined ts) (mergedOf ts)
 unfolding mergedOf
-merged-highest [] = record { rising = refl; from = λ f m. m; tops = λ f m. itself [] f m }
+merged-highest [] = record { rising = refl; from = λ f m. m; covers = λ f m. itself [] f m }
 merged-highest (t ∷ ts) = all-more t (joined ts) (mergedOf ts) (merged-highest ts)
 
 -- no other list is
@@ -177,11 +138,11 @@ Within a b = (f : File) → f ∈ a → f ∈ b
 
 within-other : (fs gs a b : List File) → AllOK gs → Highest fs a → Highest gs b → Within fs gs → Within gs fs → Within a b
 within-other fs gs a b ok h k p q f m =
-    let t = k .tops f (p f (h .from f m)) in
-    let u = h .tops (t .top) (q (t .top) (k .from (t .top) (t .within))) in
-    let e : u .top ≡ f = one-of-name a (rising-is a (h .rising)) (u .top) f (u .within) m (u .named ∙ t .named) in
-    let low : AtLeast f (t .top) = subst (λ (z : File). AtLeast z (t .top)) e (u .high) in
-    let same : f ≡ t .top = at-least-same f (t .top) (ok f (p f (h .from f m))) (ok (t .top) (k .from (t .top) (t .within))) (sym (t .named)) low (t .high) in
+    let t = k .covers f (p f (h .from f m)) in
+    let u = h .covers (t .cover) (q (t .cover) (k .from (t .cover) (t .within))) in
+    let e : u .cover ≡ f = one-of-name a (rising-is a (h .rising)) (u .cover) f (u .within) m (u .named ∙ t .named) in
+    let low : AtLeast f (t .cover) = subst (λ (z : File). AtLeast z (t .cover)) e (u .high) in
+    let same : f ≡ t .cover = at-least-same f (t .cover) (ok f (p f (h .from f m))) (ok (t .cover) (k .from (t .cover) (t .within))) (sym (t .named)) low (t .high) in
     Memᴰ·cast same (t .within)
 
 -- the highest records go by which records there are, and not by their order or how often they stand

@@ -9,15 +9,17 @@ use Rattle.record.specs.File.{File}
 use Rattle.table.specs.Limits.{bytesLimit}
 use Rattle.table.specs.Table.{isGood, records}
 use Rattle.table.proofs.TableLaws.{good-table}
-use Rattle.table.specs.Standing.{At}
+use Rattle.table.specs.Steps.Standing.{At}
 use Rattle.table.proofs.WalkLaws.{at-start}
+use Rattle.table.proofs.UnionLaws.{union}
 use Rattle.table.proofs.PassLaws.{Counted, counted-none}
+use Rattle.merge.specs.Merged.{higher}
 use Rattle.merge.specs.Answer.{mergedRecords}
-use Rattle.merge.specs.Next.{nextOf}
+use Rattle.merge.specs.Steps.Next.{nextOf}
 use Rattle.merge.specs.declared.next.Step.{Step}
 use Rattle.merge.specs.declared.next.Next.{Next}
 use Rattle.merge.specs.declared.next.Next.the-variants.{End, More}
-use Rattle.merge.proofs.TwoLaws.{merged, merged-two}
+use Rattle.merge.proofs.TwoLaws.{merged-two}
 use Rattle.merge.proofs.StepLaws.{Took, Steps, steps}
 use Rattle.merge.proofs.NotingLaws.{Noting, noting-none}
 
@@ -31,12 +33,12 @@ pub record Left (a b : List ℕ) (i j : ℕ) : Type 0 where
   pub short-right : length b ≤ bytesLimit
 
 abbrev pub rest : {a b : List ℕ} {i j : ℕ} → Left a b i j → List File
-rest l = merged (l .fs) (l .gs)
+rest l = union higher (l .fs) (l .gs)
 
 -- before the first step all are
 module _ (a b : List ℕ) (p : IsBytes a) (q : IsBytes b) (g : isGood a ≡ true) (h : isGood b ≡ true) where
-  abbrev begun : Left a b 4 4
-  begun =
+  abbrev starting : Left a b 4 4
+  starting =
       record {
         fs = records a;
         gs = records b;
@@ -46,15 +48,15 @@ module _ (a b : List ℕ) (p : IsBytes a) (q : IsBytes b) (g : isGood a ≡ true
         short-right = good-table b q h .short;
       }
 
-  begun-all : merged (records a) (records b) ≡ mergedRecords a b
+  starting-all : union higher (records a) (records b) ≡ mergedRecords a b
   unfolding mergedRecords
-  begun-all = merged-two (records a) (records b) (good-table a p g .rising) (good-table b q h .rising)
+  starting-all = merged-two (records a) (records b) (good-table a p g .rising) (good-table b q h .rising)
 
-  pub begun-noting : (notes : List ℕ) → length notes ≡ 1024 → (l : Left a b 4 4) × Counted (mergedRecords a b) (rest l) 0 4 × Noting a b (mergedRecords a b) (rest l) notes 0 0
-  begun-noting notes e = (
-    begun,
-    subst (λ (l : List File). Counted (mergedRecords a b) l 0 4) (sym begun-all) (counted-none (mergedRecords a b)),
-    subst (λ (l : List File). Noting a b (mergedRecords a b) l notes 0 0) (sym begun-all) (noting-none a b (mergedRecords a b) notes e),
+  pub starting-noting : (notes : List ℕ) → length notes ≡ 1024 → (l : Left a b 4 4) × Counted (mergedRecords a b) (rest l) 0 4 × Noting a b (mergedRecords a b) (rest l) notes 0 0
+  starting-noting notes e = (
+    starting,
+    subst (λ (l : List File). Counted (mergedRecords a b) l 0 4) (sym starting-all) (counted-none (mergedRecords a b)),
+    subst (λ (l : List File). Noting a b (mergedRecords a b) l notes 0 0) (sym starting-all) (noting-none a b (mergedRecords a b) notes e),
   )
 
 module _ {a b : List ℕ} {i j : ℕ} (l : Left a b i j) where

@@ -1,6 +1,6 @@
 -- Merging changes nothing but what the records change: order, grouping and repetition of the tables don't matter, and a merged table is good
 -- where it is within the limits.
-use Prim.Native.Nat.{ℕ, _≤_}
+use Prim.Native.Nat.{ℕ}
 use mathlib.Core.List.{List, [], _∷_, _++_, List·Memᴰ·head, List·Memᴰ·tail, List·Memᴰ·cases-cons, List·Memᴰ·not-nil, List·Memᴰ·append-cases, Memᴰ·append-left, Memᴰ·append-right, append-assoc, append-nil}
 use mathlib.Core.Path.{_≡_, refl, sym, ap, subst, _∙_}
 use mathlib.Core.Logic.{_⊎_, inl, inr, ⊎-elim}
@@ -13,13 +13,13 @@ use Rattle.xdr.specs.Number.{IsBytes}
 use Rattle.xdr.specs.Format.{Valid}
 use Rattle.record.specs.File.{File, file}
 use Rattle.table.specs.Limits.{recordsLimit, bytesLimit}
-use Rattle.table.specs.Table.{isGood, isWithin, records, tableOf}
-use Rattle.table.specs.Filling.{accepted, refused, tableInto}
+use Rattle.table.specs.Table.{isGood, isWithin, records, tableOf, resultingTable}
+use Rattle.xdr.specs.Filling.{gives, refuses}
 use Rattle.record.proofs.RisingLaws.{Rising, rising-is, both-true}
-use Rattle.table.specs.Standing.{AllValid}
+use Rattle.table.specs.Steps.Standing.{AllValid}
 use Rattle.table.proofs.TableLaws.{GoodTable, good-table}
 use Rattle.merge.specs.Merged.{mergedOf}
-use Rattle.merge.specs.Highest.{joined, Topped, Highest}
+use Rattle.merge.specs.Highest.{joined, Covered, Highest}
 use Rattle.merge.specs.Answer.{mergedRecords, mergeOutcome}
 use Rattle.merge.proofs.TwoLaws.{insert-none}
 use Rattle.merge.proofs.AnswerLaws.{both-good}
@@ -66,12 +66,12 @@ module _ (a b : List File) where
   pub highest-two : Highest (a ++ b) (mergedOf (a ∷ b ∷ []))
   highest-two = subst (λ (l : List File). Highest l (mergedOf (a ∷ b ∷ []))) joined-two (merged-highest (a ∷ b ∷ []))
 
-  turned-round : Within (a ++ b) (b ++ a)
-  turned-round f m = ⊎-elim (λ k. Memᴰ·append-right b k) (λ k. Memᴰ·append-left a k) (List·Memᴰ·append-cases a m)
+  reversed-round : Within (a ++ b) (b ++ a)
+  reversed-round f m = ⊎-elim (λ k. Memᴰ·append-right b k) (λ k. Memᴰ·append-left a k) (List·Memᴰ·append-cases a m)
 
 pub merged-commutes : (a b : List File) → AllOK a → AllOK b → mergedOf (a ∷ b ∷ []) ≡ mergedOf (b ∷ a ∷ [])
 merged-commutes a b p q =
-    highest-same (a ++ b) (b ++ a) (mergedOf (a ∷ b ∷ [])) (mergedOf (b ∷ a ∷ [])) (both-ok b a q p) (highest-two a b) (highest-two b a) (turned-round a b) (turned-round b a)
+    highest-same (a ++ b) (b ++ a) (mergedOf (a ∷ b ∷ [])) (mergedOf (b ∷ a ∷ [])) (both-ok b a q p) (highest-two a b) (highest-two b a) (reversed-round a b) (reversed-round b a)
 
 pub merged-idempotent : (a : List File) → Rising a → AllOK a → mergedOf (a ∷ a ∷ []) ≡ a
 merged-idempotent a r ok =
@@ -85,11 +85,11 @@ two-highest fs gs a b m h k j =
     record {
       rising = j .rising;
       from = λ f i. ⊎-elim (λ p. Memᴰ·append-left gs (h .from f p)) (λ p. Memᴰ·append-right fs (k .from f p)) (List·Memᴰ·append-cases a (j .from f i));
-      tops = λ f i. ⊎-elim (λ p. up f (h .tops f p) (λ x q. Memᴰ·append-left b q)) (λ p. up f (k .tops f p) (λ x q. Memᴰ·append-right a q)) (List·Memᴰ·append-cases fs i);
+      covers = λ f i. ⊎-elim (λ p. up f (h .covers f p) (λ x q. Memᴰ·append-left b q)) (λ p. up f (k .covers f p) (λ x q. Memᴰ·append-right a q)) (List·Memᴰ·append-cases fs i);
     }
   where
-    up : (f : File) {l : List File} → Topped l f → ((x : File) → x ∈ l → x ∈ (a ++ b)) → Topped m f
-    up f t p = through m f (t .top) (t .named) (t .high) (j .tops (t .top) (p (t .top) (t .within)))
+    up : (f : File) {l : List File} → Covered l f → ((x : File) → x ∈ l → x ∈ (a ++ b)) → Covered m f
+    up f t p = through m f (t .cover) (t .named) (t .high) (j .covers (t .cover) (p (t .cover) (t .within)))
 
 pub joined-append : (ts us : List (List File)) → joined (ts ++ us) ≡ joined ts ++ joined us
 joined-append [] us = refl
@@ -108,9 +108,9 @@ merged-origins a b ts us e f ok =
     ap (λ (l : List File). mergedOf (l ∷ records b ∷ [])) e ∙ ap (λ (l : List File). mergedOf (mergedOf ts ∷ l ∷ [])) f ∙ merged-merged ts us ok
 
 -- so merging them goes by the merged table of all the others
-pub outcome-by-origins : (a b : List ℕ) (room : ℕ) (ts us : List (List File)) → isGood a ≡ true → isGood b ≡ true → records a ≡ mergedOf ts → records b ≡ mergedOf us → AllOK (joined (ts ++ us))
-    → mergeOutcome a b room ≡ tableInto (mergedOf (ts ++ us)) room
-outcome-by-origins a b room ts us g h e f ok = both-good a b room g h ∙ ap (λ (l : List File). tableInto l room) (merged-origins a b ts us e f ok)
+pub outcome-by-origins : (a b : List ℕ) (ts us : List (List File)) → isGood a ≡ true → isGood b ≡ true → records a ≡ mergedOf ts → records b ≡ mergedOf us → AllOK (joined (ts ++ us))
+    → mergeOutcome a b ≡ resultingTable (mergedOf (ts ++ us))
+outcome-by-origins a b ts us g h e f ok = both-good a b g h ∙ ap resultingTable (merged-origins a b ts us e f ok)
 
 pub merged-repeated : (ts : List (List File)) → AllOK (joined ts) → mergedOf (ts ++ ts) ≡ mergedOf ts
 merged-repeated ts ok =
@@ -140,34 +140,31 @@ merged-good ts ok e =
       short = leb-true (length (tableOf (mergedOf ts))) bytesLimit (q .1);
     }
 
--- what an accepted merge tells
-pub record Accepted (a b : List ℕ) (room : ℕ) (l : List ℕ) : Type 0 where
+-- what a merge tells that gives bytes
+pub record MergeGiven (a b l : List ℕ) : Type 0 where
   pub first : isGood a ≡ true
   pub second : isGood b ≡ true
   pub within : isWithin (length (mergedRecords a b)) (length (tableOf (mergedRecords a b))) ≡ true
   pub is : l ≡ tableOf (mergedRecords a b)
-  pub fits : length l ≤ room
 
-accepted-by : (p q r s : Bool) (m l : List ℕ) → cond p (cond q (cond r (cond s (accepted m) (refused 14 0)) (refused 19 0)) (refused 15 0)) (refused 15 0) ≡ accepted l
-    → (p ≡ true) × (q ≡ true) × (r ≡ true) × (s ≡ true) × (l ≡ m)
-accepted-by true true true true m l e = (refl, refl, refl, refl, cc)
-accepted-by true true true false m l e = let z : _≡_ {A = ℕ} 0 1 = cc in absurd (omega arith)
-accepted-by true true false s m l e = let z : _≡_ {A = ℕ} 0 1 = cc in absurd (omega arith)
-accepted-by true false r s m l e = let z : _≡_ {A = ℕ} 0 1 = cc in absurd (omega arith)
-accepted-by false q r s m l e = let z : _≡_ {A = ℕ} 0 1 = cc in absurd (omega arith)
+gave-by : (p q r : Bool) (m l : List ℕ) → cond p (cond q (cond r (gives m) (refuses 19 0)) (refuses 15 0)) (refuses 15 0) ≡ gives l → (p ≡ true) × (q ≡ true) × (r ≡ true) × (l ≡ m)
+gave-by true true true m l e = (refl, refl, refl, cc)
+gave-by true true false m l e = let z : _≡_ {A = ℕ} 0 1 = cc in absurd (omega arith)
+gave-by true false r m l e = let z : _≡_ {A = ℕ} 0 1 = cc in absurd (omega arith)
+gave-by false q r m l e = let z : _≡_ {A = ℕ} 0 1 = cc in absurd (omega arith)
 
-pub merge-accepted : (a b : List ℕ) (room : ℕ) (l : List ℕ) → mergeOutcome a b room ≡ accepted l → Accepted a b room l
+pub merge-gave : (a b l : List ℕ) → mergeOutcome a b ≡ gives l → MergeGiven a b l
 unfolding mergeOutcome
-merge-accepted a b room l e =
+merge-gave a b l e =
     let m : List ℕ = tableOf (mergedRecords a b) in
-    let q = accepted-by (isGood a) (isGood b) (isWithin (length (mergedRecords a b)) (length m)) (leb (length m) room) m l e in
-    record { first = q .0; second = q .1; within = q .2; is = q .4; fits = rw (q .4) (leb-true (length m) room (q .3)) }
+    let q = gave-by (isGood a) (isGood b) (isWithin (length (mergedRecords a b)) (length m)) m l e in
+    record { first = q .0; second = q .1; within = q .2; is = q .3 }
 
 -- its result is a good table of the merged records
-pub merge-result : (a b : List ℕ) (room : ℕ) (l : List ℕ) → IsBytes a → IsBytes b → mergeOutcome a b room ≡ accepted l → GoodTable l (mergedRecords a b)
+pub merge-result : (a b l : List ℕ) → IsBytes a → IsBytes b → mergeOutcome a b ≡ gives l → GoodTable l (mergedRecords a b)
 unfolding mergedRecords
-merge-result a b room l p q e =
-    let r = merge-accepted a b room l e in
+merge-result a b l p q e =
+    let r = merge-gave a b l e in
     let u = good-table a p (r .first) in
     let w = good-table b q (r .second) in
     let ok : AllOK (joined (records a ∷ records b ∷ [])) = subst AllOK (sym (joined-two (records a) (records b))) (both-ok (records a) (records b) (all-ok (records a) (u .valid)) (all-ok (records b) (w .valid))) in

@@ -12,7 +12,7 @@ use lib.Dec.{leb}
 use Rattle.xdr.specs.Buffer.{over, put, putCount}
 use Rattle.xdr.proofs.BufferLaws.{over-over, length-over}
 use Rattle.order.specs.Order.{part}
-use Rattle.merge.specs.Notes.{noteOf, noted, notedAll, putNotes}
+use Rattle.merge.specs.Steps.Notes.{noteOf, noted, notedAll, putNotes}
 use Rattle.merge.specs.declared.next.Step.{Step}
 
 -- two stores where there is room for them

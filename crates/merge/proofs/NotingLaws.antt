@@ -13,9 +13,9 @@ use Rattle.record.specs.File.{File, file}
 use Rattle.order.specs.Order.{part}
 use Rattle.table.specs.Limits.{recordsLimit}
 use Rattle.table.specs.Table.{tableOf}
-use Rattle.table.specs.Standing.{bytesOf}
-use Rattle.merge.specs.Next.{stepBytes}
-use Rattle.merge.specs.Notes.{noteOf, noted, notedAll, Measured}
+use Rattle.table.specs.Steps.Standing.{bytesOf}
+use Rattle.merge.specs.Steps.Next.{stepBytes}
+use Rattle.merge.specs.Steps.Notes.{noteOf, noted, notedAll, Noted}
 use Rattle.merge.specs.declared.next.Step.{Step}
 use Rattle.merge.proofs.NoteLaws.{noted-by, put-within, put-length, put-fits, count-fits, noted-append}
 
@@ -56,12 +56,15 @@ front notes at l h =
     ap (take (at + length l)) (sym (append-assoc (take at notes) l (drop (length l) (drop at notes)))) ∙ take-at (take at notes ++ l) (drop (length l) (drop at notes)) (at + length l) long
 
 module _ {a b : List ℕ} {all rest : List File} {notes : List ℕ} {count at : ℕ} (n : Noting a b all rest notes count at) where
-  pub noting-all : {bytes : ℕ} → rest ≡ [] → (count ≡ length all) × (bytes ≡ length (tableOf all)) → Measured a b (take at notes) all count bytes
+  pub noting-all : {bytes : ℕ} → rest ≡ [] → (count ≡ length all) × (bytes ≡ length (tableOf all)) → Noted a b notes all (record { count = count; bytes = bytes; noted = at })
   noting-all e m =
       record {
-        counted = m .0;
-        sized = m .1;
-        are = λ h. sym (append-nil (notedAll a b (take at notes))) ∙ ap (λ (l : List File). notedAll a b (take at notes) ++ bytesOf l) (sym e) ∙ n .follows h;
+        inside = omega (arith, n .inside, n .long);
+        measured = record {
+          counted = m .0;
+          sized = m .1;
+          are = λ h. sym (append-nil (notedAll a b (take at notes))) ∙ ap (λ (l : List File). notedAll a b (take at notes) ++ bytesOf l) (sym e) ∙ n .follows h;
+        };
       }
 
   module _ (s : Step) {k : ℕ} {o : List ℕ} (q : k ≡ putCount notes at (noteOf s)) (p : o ≡ put notes at (noteOf s)) where

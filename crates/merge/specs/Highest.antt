@@ -17,14 +17,14 @@ abbrev pub AtLeast : (g f : File) → Type 0
 AtLeast g f = compareFiles g f ≡ Less → ⊥
 
 -- among l there is a record of f's name that is at least as high
-pub record Topped (l : List File) (f : File) : Type 0 where
-  pub top : File
-  pub within : List·Memᴰ top l
-  pub named : top .name ≡ f .name
-  pub high : AtLeast top f
+pub record Covered (l : List File) (f : File) : Type 0 where
+  pub cover : File
+  pub within : List·Memᴰ cover l
+  pub named : cover .name ≡ f .name
+  pub high : AtLeast cover f
 
 -- l is the highest record of each name in fs, names rising
 pub record Highest (fs l : List File) : Type 0 where
   pub rising : isRising l ≡ true
   pub from : (f : File) → List·Memᴰ f l → List·Memᴰ f fs
-  pub tops : (f : File) → List·Memᴰ f fs → Topped l f
+  pub covers : (f : File) → List·Memᴰ f fs → Covered l f

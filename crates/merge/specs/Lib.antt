@@ -1,5 +1,4 @@
 pub mod Merged
 pub mod Highest
-pub mod Next
-pub mod Notes
 pub mod Answer
+pub mod Steps

@@ -1,9 +1,9 @@
 // Which record a merge takes next.
 ghost use mathlib.Core.Path.{_≡_};
-ghost use Rattle.merge.specs.Next.{fromLeft, fromRight, chosenOf, nextOf};
+ghost use Rattle.merge.specs.Steps.Next.{fromLeft, fromRight, higherOf, nextOf};
 use order::Order;
-use record::Fields;
-use record::Outline;
+use record::RecordFields;
+use table::Side;
 
 // A record that is taken: of the first table or of the second, at start..end; the merge goes on at i of the first and j of the second.
 pub struct Step {
@@ -21,7 +21,7 @@ pub enum Next {
 }
 
 // The record of the first table at i, up to x.
-fn from_left(i: usize, x: usize, j: usize) -> Next
+pub fn from_left(i: usize, x: usize, j: usize) -> Next
     ensures { λ r. ⌜ r ≡ fromLeft i x j ⌝ }
 {
     Next::More(Step {
@@ -46,18 +46,14 @@ pub fn from_right(j: usize, y: usize, i: usize) -> Next
     })
 }
 
-// Of two records the one with the lower name, and of one name the higher record.
-fn choose(a: &[u8], i: usize, f: Fields, b: &[u8], j: usize, g: Fields) -> Next
-    ensures { λ r. ⌜ r ≡ chosenOf (now (a .entry)) i f (now (b .entry)) j g ⌝ }
+// Of two records of one name the higher.
+fn higher(a: &[u8], i: usize, f: RecordFields, b: &[u8], j: usize, g: RecordFields) -> Next
+    ensures { λ r. ⌜ r ≡ higherOf (now (a .entry)) i (now (b .entry)) j f g ⌝ }
 {
-    match order::compare_parts(a, f.name, f.stop, b, g.name, g.stop) {
-        Order::Less => from_left(i, f.past, j),
-        Order::Greater => from_right(j, g.past, i),
-        Order::Equal => match table::compare_records(a, f, b, g) {
-            Order::Less => from_right(j, g.past, f.past),
-            Order::Equal => from_left(i, f.past, g.past),
-            Order::Greater => from_left(i, f.past, g.past),
-        },
+    match table::compare_records(a, f, b, g) {
+        Order::Less => from_right(j, g.past, f.past),
+        Order::Equal => from_left(i, f.past, g.past),
+        Order::Greater => from_left(i, f.past, g.past),
     }
 }
 
@@ -65,14 +61,10 @@ fn choose(a: &[u8], i: usize, f: Fields, b: &[u8], j: usize, g: Fields) -> Next
 pub fn next_at(a: &[u8], i: usize, b: &[u8], j: usize) -> Next
     ensures { λ r. ⌜ r ≡ nextOf (now (a .entry)) i (now (b .entry)) j ⌝ }
 {
-    match record::outline_at(a, i) {
-        Outline::Short => match record::outline_at(b, j) {
-            Outline::Short => Next::End,
-            Outline::Whole(g) => from_right(j, g.past, i),
-        },
-        Outline::Whole(f) => match record::outline_at(b, j) {
-            Outline::Short => from_left(i, f.past, j),
-            Outline::Whole(g) => choose(a, i, f, b, j, g),
-        },
+    match table::side_at(a, i, b, j) {
+        Side::Neither => Next::End,
+        Side::Left(x) => from_left(i, x, j),
+        Side::Right(y) => from_right(j, y, i),
+        Side::Both(f, g) => higher(a, i, f, b, j, g),
     }
 }

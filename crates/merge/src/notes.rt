@@ -1,11 +1,10 @@
 // Notes of the records that a table takes: two numbers each, so that a pass that writes them compares nothing.
 ghost use mathlib.Core.Path.{_≡_};
 ghost use mathlib.Core.List.{[], _∷_};
-ghost use lib.ListN.{length};
-ghost use Rattle.xdr.specs.Buffer.{put, putCount};
-ghost use Rattle.merge.specs.Notes.{noteOf, noted, putNotes, tableAnswer, tableAfter};
+ghost use Rattle.xdr.specs.Buffer.{Puts};
+ghost use Rattle.merge.specs.Steps.Notes.{noteOf, noted, putNotes, PutsTable};
 use crate::next::Step;
-use table::Filling;
+use xdr::Filling;
 
 // How many records a table has and how many bytes, and how many numbers are noted of it.
 pub struct Size {
@@ -16,7 +15,7 @@ pub struct Size {
 
 // Two numbers at a place of the notes, and how many were put: none where there is no room for both.
 fn put_pair(notes: &mut [usize], at: usize, x: usize, y: usize) -> usize
-    ensures { λ r. ⌜ (r ≡ putCount (now (notes .entry)) at (x ∷ y ∷ [])) × (now (notes .exit) ≡ put (now (notes .entry)) at (x ∷ y ∷ [])) ⌝ }
+    ensures { λ r. ⌜ Puts (x ∷ y ∷ []) (now (notes .entry)) at r (now (notes .exit)) ⌝ }
 {
     if notes.len() < 2 {
         return 0;
@@ -31,7 +30,7 @@ fn put_pair(notes: &mut [usize], at: usize, x: usize, y: usize) -> usize
 
 // Notes a record that is taken: where it starts and where it ends, or for the second table where it ends and where it starts.
 pub fn note(notes: &mut [usize], at: usize, step: Step) -> usize
-    ensures { λ r. ⌜ (r ≡ putCount (now (notes .entry)) at (noteOf step)) × (now (notes .exit) ≡ put (now (notes .entry)) at (noteOf step)) ⌝ }
+    ensures { λ r. ⌜ Puts (noteOf step) (now (notes .entry)) at r (now (notes .exit)) ⌝ }
 {
     if step.left {
         return put_pair(notes, at, step.start, step.end);
@@ -41,7 +40,7 @@ pub fn note(notes: &mut [usize], at: usize, step: Step) -> usize
 
 // Puts the bytes of a record that is noted at a place of the buffer.
 fn put_note(a: &[u8], b: &[u8], x: usize, y: usize, out: &mut [u8], at: usize) -> usize
-    ensures { λ r. ⌜ (r ≡ putCount (now (out .entry)) at (noted (now (a .entry)) (now (b .entry)) x y)) × (now (out .exit) ≡ put (now (out .entry)) at (noted (now (a .entry)) (now (b .entry)) x y)) ⌝ }
+    ensures { λ r. ⌜ Puts (noted (now (a .entry)) (now (b .entry)) x y) (now (out .entry)) at r (now (out .exit)) ⌝ }
 {
     if x <= y {
         return xdr::put_raw(out, at, order::part(a, x, y));
@@ -63,13 +62,13 @@ fn put_notes(a: &[u8], b: &[u8], notes: &[usize], out: &mut [u8], at: usize)
 
 // Puts a table into the first bytes of the buffer, by its size and the notes of its records.
 pub fn put_table(a: &[u8], b: &[u8], notes: &[usize], size: Size, out: &mut [u8]) -> Filling
-    ensures { λ r. ⌜ (r ≡ tableAnswer (size .count) (size .bytes) (length (now (out .entry)))) × (now (out .exit) ≡ tableAfter (now (a .entry)) (now (b .entry)) (now (notes .entry)) (size .count) (size .bytes) (now (out .entry))) ⌝ }
+    ensures { λ r. ⌜ PutsTable (now (a .entry)) (now (b .entry)) (now (notes .entry)) size (now (out .entry)) r (now (out .exit)) ⌝ }
 {
     if !table::within_limits(size.count, size.bytes) {
-        return table::refused(19);
+        return xdr::refused(19);
     }
     if out.len() < size.bytes {
-        return table::refused(14);
+        return xdr::refused(14);
     }
     xdr::put_word(out, 0, size.count);
     put_notes(a, b, notes, out, 4);

@@ -1,3 +1,4 @@
 -- Laws of messages.
 pub mod ByKind
 pub mod MessageNumbers
+pub mod KindLaws

@@ -1,45 +1,53 @@
--- Reading a message is refused with 1 to 12: 13 and all above it belong to other calls.
-use Prim.Native.Nat.{ℕ, _≤_}
+-- Reading a message is never refused with 13 or 14, which belong to other calls.
+use Prim.Native.Nat.{ℕ}
 use mathlib.Core.List.{List}
-use mathlib.Core.Path.{_≡_}
-use mathlib.Core.Bool.{Bool}
+use mathlib.Core.Path.{_≡_, refl, subst}
+use mathlib.Core.Bool.{Bool, true, false, not, _&&_}
 use native.Mathlib.Omega.{arith}
+use lib.Dec.{eqb}
 use Rattle.xdr.specs.Reading.{refused}
 use Rattle.xdr.specs.Format.{read}
 use Rattle.xdr.specs.Fields.{text}
-use Rattle.xdr.proofs.Numbers.{NumbersUpTo, refused-number}
+use Rattle.xdr.proofs.Numbers.{NumbersIn, refused-number}
 use Rattle.record.specs.Block.{blocks, hash}
 use Rattle.record.specs.File.{name, isDeleted, files}
 use Rattle.message.specs.Limits.{filesLimit}
 use Rattle.message.specs.Header.{typeOf}
 use Rattle.message.specs.Message.{Kind, isIndex, isRequest, isResponse, isPing, isPong, isIndexUpdate, isOptions, kindOf, body, message}
 
-text-numbers : (limit : ℕ) → NumbersUpTo 12 (text limit)
-text-numbers limit = (omega arith, (omega arith, tt))
+-- neither 13 nor 14
+abbrev Neither : ℕ → Type 0
+Neither k = (not (eqb k 13) && not (eqb k 14)) ≡ true
 
-name-numbers : NumbersUpTo 12 name
-name-numbers = (omega arith, text-numbers 255)
+text-numbers : (limit : ℕ) → NumbersIn Neither (text limit)
+text-numbers limit = (refl, (refl, tt))
 
-hash-numbers : NumbersUpTo 12 hash
-hash-numbers = (omega arith, tt)
+name-numbers : NumbersIn Neither name
+name-numbers = (refl, text-numbers 255)
 
-blocks-numbers : (deleted : Bool) → NumbersUpTo 12 (blocks deleted)
-blocks-numbers deleted = ((omega arith, (omega arith, tt)), ((omega arith, tt), λ s. hash-numbers))
+hash-numbers : NumbersIn Neither hash
+hash-numbers = (refl, tt)
 
-files-numbers : (limit : ℕ) → NumbersUpTo 12 (files limit)
-files-numbers limit = ((omega arith, tt), (name-numbers, λ n. ((omega arith, tt), λ f. (tt, λ m. (tt, λ v. blocks-numbers (isDeleted f))))))
+blocks-numbers : (deleted : Bool) → NumbersIn Neither (blocks deleted)
+blocks-numbers deleted = ((refl, (refl, tt)), ((refl, tt), λ s. hash-numbers))
 
-body-numbers : (k : Kind) → NumbersUpTo 12 (body k)
+files-numbers : (limit : ℕ) → NumbersIn Neither (files limit)
+files-numbers limit = ((refl, tt), (name-numbers, λ n. ((refl, tt), λ f. (tt, λ m. (tt, λ v. blocks-numbers (isDeleted f))))))
+
+body-numbers : (k : Kind) → NumbersIn Neither (body k)
 body-numbers isIndex = (text-numbers 64, λ r. files-numbers filesLimit)
-body-numbers isRequest = (text-numbers 64, λ r. (name-numbers, λ n. (tt, λ o. ((omega arith, tt), λ l. hash-numbers))))
-body-numbers isResponse = (omega arith, tt)
+body-numbers isRequest = (text-numbers 64, λ r. (name-numbers, λ n. (tt, λ o. ((refl, tt), λ l. hash-numbers))))
+body-numbers isResponse = (refl, tt)
 body-numbers isPing = tt
 body-numbers isPong = tt
 body-numbers isIndexUpdate = (text-numbers 64, λ r. files-numbers filesLimit)
-body-numbers isOptions = ((omega arith, tt), (text-numbers 64, λ k. text-numbers 255))
+body-numbers isOptions = ((refl, tt), (text-numbers 64, λ k. text-numbers 255))
 
-pub message-number : (s : List ℕ) (k p : ℕ) → read message s ≡ refused k p → k ≤ 12
-message-number s k p e = refused-number 12 (omega arith) message (header-numbers, λ h. body-numbers (kindOf (typeOf h))) s k p e
+pub message-number : (s : List ℕ) (k p : ℕ) → read message s ≡ refused k p → (k ≡ 13 → ⊥) × (k ≡ 14 → ⊥)
+message-number s k p e = (λ f. never (subst Neither f other), λ f. never (subst Neither f other))
   where
-    header-numbers : (4 ≤ 12) × ((3 ≤ 12) × ((2 ≤ 12) × Unit {0}))
-    header-numbers = (omega arith, (omega arith, (omega arith, tt)))
+    other : Neither k
+    other = refused-number Neither refl refl message ((refl, (refl, (refl, tt))), λ h. body-numbers (kindOf (typeOf h))) s k p e
+
+    never : false ≡ true → ⊥
+    never z = let y : _≡_ {A = ℕ} 0 1 = cc in omega arith

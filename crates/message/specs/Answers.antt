@@ -1,14 +1,14 @@
 -- What reading a message answers: its fields, with spans into the bytes, or the refusal.
 use Prim.Native.Nat.{ℕ, _+_, _-_}
 use mathlib.Core.List.{List}
-use lib.ListN.{length}
+use lib.ListN.{length, take, drop}
 use Rattle.xdr.specs.Reading.{Reading, taken, refused}
 use Rattle.xdr.specs.Format.{readAt}
 use Rattle.xdr.specs.Pad.{padded}
 use Rattle.record.specs.File.{File}
 use Rattle.record.specs.KeyValue.{KeyValue}
 use Rattle.message.specs.Header.{typeOf, idOf}
-use Rattle.message.specs.Message.{Kind, isIndex, isRequest, isResponse, isPing, isPong, isIndexUpdate, isOptions, kindOf, Body, Sent, message}
+use Rattle.message.specs.Message.{RequestBody, Kind, isIndex, isRequest, isResponse, isPing, isPong, isIndexUpdate, isOptions, kindOf, Body, MessageValue, message}
 use Rattle.message.specs.declared.answer.Span.{Span}
 use Rattle.message.specs.declared.answer.IndexSpan.{IndexSpan}
 use Rattle.message.specs.declared.answer.RequestSpan.{RequestSpan}
@@ -20,8 +20,12 @@ use Rattle.message.specs.declared.answer.Message.{Message}
 use Rattle.message.specs.declared.answer.Message.the-variants as M
 
 -- so many bytes from a place on
-abbrev pub span : (start length : ℕ) → Span
-span start length = record { start = start; length = length }
+abbrev pub span : (start count : ℕ) → Span
+span start count = record { start = start; length = count }
+
+-- the bytes at a span
+abbrev pub spanBytes : List ℕ → Span → List ℕ
+spanBytes s x = take (x .length) (drop (x .start) s)
 
 -- where the field after a string at a place begins
 abbrev pub past : ℕ → List ℕ → ℕ
@@ -38,14 +42,14 @@ indexSpan p next =
     }
 
 -- the body of a Request, likewise
-abbrev pub requestSpan : List ℕ × (List ℕ × (ℕ × (ℕ × List ℕ))) → ℕ → RequestSpan
-requestSpan p next =
+abbrev pub requestSpan : RequestBody → ℕ → RequestSpan
+requestSpan b next =
     record {
-      repository = span 8 (length (p .0));
-      name = span (past 4 (p .0) + 4) (length (p .1 .0));
-      offset = p .1 .1 .0;
-      length = p .1 .1 .1 .0;
-      hash = span (past (past 4 (p .0)) (p .1 .0) + 16) (length (p .1 .1 .1 .1));
+      repository = span 8 (length (b .repository));
+      name = span (past 4 (b .repository) + 4) (length (b .name));
+      offset = b .offset;
+      size = b .size;
+      hash = span (past (past 4 (b .repository)) (b .name) + 16) (length (b .hash));
       end = next;
     }
 
@@ -92,10 +96,10 @@ bodyAnswer isOptions id (taken l next) = M.Options id (optionsSpan l next)
 bodyAnswer isOptions id (refused n p) = refusal n p
 
 -- what reading a message answers
-abbrev pub messageAnswer : Reading Sent → Message
+abbrev pub messageAnswer : Reading MessageValue → Message
 messageAnswer (taken m next) = bodyAnswer (kindOf (typeOf (m .0))) (idOf (m .0)) (taken (m .1) next)
 messageAnswer (refused n p) = refusal n p
 
 -- what bytes say that are given as a message: it is read from their start
-abbrev pub said : List ℕ → Message
-said s = messageAnswer (readAt message s 0)
+abbrev pub messageIn : List ℕ → Message
+messageIn s = messageAnswer (readAt message s 0)

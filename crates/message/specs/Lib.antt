@@ -2,3 +2,4 @@ pub mod Limits
 pub mod Header
 pub mod Message
 pub mod Answers
+pub mod Kinds

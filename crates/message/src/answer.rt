@@ -20,7 +20,7 @@ pub struct RequestSpan {
     pub repository: Span,
     pub name: Span,
     pub offset: u64,
-    pub length: u32,
+    pub size: u32,
     pub hash: Span,
     pub end: usize,
 }

@@ -4,7 +4,7 @@ ghost use Rattle.xdr.specs.Format.{readAt};
 ghost use Prim.Native.Nat.{_≤_};
 ghost use lib.ListN.{length};
 ghost use Rattle.record.specs.KeyValue.{options};
-ghost use Rattle.message.specs.Answers.{indexAnswer, indexMessage, updateMessage, bodyAnswer, said};
+ghost use Rattle.message.specs.Answers.{indexAnswer, indexMessage, updateMessage, bodyAnswer, messageIn};
 ghost use Rattle.message.specs.Limits.{optionsLimit};
 ghost use Rattle.message.specs.Message.{isRequest, isResponse, isOptions, index, request, response};
 use crate::answer::IndexRead;
@@ -17,19 +17,15 @@ use crate::answer::Span;
 use crate::header::id_of;
 use crate::header::read_header;
 use crate::header::type_of;
+use crate::limits::DATA_LIMIT;
+use crate::limits::FILES_LIMIT;
+use crate::limits::OPTIONS_LIMIT;
+use crate::limits::REPOSITORY_LIMIT;
 use record::Array;
 use xdr::Bytes;
 use xdr::Hyper;
 use xdr::Refusal;
 use xdr::Word;
-
-const REPOSITORY_LIMIT: u32 = 64;
-
-const FILES_LIMIT: u32 = 512;
-
-const DATA_LIMIT: u32 = 131072;
-
-const OPTIONS_LIMIT: u32 = 64;
 
 // The body of an Index or an IndexUpdate: the files are read from the part that begins there.
 fn read_index(s: &[u8]) -> IndexRead
@@ -91,12 +87,12 @@ fn read_request(s: &[u8], id: u32) -> Message
         return Message::Refused(name.refusal());
     };
     let offset = xdr::read_hyper(s, offset_at);
-    let Hyper::Taken(from, length_at) = offset else {
+    let Hyper::Taken(from, size_at) = offset else {
         return Message::Refused(offset.refusal());
     };
-    let size = record::read_size(s, length_at);
-    let Word::Taken(length, hash_at) = size else {
-        return Message::Refused(size.refusal());
+    let length = record::read_size(s, size_at);
+    let Word::Taken(size, hash_at) = length else {
+        return Message::Refused(length.refusal());
     };
     let hash = record::read_hash(s, hash_at);
     let Bytes::Taken(hash_length, end) = hash else {
@@ -112,7 +108,7 @@ fn read_request(s: &[u8], id: u32) -> Message
             length: name_length,
         },
         offset: from,
-        length,
+        size,
         hash: Span {
             start: hash_at + 4,
             length: hash_length,
@@ -163,7 +159,7 @@ fn read_options(s: &[u8], id: u32) -> Message
 
 // The message at the front of some bytes: whatever follows its end belongs to the next one.
 pub fn read(s: &[u8]) -> Message
-    ensures { λ r. ⌜ r ≡ said (now (s .entry)) ⌝ }
+    ensures { λ r. ⌜ r ≡ messageIn (now (s .entry)) ⌝ }
 {
     let head = read_header(s);
     let Word::Taken(h, _) = head else {

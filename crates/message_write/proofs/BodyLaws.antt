@@ -11,17 +11,16 @@ use Rattle.xdr.specs.Pad.{padded}
 use Rattle.xdr.specs.Format.{nothing, bytes, read, readAt, encode}
 use Rattle.xdr.specs.Fields.{word, hyper}
 use Rattle.xdr.proofs.EncodedSize.{number-size}
-use Rattle.xdr.proofs.Parts.{pair-parts}
+use Rattle.xdr.proofs.Parts.{via-parts, pair-parts}
 use Rattle.xdr.proofs.Steps.{Reads, passed, ends, ends-word}
 use Rattle.xdr.proofs.Told.{told-there}
 use Rattle.record.specs.Block.{hash as hashField}
 use Rattle.record.specs.File.{File}
 use Rattle.record.specs.KeyValue.{KeyValue, options}
 use Rattle.message.specs.Limits.{optionsLimit}
-use Rattle.message.specs.Message.{index, request, response}
+use Rattle.message.specs.Message.{RequestBody, index, request, response}
 use Rattle.message_write.specs.Writing.{indexBytes, requestBytes}
-use Rattle.message_write.proofs.Behind.{behind, string-size, behind-string}
-use Rattle.message_write.proofs.RequestLaws.{request-size, request-grouped}
+use Rattle.message_write.proofs.Behind.{behind, string-size, behind-string, request-size, request-grouped}
 
 -- Ping and Pong: nothing behind the header
 pub nothing-parts : {v : Unit {0}} {n : ℕ} → Reads nothing (behind []) 4 (taken v n) → n ≡ 4
@@ -49,7 +48,7 @@ index-parts r f h =
     (leb-true (length r) 64 (s .2), omega (arith, s .1, w .0), omega (arith, s .1, w .1, size, string-size r))
 
 -- a Request: its strings within their limits, and all of its bytes
-pub request-parts : (r n : List ℕ) (o s : ℕ) (h : List ℕ) {v : List ℕ × (List ℕ × (ℕ × (ℕ × List ℕ)))} {e : ℕ} → Reads request (behind (requestBytes r n o s h)) 4 (taken v e)
+pub request-parts : (r n : List ℕ) (o s : ℕ) (h : List ℕ) {v : RequestBody} {e : ℕ} → Reads request (behind (requestBytes r n o s h)) 4 (taken v e)
     → (length r ≤ 64) × (length n ≤ 255) × (length h ≤ 32) × (e ≡ 4 + length (requestBytes r n o s h))
 request-parts r n o s h {v} {e} w =
     let R : List ℕ = encode (bytes word) r in
@@ -58,7 +57,7 @@ request-parts r n o s h {v} {e} w =
     let L : List ℕ = encode word s in
     let H : List ℕ = encode (bytes word) h in
     let front : List ℕ = ((((0 ∷ 0 ∷ 0 ∷ 0 ∷ []) ++ R) ++ N) ++ O) ++ L in
-    let a = pair-parts w in
+    let a = pair-parts (via-parts w) in
     let b = pair-parts (a .2) in
     let c = pair-parts (b .2) in
     let d = pair-parts (c .2) in
@@ -69,7 +68,7 @@ request-parts r n o s h {v} {e} w =
     let long : length front ≡ d .0 =
     simp length-append (omega (arith, repository .1, name .1, offset, size, string-size r, string-size n, number-size 8 o, number-size 4 s)) in
     let whole : behind (requestBytes r n o s h) ≡ front ++ (H ++ []) = sym (request-grouped (0 ∷ 0 ∷ 0 ∷ 0 ∷ []) R N O L H) ∙ ap (λ (x : List ℕ). front ++ x) (sym (append-nil H)) in
-    let hash = told-there h front [] long (subst (λ (x : List ℕ). Reads hashField x (d .0) (taken (v .1 .1 .1 .1) e)) whole (d .2)) in (
+    let hash = told-there h front [] long (subst (λ (x : List ℕ). Reads hashField x (d .0) (taken (v .hash) e)) whole (d .2)) in (
       leb-true (length r) 64 (repository .2),
       leb-true (length n) 255 (name .2),
       omega (arith, eqb-true (length h) 32 (hash .2)),

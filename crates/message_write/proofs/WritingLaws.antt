@@ -1,26 +1,31 @@
 -- What writing gives, by what the check of its body answered.
-use Prim.Native.Nat.{ℕ, _%_, _≤_, _<_}
+use Prim.Native.Nat.{ℕ, _+_, _%_, _≤_, _<_}
 use mathlib.Core.List.{List, [], _++_}
-use mathlib.Core.Path.{_≡_, refl, sym, ap, _∙_}
-use mathlib.Core.Bool.{Bool, true, false, cond}
+use mathlib.Core.Path.{_≡_, refl, sym, ap, subst, _∙_}
+use mathlib.Core.Bool.{Bool, true, false, cond, _||_}
 use native.Mathlib.Omega.{arith}
-use borrow.Author.Tests.{le-leb, lt-leb, eq-eqb, leb-true}
-use lib.ListN.{length, take, drop}
-use lib.Seq.{drop-at}
-use lib.Dec.{leb}
+use native.Mathlib.Decide.{decLe}
+use borrow.Author.Tests.{le-leb, lt-leb, eq-eqb, eqb-true, leb-true}
+use lib.ListN.{length, take, drop, length-append}
+use lib.Seq.{drop-at, length-take-le}
+use lib.Dec.{leb, eqb}
 use Rattle.xdr.specs.Reading.{Reading, taken, refused, shifted, mapped}
 use Rattle.xdr.specs.Format.{Format, read, readAt, encode}
 use Rattle.xdr.specs.Fields.{word}
 use Rattle.xdr.specs.Buffer.{filled}
+use Rattle.xdr.specs.Filling.{Outcome, gives, refuses, inRoom, fillingAnswer, Fills}
 use Rattle.xdr.specs.declared.answer.Refusal.{Refusal}
+use Rattle.xdr.specs.declared.filling.Filling.{Filling}
+use Rattle.xdr.specs.declared.filling.Filling.the-variants as Out
 use Rattle.xdr.proofs.EncodedSize.{number-size}
-use Rattle.xdr.proofs.Steps.{Reads, checked-passed, both-read, shifted-zero}
+use Rattle.xdr.proofs.FillingLaws.{fills-given, fills-kept}
+use Rattle.xdr.proofs.Steps.{Reads, checked-passed, both-read, shifted-zero, ends}
 use Rattle.xdr.proofs.Told.{Wide, encoded-at, number-alone}
+use Rattle.xdr.proofs.Within.{Within, within}
 use Rattle.message.specs.Header.{headerOf, versionOf, typeOf, reservedOf, header}
 use Rattle.message.specs.Message.{kindOf, body, message}
-use Rattle.message_write.specs.Writing.{messageBytes, fitted, writing, writtenAnswer, writtenBuffer, bodyFitted, storedBuffer}
-use Rattle.message_write.specs.declared.answer.Written.{Written}
-use Rattle.message_write.specs.declared.answer.Written.the-variants as W
+use Rattle.message_write.specs.Writing.{messageBytes, asRead, writing}
+use Rattle.message_write.specs.Steps.{writingBody, checkAnswer, bodyCheck, sizeIn, admittedAnswer}
 use Rattle.message_write.proofs.Behind.{behind}
 
 -- a header that was put together reads back
@@ -31,78 +36,117 @@ header-there id k b h p q =
     checked-passed (checked-passed (checked-passed (encoded-at {F = word} (headerOf id k) [] b (omega arith) refl refl (number-alone 3 (headerOf id k)))
     (eq-eqb (versionOf (headerOf id k)) 0 (omega arith))) (simp (t, le-leb 1 k p, le-leb k 7 q))) (eq-eqb (reservedOf (headerOf id k)) 0 (omega arith))
 
-fitted-mapped : {A B : Type 0} (f : A → B) (room : ℕ) (m : List ℕ) (r : Reading A) → fitted room m (mapped f r) ≡ fitted room m r
-fitted-mapped f room m (taken v n) = refl
-fitted-mapped f room m (refused k p) = refl
+as-read-mapped : {A B : Type 0} (f : A → B) (m : List ℕ) (r : Reading A) → asRead m (mapped f r) ≡ asRead m r
+as-read-mapped f m (taken v n) = refl
+as-read-mapped f m (refused k p) = refl
 
 -- what is written goes by the reading of the body
-pub by-body : (id k : ℕ) (b : List ℕ) (room : ℕ) → id ≤ 4095 → 1 ≤ k → k ≤ 7
-    → writing id k b room ≡ fitted room (messageBytes id k b) (shifted 4 (read (body (kindOf k)) b))
-unfolding writing readAt
-by-body id k b room h p q =
-    let m : List ℕ = messageBytes id k b in
-    let w : ℕ = headerOf id k in
-    let t : typeOf w ≡ k = omega arith in
-    let behind-it : drop 4 m ≡ b = drop-at (encode word w) b 4 (number-size 4 w) in
-    simp (le-leb id 4095 h)
-    (ap (fitted room m) (sym (shifted-zero (read message m)) ∙ both-read (header-there id k b h p q) (record { is = refl }) .is)
-    ∙ fitted-mapped (λ y. (w, y)) room m (shifted 4 (read (body (kindOf (typeOf w))) (drop 4 m)))
-    ∙ ap (λ (l : List ℕ). fitted room m (shifted 4 (read (body (kindOf (typeOf w))) l))) behind-it
-    ∙ ap (λ (x : ℕ). fitted room m (shifted 4 (read (body (kindOf x)) b))) t)
+pub by-body : (id k : ℕ) (b : List ℕ) → 1 ≤ k → k ≤ 7 → writing message id k b ≡ writingBody (body (kindOf k)) id k b
+unfolding writing writingBody readAt
+by-body id k b p q = go (decLe id 4095)
+  where
+    m : List ℕ
+    m = messageBytes id k b
+
+    go : Dec (id ≤ 4095) → writing message id k b ≡ writingBody (body (kindOf k)) id k b
+    go (yes h) =
+        let w : ℕ = headerOf id k in
+        let t : typeOf w ≡ k = omega arith in
+        let behind-it : drop 4 m ≡ b = drop-at (encode word w) b 4 (number-size 4 w) in
+        simp (le-leb id 4095 h)
+        (ap (asRead m) (sym (shifted-zero (read message m)) ∙ both-read (header-there id k b h p q) (record { is = refl }) .is)
+        ∙ as-read-mapped (λ y. (w, y)) m (shifted 4 (read (body (kindOf (typeOf w))) (drop 4 m)))
+        ∙ ap (λ (l : List ℕ). asRead m (shifted 4 (read (body (kindOf (typeOf w))) l))) behind-it
+        ∙ ap (λ (x : ℕ). asRead m (shifted 4 (read (body (kindOf x)) b))) t)
+    go (no h) = simp (lt-leb id 4095 (omega arith))
+
+-- a type that is one of two
+pub either : (a c k : ℕ) (P : ℕ → Type 0) → (eqb k a || eqb k c) ≡ true → P a → P c → P k
+either a c k P e x y = go (eqb k a) refl e
+  where
+    go : (t : Bool) → eqb k a ≡ t → (t || eqb k c) ≡ true → P k
+    go true q e = subst P (sym (eqb-true k a q)) x
+    go false q e = subst P (sym (eqb-true k c e)) y
+
+-- a body that passed its check, the test of the Message ID and that of the room
+pub record Passed {A : Type 0} (F : Format A) (id : ℕ) (b : List ℕ) (size n : ℕ) : Type 0 where
+  pub value : A
+  pub reads : Reads F (behind b) 4 (taken value n)
+  pub room : n ≤ size
+  pub low : id ≤ 4095
+
+-- a check answers what writing gives, but for the Message ID
+check-answers : {A : Type 0} (F : Format A) (id k : ℕ) (b : List ℕ) → bodyCheck F b ≡ fillingAnswer (asRead (messageBytes id k b) (shifted 4 (read F b)))
+unfolding bodyCheck
+check-answers {A} F id k b = go (read F b) (within F b)
+  where
+    m : List ℕ
+    m = messageBytes id k b
+
+    go : (x : Reading A) → Within (length b) x → checkAnswer (shifted 4 x) ≡ fillingAnswer (asRead m (shifted 4 x))
+    go (taken v u) h =
+        ap Out.Filled (sym (length-take-le (4 + u) m (omega (arith, length-append (encode word (headerOf id k)) b, number-size 4 (headerOf id k)))))
+    go (refused n p) h = refl
 
 -- an ID that is too high
-pub id-refused : (id k : ℕ) (b out : List ℕ) (room : ℕ) → 4095 < id
-    → (W.Refused (record { number = 5; place = 0 }) ≡ writtenAnswer (writing id k b room)) × (out ≡ writtenBuffer out (writing id k b room))
+pub id-refused : {A : Type 0} (F : Format A) (id k : ℕ) (b : List ℕ) → 4095 < id → writing F id k b ≡ refuses 5 0
 unfolding writing
-id-refused id k b out room h = (simp (lt-leb id 4095 h), simp (lt-leb id 4095 h))
+id-refused F id k b h = simp (lt-leb id 4095 h)
 
-module _ {A : Type 0} where
-  refused-alike : (room : ℕ) (m out : List ℕ) (x : Reading A) (f : Refusal) → W.Refused f ≡ writtenAnswer (fitted room [] x)
-      → (W.Refused f ≡ writtenAnswer (fitted room m x)) × (out ≡ writtenBuffer out (fitted room m x))
-  refused-alike room m out (taken v n) f e = go (leb n room) e
+-- one that isn't
+pub id-passed : (id k : ℕ) (b : List ℕ) → id ≤ 4095 → 1 ≤ k → k ≤ 7 → bodyCheck (body (kindOf k)) b ≡ fillingAnswer (writing message id k b)
+unfolding writingBody
+id-passed id k b h p q = rw (by-body id k b p q) (simp (le-leb id 4095 h) (check-answers (body (kindOf k)) id k b))
+
+size-in : (room : ℕ) (o : Outcome) → sizeIn room (fillingAnswer o) ≡ fillingAnswer (inRoom room o)
+size-in room (gives l) = go (leb (length l) room)
+  where
+    go : (t : Bool) → cond t (Out.Filled (length l)) (fillingAnswer (refuses 14 0)) ≡ fillingAnswer (cond t (gives l) (refuses 14 0))
+    go true = refl
+    go false = refl
+size-in room (refuses k p) = refl
+
+module _ {A : Type 0} (F : Format A) (id k : ℕ) (b : List ℕ) (room : ℕ) {w c : Filling} (a : w ≡ admittedAnswer id room c) (e : c ≡ bodyCheck F b) where
+  -- the answer is that of writing
+  admitted-answers : w ≡ fillingAnswer (inRoom room (writingBody F id k b))
+  unfolding writingBody
+  admitted-answers = a ∙ ap (admittedAnswer id room) (e ∙ check-answers F id k b) ∙ go (leb id 4095)
     where
-      go : (c : Bool) → W.Refused f ≡ writtenAnswer (cond c (taken (take n []) n) (refused 14 0))
-          → (W.Refused f ≡ writtenAnswer (cond c (taken (take n m) n) (refused 14 0))) × (out ≡ writtenBuffer out (cond c (taken (take n m) n) (refused 14 0)))
-      go true e = let z : _≡_ {A = ℕ} 0 1 = cc in absurd (omega arith)
-      go false e = (e, refl)
-  refused-alike room m out (refused k p) f e = (e, refl)
+      o : Outcome
+      o = asRead (messageBytes id k b) (shifted 4 (read F b))
 
-  filled-alike : (room : ℕ) (m out o : List ℕ) (x : Reading A) (n : ℕ) → W.Filled n ≡ writtenAnswer (fitted room [] x) → o ≡ filled out (take n m)
-      → (W.Filled n ≡ writtenAnswer (fitted room m x)) × (o ≡ writtenBuffer out (fitted room m x))
-  filled-alike room m out o (taken v u) n e f = go (leb u room) e
+      go : (t : Bool) → cond t (sizeIn room (fillingAnswer o)) (fillingAnswer (refuses 5 0)) ≡ fillingAnswer (inRoom room (cond t o (refuses 5 0)))
+      go true = size-in room o
+      go false = refl
+
+  -- what it refuses
+  pub not-admitted : (out : List ℕ) {f : Refusal} → length out ≡ room → w ≡ Out.Refused f → Fills (writingBody F id k b) out w out
+  not-admitted out long g = fills-kept out (rw long admitted-answers) g
+
+  -- what it takes has passed
+  pub admits : {n : ℕ} → w ≡ Out.Filled n → Passed F id b room n
+  unfolding bodyCheck readAt
+  admits {n} g = go (read F b) refl (leb id 4095) refl (sym g ∙ a ∙ ap (admittedAnswer id room) e)
     where
-      go : (c : Bool) → W.Filled n ≡ writtenAnswer (cond c (taken (take u []) u) (refused 14 0))
-          → (W.Filled n ≡ writtenAnswer (cond c (taken (take u m) u) (refused 14 0))) × (o ≡ writtenBuffer out (cond c (taken (take u m) u) (refused 14 0)))
-      go true e = let same : n ≡ u = cc in (e, f ∙ ap (λ (i : ℕ). filled out (take i m)) same)
-      go false e = let z : _≡_ {A = ℕ} 0 1 = cc in absurd (omega arith)
-  filled-alike room m out o (refused k p) n e f = let z : _≡_ {A = ℕ} 0 1 = cc in absurd (omega arith)
+      go : (x : Reading A) → read F b ≡ x → (t : Bool) → leb id 4095 ≡ t → Out.Filled n ≡ cond t (sizeIn room (checkAnswer (shifted 4 x))) (fillingAnswer (refuses 5 0)) → Passed F id b room n
+      go (taken v u) q true i h = side (leb (4 + u) room) refl h
+        where
+          side : (t : Bool) → leb (4 + u) room ≡ t → Out.Filled n ≡ cond t (Out.Filled (4 + u)) (fillingAnswer (refuses 14 0)) → Passed F id b room n
+          side true r h =
+              let same : 4 + u ≡ n = cc in
+              record { value = v; reads = record { is = ap (shifted 4) q ∙ ap (λ (j : ℕ). taken v j) same }; room = (let f = leb-true (4 + u) room r in omega arith); low = leb-true id 4095 i }
+          side false r h = let z : _≡_ {A = ℕ} 0 1 = cc in absurd (omega arith)
+      go (refused j p) q true i h = let z : _≡_ {A = ℕ} 0 1 = cc in absurd (omega arith)
+      go x q false i h = let z : _≡_ {A = ℕ} 0 1 = cc in absurd (omega arith)
 
-  -- a body that the check takes was read behind its header, and has room
-  taken-within : (room : ℕ) (x : Reading A) (n : ℕ) → W.Filled n ≡ writtenAnswer (fitted room [] x) → (v : A) × (x ≡ taken v n) × (n ≤ room)
-  taken-within room (taken v u) n e = go (leb u room) refl e
-    where
-      go : (c : Bool) → leb u room ≡ c → W.Filled n ≡ writtenAnswer (cond c (taken (take u []) u) (refused 14 0)) → (x : A) × (taken v u ≡ taken x n) × (n ≤ room)
-      go true q e = let same : n ≡ u = cc in (v, ap (λ (i : ℕ). taken v i) (sym same), let w = leb-true u room q in omega arith)
-      go false q e = let z : _≡_ {A = ℕ} 0 1 = cc in absurd (omega arith)
-  taken-within room (refused k p) n e = let z : _≡_ {A = ℕ} 0 1 = cc in absurd (omega arith)
-
-  pub body-taken : {F : Format A} {b : List ℕ} {room : ℕ} {w : Written} {n : ℕ} → w ≡ bodyFitted F b room → w ≡ W.Filled n → (v : A) × Reads F (behind b) 4 (taken v n) × (n ≤ room)
-  unfolding bodyFitted readAt
-  body-taken {F} {b} {room} {w} {n} e v = let q = taken-within room (shifted 4 (read F b)) n (sym v ∙ e) in (q .0, record { is = q .1 }, q .2)
-
--- a body that was checked and put behind its header: what the check answered is what writing answers, and the buffer is as writing leaves it
-module _ (id k : ℕ) (b out : List ℕ) (h : id ≤ 4095) (p : 1 ≤ k) (q : k ≤ 7) where
-  answered : (w : Written) (o : List ℕ) → w ≡ bodyFitted (body (kindOf k)) b (length out) → o ≡ storedBuffer w out (messageBytes id k b)
-      → (w ≡ writtenAnswer (writing id k b (length out))) × (o ≡ writtenBuffer out (writing id k b (length out)))
-  unfolding bodyFitted
-  answered (W.Filled n) o e f =
-      rw (by-body id k b (length out) h p q) (filled-alike (length out) (messageBytes id k b) out o (shifted 4 (read (body (kindOf k)) b)) n e f)
-  answered (W.Refused r) o e f =
-      let w = refused-alike (length out) (messageBytes id k b) out (shifted 4 (read (body (kindOf k)) b)) r e in
-      rw (by-body id k b (length out) h p q) (w .0, f ∙ w .1)
-
-  pub body-written : {w : Written} {o : List ℕ} {head : ℕ} → head ≡ headerOf (id % 4096) (k % 256) → w ≡ bodyFitted (body (kindOf k)) b (length out)
-      → o ≡ storedBuffer w out (encode word head ++ b) → (w ≡ writtenAnswer (writing id k b (length out))) × (o ≡ writtenBuffer out (writing id k b (length out)))
-  body-written {w} {o} {head} c e f =
-      let same : head ≡ headerOf id k = omega arith in
-      answered w o e (f ∙ ap (λ (x : ℕ). storedBuffer w out (encode word x ++ b)) same)
+-- a body that passed and was put behind its header
+pub body-filled : {A : Type 0} {F : Format A} (id k : ℕ) (b out : List ℕ) {n head : ℕ} {w : Filling} {o : List ℕ} → Passed F id b (length out) n → k < 256 → head ≡ headerOf (id % 4096) (k % 256)
+    → w ≡ Out.Filled n → o ≡ filled out (take n (encode word head ++ b)) → Fills (writingBody F id k b) out w o
+unfolding writingBody readAt
+body-filled {F = F} id k b out {n} {head} {w} {o} p small e g f =
+    let same : head ≡ headerOf id k = omega (arith, p .low) in
+    let m : List ℕ = messageBytes id k b in
+    let size = ends (omega arith) (p .reads) in
+    let long : length (take n m) ≡ n = length-take-le n m (omega (arith, length-append (encode word (headerOf id k)) b, number-size 4 (headerOf id k))) in
+    let given : writingBody F id k b ≡ gives (take n m) = simp (le-leb id 4095 (p .low)) (ap (asRead m) (p .reads .is)) in
+    rw g (fills-given out given (omega (arith, p .room)) (sym long) (f ∙ ap (λ (x : ℕ). filled out (take n (encode word x ++ b))) same))

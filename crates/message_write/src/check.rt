@@ -1,7 +1,6 @@
 // The checks of a message's fields before anything is written: what reading the message would answer, places counted in it.
 ghost use mathlib.Core.Path.{_≡_};
 ghost use Prim.Native.Nat.{ℕ, _+_, _<_};
-ghost use Rattle.xdr.specs.Reading.{taken};
 ghost use Rattle.xdr.specs.Answers.{bytesAnswer};
 ghost use Rattle.xdr.specs.Fields.{word, opaque, text};
 ghost use Rattle.xdr.specs.Format.{bytes, encode, readAt};
@@ -10,21 +9,18 @@ ghost use Rattle.record.specs.File.{name as nameField};
 ghost use Rattle.record.specs.KeyValue.{options as optionsField};
 ghost use Rattle.message.specs.Limits.{optionsLimit};
 ghost use Rattle.message.specs.Message.{index, request, response};
-ghost use Rattle.message_write.specs.Writing.{indexBytes, requestBytes, responseBytes, fittedAnswer, bodyFitted};
-use crate::answer::Written;
+ghost use Rattle.message_write.specs.Steps.{bodyCheck, admittedAnswer};
+ghost use Rattle.message_write.specs.Writing.{indexBytes, requestBytes, responseBytes};
+use message::DATA_LIMIT;
+use message::FILES_LIMIT;
+use message::ID_LIMIT;
+use message::OPTIONS_LIMIT;
+use message::REPOSITORY_LIMIT;
 use record::Array;
+use record::NAME_LIMIT;
 use xdr::Bytes;
+use xdr::Filling;
 use xdr::Refusal;
-
-const NAME_LIMIT: u32 = 255;
-
-const REPOSITORY_LIMIT: u32 = 64;
-
-const FILES_LIMIT: u32 = 512;
-
-const DATA_LIMIT: u32 = 131072;
-
-const OPTIONS_LIMIT: u32 = 64;
 
 // Contents that are to become an opaque: their length and the bytes that it will take.
 pub fn check_bytes(l: &[u8], limit: u32) -> Bytes
@@ -88,33 +84,20 @@ pub fn check_hash(l: &[u8]) -> Bytes
     Bytes::Taken(32, 36)
 }
 
-// A message of so many bytes, into so much room.
-pub fn fit(n: usize, room: usize) -> Written
-    ensures { λ r. ⌜ r ≡ fittedAnswer room (taken n n) ⌝ }
-{
-    if n <= room {
-        return Written::Filled(n);
-    }
-    Written::Refused(Refusal {
-        number: 14,
-        place: 0,
-    })
-}
-
 // A refusal of a field that begins at a place.
-fn refused_at(r: Refusal, at: usize) -> Written
+fn refused_at(r: Refusal, at: usize) -> Filling
     requires { ⌜ at + r .place < 18446744073709551616 ⌝ }
-    ensures { λ w. ⌜ w ≡ Written.Refused (record { number = r .number; place = at + r .place }) ⌝ }
+    ensures { λ w. ⌜ w ≡ Filling.Refused (record { number = r .number; place = at + r .place }) ⌝ }
 {
-    Written::Refused(Refusal {
+    Filling::Refused(Refusal {
         number: r.number,
         place: at + r.place,
     })
 }
 
-// The body of an Index or an IndexUpdate, into so much room.
-pub fn check_index(repository: &[u8], files: &[u8], room: usize) -> Written
-    ensures { λ r. ⌜ r ≡ bodyFitted index (indexBytes (now (repository .entry)) (now (files .entry))) room ⌝ }
+// The body of an Index or an IndexUpdate.
+pub fn check_index(repository: &[u8], files: &[u8]) -> Filling
+    ensures { λ r. ⌜ r ≡ bodyCheck index (indexBytes (now (repository .entry)) (now (files .entry))) ⌝ }
 {
     let text = check_text(repository, REPOSITORY_LIMIT);
     let Bytes::Taken(_, size) = text else {
@@ -124,18 +107,13 @@ pub fn check_index(repository: &[u8], files: &[u8], room: usize) -> Written
     let Array::Taken(_, used) = array else {
         return refused_at(array.refusal(), 4 + size);
     };
-    fit(4 + size + used, room)
+    Filling::Filled(4 + size + used)
 }
 
 // The body of a Request, whatever its offset.
-pub fn check_request(
-    repository: &[u8],
-    name: &[u8],
-    length: u32,
-    hash: &[u8],
-    room: usize,
-) -> Written
-    ensures { λ r. ⌜ ((offset : ℕ) → r ≡ bodyFitted request (requestBytes (now (repository .entry)) (now (name .entry)) offset length (now (hash .entry))) room) ⌝ }
+pub fn check_request(repository: &[u8], name: &[u8], size: u32, hash: &[u8]) -> Filling
+    ensures { λ r. ⌜ ((offset : ℕ)
+        → r ≡ bodyCheck request (requestBytes (now (repository .entry)) (now (name .entry)) offset size (now (hash .entry)))) ⌝ }
 {
     let first = check_text(repository, REPOSITORY_LIMIT);
     let Bytes::Taken(_, repository_size) = first else {
@@ -147,8 +125,8 @@ pub fn check_request(
         return refused_at(second.refusal(), name_at);
     };
     let size_at = name_at + name_size + 8;
-    if !record::is_size(length) {
-        return Written::Refused(Refusal {
+    if !record::is_size(size) {
+        return Filling::Refused(Refusal {
             number: 10,
             place: size_at,
         });
@@ -158,27 +136,43 @@ pub fn check_request(
     let Bytes::Taken(_, hash_size) = third else {
         return refused_at(third.refusal(), hash_at);
     };
-    fit(hash_at + hash_size, room)
+    Filling::Filled(hash_at + hash_size)
 }
 
 // The body of a Response.
-pub fn check_response(data: &[u8], room: usize) -> Written
-    ensures { λ r. ⌜ r ≡ bodyFitted response (responseBytes (now («data» .entry))) room ⌝ }
+pub fn check_response(data: &[u8]) -> Filling
+    ensures { λ r. ⌜ r ≡ bodyCheck response (responseBytes (now («data» .entry))) ⌝ }
 {
     let opaque = check_bytes(data, DATA_LIMIT);
     let Bytes::Taken(_, size) = opaque else {
         return refused_at(opaque.refusal(), 4);
     };
-    fit(4 + size, room)
+    Filling::Filled(4 + size)
 }
 
 // The body of an Options message.
-pub fn check_options(options: &[u8], room: usize) -> Written
-    ensures { λ r. ⌜ r ≡ bodyFitted (optionsField optionsLimit) (now (options .entry)) room ⌝ }
+pub fn check_options(options: &[u8]) -> Filling
+    ensures { λ r. ⌜ r ≡ bodyCheck (optionsField optionsLimit) (now (options .entry)) ⌝ }
 {
     let array = record::read_options(options, OPTIONS_LIMIT);
     let Array::Taken(_, used) = array else {
         return refused_at(array.refusal(), 4);
     };
-    fit(4 + used, room)
+    Filling::Filled(4 + used)
+}
+
+// A check's answer, with the Message ID before it and the room behind it.
+pub fn admitted(id: u32, checked: Filling, room: usize) -> Filling
+    ensures { λ r. ⌜ r ≡ admittedAnswer id room checked ⌝ }
+{
+    if ID_LIMIT < id {
+        return xdr::refused(5);
+    }
+    let Filling::Filled(n) = checked else {
+        return checked;
+    };
+    if room < n {
+        return xdr::refused(14);
+    }
+    checked
 }

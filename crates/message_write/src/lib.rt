@@ -2,11 +2,9 @@
 //
 // Each writer takes any fields and any buffer. It checks the Message ID, then the fields as reading the message would, then the room; only
 // a message that passes all of them changes the buffer, and only its first bytes, as many as the answer says.
-pub mod answer;
 mod check;
 pub mod write;
 
-pub use answer::Written;
 pub use write::write_index;
 pub use write::write_index_update;
 pub use write::write_options;

@@ -30,37 +30,37 @@ module _ (m n : ℕ) where
   number-same h = simp (le-ltb m n (omega arith), le-ltb n m (omega arith))
 
 -- what a comparison of numbers tells
-abbrev pub Told : ℕ → ℕ → Order → Type 0
-Told m n Less = m < n
-Told m n Equal = m ≡ n
-Told m n Greater = n < m
+abbrev pub Compares : ℕ → ℕ → Order → Type 0
+Compares m n Less = m < n
+Compares m n Equal = m ≡ n
+Compares m n Greater = n < m
 
-pub told : (m n : ℕ) (o : Order) → compareNumbers m n ≡ o → Told m n o
-told m n o e = subst (Told m n) e (go (decLt m n) (decLt n m))
+pub compares : (m n : ℕ) (o : Order) → compareNumbers m n ≡ o → Compares m n o
+compares m n o e = subst (Compares m n) e (go (decLt m n) (decLt n m))
   where
-    go : Dec (m < n) → Dec (n < m) → Told m n (compareNumbers m n)
-    go (yes h) d = subst (Told m n) (sym (number-less m n h)) h
-    go (no h) (yes k) = subst (Told m n) (sym (number-greater m n k)) k
-    go (no h) (no k) = subst (Told m n) (sym (number-same m n (omega arith))) (omega arith)
+    go : Dec (m < n) → Dec (n < m) → Compares m n (compareNumbers m n)
+    go (yes h) d = subst (Compares m n) (sym (number-less m n h)) h
+    go (no h) (yes k) = subst (Compares m n) (sym (number-greater m n k)) k
+    go (no h) (no k) = subst (Compares m n) (sym (number-same m n (omega arith))) (omega arith)
 
 -- the other way round
-abbrev pub turned : Order → Order
-turned Less = Greater
-turned Equal = Equal
-turned Greater = Less
+abbrev pub reversed : Order → Order
+reversed Less = Greater
+reversed Equal = Equal
+reversed Greater = Less
 
-turned-number : (m n : ℕ) → compareNumbers n m ≡ turned (compareNumbers m n)
-turned-number m n = go (compareNumbers m n) refl
+reversed-number : (m n : ℕ) → compareNumbers n m ≡ reversed (compareNumbers m n)
+reversed-number m n = go (compareNumbers m n) refl
   where
-    go : (o : Order) → compareNumbers m n ≡ o → compareNumbers n m ≡ turned o
-    go Less e = number-greater n m (told m n Less e)
-    go Equal e = number-same n m (sym (told m n Equal e))
-    go Greater e = number-less n m (told m n Greater e)
+    go : (o : Order) → compareNumbers m n ≡ o → compareNumbers n m ≡ reversed o
+    go Less e = number-greater n m (compares m n Less e)
+    go Equal e = number-same n m (sym (compares m n Equal e))
+    go Greater e = number-less n m (compares m n Greater e)
 
-turned-else : (o p : Order) → orElse (turned o) (turned p) ≡ turned (orElse o p)
-turned-else Less p = refl
-turned-else Equal p = refl
-turned-else Greater p = refl
+reversed-else : (o p : Order) → orElse (reversed o) (reversed p) ≡ reversed (orElse o p)
+reversed-else Less p = refl
+reversed-else Equal p = refl
+reversed-else Greater p = refl
 
 not-both : {o : Order} {P : Type 0} → o ≡ Less → o ≡ Equal → P
 not-both e f = let z : _≡_ {A = ℕ} 0 1 = cc in absurd (omega arith)
@@ -116,12 +116,12 @@ unfolding compareLists
 same-equal [] = refl
 same-equal (x ∷ xs) = rw (number-same x x refl) (same-equal xs)
 
-pub compare-turned : (a b : List ℕ) → compareLists b a ≡ turned (compareLists a b)
+pub compare-reversed : (a b : List ℕ) → compareLists b a ≡ reversed (compareLists a b)
 unfolding compareLists
-compare-turned [] [] = refl
-compare-turned [] (y ∷ ys) = refl
-compare-turned (x ∷ xs) [] = refl
-compare-turned (x ∷ xs) (y ∷ ys) = rw (turned-number x y, compare-turned xs ys) (turned-else (compareNumbers x y) (compareLists xs ys))
+compare-reversed [] [] = refl
+compare-reversed [] (y ∷ ys) = refl
+compare-reversed (x ∷ xs) [] = refl
+compare-reversed (x ∷ xs) (y ∷ ys) = rw (reversed-number x y, compare-reversed xs ys) (reversed-else (compareNumbers x y) (compareLists xs ys))
 
 pub equal-same : (a b : List ℕ) → compareLists a b ≡ Equal → a ≡ b
 unfolding compareLists
@@ -130,7 +130,7 @@ equal-same [] (y ∷ ys) e = not-both refl e
 equal-same (x ∷ xs) [] e = let z : _≡_ {A = ℕ} 0 1 = cc in absurd (omega arith)
 equal-same (x ∷ xs) (y ∷ ys) e =
     let q = else-equal (compareNumbers x y) (compareLists xs ys) e in
-    let h : x ≡ y = told x y Equal (q .0) in
+    let h : x ≡ y = compares x y Equal (q .0) in
     let t : xs ≡ ys = equal-same xs ys (q .1) in
     cc
 
@@ -148,11 +148,11 @@ below-trans (x ∷ xs) (y ∷ ys) (z ∷ zs) h k = go (else-less _ _ h) (else-le
 
     go : (compareNumbers x y ≡ Less) ⊎ ((compareNumbers x y ≡ Equal) × Below xs ys) → (compareNumbers y z ≡ Less) ⊎ ((compareNumbers y z ≡ Equal) × Below ys zs)
         → (Below xs ys → Below ys zs → Below xs zs) → Below (x ∷ xs) (z ∷ zs)
-    go (inl p) (inl q) ih = first (let i = told x y Less p in let j = told y z Less q in omega arith)
-    go (inl p) (inr q) ih = first (let i = told x y Less p in let j = told y z Equal (q .0) in omega arith)
-    go (inr p) (inl q) ih = first (let i = told x y Equal (p .0) in let j = told y z Less q in omega arith)
+    go (inl p) (inl q) ih = first (let i = compares x y Less p in let j = compares y z Less q in omega arith)
+    go (inl p) (inr q) ih = first (let i = compares x y Less p in let j = compares y z Equal (q .0) in omega arith)
+    go (inr p) (inl q) ih = first (let i = compares x y Equal (p .0) in let j = compares y z Less q in omega arith)
     go (inr p) (inr q) ih =
-        ap (λ (o : Order). orElse o (compareLists xs zs)) (number-same x z (told x y Equal (p .0) ∙ told y z Equal (q .0))) ∙ ih (p .1) (q .1)
+        ap (λ (o : Order). orElse o (compareLists xs zs)) (number-same x z (compares x y Equal (p .0) ∙ compares y z Equal (q .0))) ∙ ih (p .1) (q .1)
 
 pub below-irrefl : (a : List ℕ) → Below a a → ⊥
 below-irrefl a h = not-both h (same-equal a)
@@ -162,11 +162,11 @@ below-asym a b h k = below-irrefl a (below-trans a b a h k)
 
 -- what is greater is above
 pub greater-above : (a b : List ℕ) → compareLists a b ≡ Greater → Below b a
-greater-above a b e = compare-turned a b ∙ ap turned e
+greater-above a b e = compare-reversed a b ∙ ap reversed e
 
 -- and what is above is greater
 pub above-greater : (a b : List ℕ) → Below a b → compareLists b a ≡ Greater
-above-greater a b h = compare-turned a b ∙ ap turned h
+above-greater a b h = compare-reversed a b ∙ ap reversed h
 
 -- a list is at most another
 abbrev pub AtMost : List ℕ → List ℕ → Type 0

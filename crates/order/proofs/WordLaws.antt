@@ -11,7 +11,7 @@ use Rattle.xdr.proofs.NumberLaws.{bytes-drop, digits-read}
 use Rattle.order.specs.Order.{orElse, compareNumbers, compareLists}
 use Rattle.order.specs.declared.compare.Order.{Order}
 use Rattle.order.specs.declared.compare.Order.the-variants.{Less, Equal, Greater}
-use Rattle.order.proofs.OrderLaws.{number-less, number-greater, number-same, told, heads}
+use Rattle.order.proofs.OrderLaws.{number-less, number-greater, number-same, compares, heads}
 
 -- a higher number before a lower one outweighs all that the lower one can be
 outweighs : (w x y m n : ℕ) → x < y → m < w → x * w + m < y * w + n
@@ -21,14 +21,14 @@ two-digits : (w x y m n : ℕ) → m < w → n < w → compareNumbers (x * w + m
 two-digits w x y m n h k = go (compareNumbers x y) refl
   where
     low : x ≡ y → (o : Order) → compareNumbers m n ≡ o → compareNumbers (x * w + m) (y * w + n) ≡ o
-    low e Less q = let l = told m n Less q in let s : x * w ≡ y * w = ap (λ (z : ℕ). z * w) e in number-less (x * w + m) (y * w + n) (omega arith)
-    low e Equal q = let l = told m n Equal q in let s : x * w ≡ y * w = ap (λ (z : ℕ). z * w) e in number-same (x * w + m) (y * w + n) (omega arith)
-    low e Greater q = let l = told m n Greater q in let s : x * w ≡ y * w = ap (λ (z : ℕ). z * w) e in number-greater (x * w + m) (y * w + n) (omega arith)
+    low e Less q = let l = compares m n Less q in let s : x * w ≡ y * w = ap (λ (z : ℕ). z * w) e in number-less (x * w + m) (y * w + n) (omega arith)
+    low e Equal q = let l = compares m n Equal q in let s : x * w ≡ y * w = ap (λ (z : ℕ). z * w) e in number-same (x * w + m) (y * w + n) (omega arith)
+    low e Greater q = let l = compares m n Greater q in let s : x * w ≡ y * w = ap (λ (z : ℕ). z * w) e in number-greater (x * w + m) (y * w + n) (omega arith)
 
     go : (o : Order) → compareNumbers x y ≡ o → compareNumbers (x * w + m) (y * w + n) ≡ orElse o (compareNumbers m n)
-    go Less e = number-less (x * w + m) (y * w + n) (outweighs w x y m n (told x y Less e) h)
-    go Equal e = low (told x y Equal e) (compareNumbers m n) refl
-    go Greater e = number-greater (x * w + m) (y * w + n) (outweighs w y x n m (told x y Greater e) k)
+    go Less e = number-less (x * w + m) (y * w + n) (outweighs w x y m n (compares x y Less e) h)
+    go Equal e = low (compares x y Equal e) (compareNumbers m n) refl
+    go Greater e = number-greater (x * w + m) (y * w + n) (outweighs w y x n m (compares x y Greater e) k)
 
 else-assoc : (o p q : Order) → orElse o (orElse p q) ≡ orElse (orElse o p) q
 else-assoc Less p q = refl
@@ -68,5 +68,5 @@ module _ (k : ℕ) (a b : List ℕ) (i : ℕ) {x y : ℕ} (p : IsBytes a) (q : I
     where
       go : (o : Order) → compareNumbers x y ≡ o → orElse o (compareLists (drop (i + k) a) (drop (i + k) b)) ≡ o
       go Less r = refl
-      go Equal r = absurd (s (told x y Equal r))
+      go Equal r = absurd (s (compares x y Equal r))
       go Greater r = refl

@@ -1,8 +1,7 @@
 // Long runs of bytes, by many bytes at once.
 ghost use mathlib.Core.Path.{_≡_};
-ghost use Prim.Native.Nat.{_≤_};
-ghost use lib.ListN.{length, drop};
 ghost use Rattle.order.specs.Order.{isEqual, compareLists};
+ghost use Rattle.order.specs.Steps.{SameUpTo};
 use crate::compare::Order;
 use crate::compare::compare_bytes;
 
@@ -26,7 +25,7 @@ pub fn same_bytes(a: &[u8], b: &[u8]) -> bool
 
 // A place up to which two runs of bytes are the same, in steps of 64.
 fn same_up_to(a: &[u8], b: &[u8]) -> usize
-    ensures { λ r. ⌜ (r ≤ length (now (a .entry))) × (r ≤ length (now (b .entry))) × (compareLists (now (a .entry)) (now (b .entry)) ≡ compareLists (drop r (now (a .entry))) (drop r (now (b .entry)))) ⌝ }
+    ensures { λ r. ⌜ SameUpTo (now (a .entry)) (now (b .entry)) r ⌝ }
 {
     let mut i = 0;
     while 64 <= a.len() - i {

@@ -4,47 +4,43 @@ use mathlib.Core.List.{List, [], _∷_, List·Memᴰ, List·Memᴰ·head, List·
 use mathlib.Core.Path.{_≡_, refl, sym, ap, subst, _∙_}
 use mathlib.Core.Logic.{⊎-elim}
 use mathlib.Core.Bool.{Bool, true, false, cond}
-use native.Mathlib.Omega.{arith}
 use borrow.Author.Tests.{leb-true}
 use lib.ListN.{length}
 use lib.Dec.{leb}
 use Rattle.xdr.specs.Reading.{Reading, taken, refused as unread}
 use Rattle.xdr.specs.Number.{IsBytes}
 use Rattle.xdr.specs.Format.{read, readAt, Valid}
+use Rattle.xdr.specs.Filling.{Outcome, gives, refuses}
 use Rattle.xdr.proofs.Corollaries.{read-exactly}
 use Rattle.record.specs.File.{File}
 use Rattle.message.specs.Header.{typeOf}
-use Rattle.message.specs.Message.{Kind, isIndex, isRequest, isResponse, isPing, isPong, isIndexUpdate, isOptions, kindOf, Body, body, Sent, message}
+use Rattle.message.specs.Message.{Kind, isIndex, isRequest, isResponse, isPing, isPong, isIndexUpdate, isOptions, kindOf, Body, body, MessageValue, message}
 use Rattle.table.specs.Limits.{recordsLimit, bytesLimit}
 use Rattle.order.specs.Order.{isEqual, compareLists}
-use Rattle.table.specs.Table.{isGood, isWithin, records, tableOf}
-use Rattle.table.specs.Filling.{Outcome, accepted, refused, tableInto}
-use Rattle.order.proofs.OrderLaws.{equal-same}
+use Rattle.table.specs.Table.{isGood, isWithin, records, tableOf, resultingTable}
+use Rattle.order.proofs.SameLaws.{is-same}
 use Rattle.record.proofs.RisingLaws.{both-true}
-use Rattle.table.specs.Standing.{AllValid}
+use Rattle.table.specs.Steps.Standing.{AllValid}
+use Rattle.xdr.proofs.FillingLaws.{not-given}
 use Rattle.table.proofs.TableLaws.{good-table, array-records}
 use Rattle.accept.specs.Resulting.{isNamed, resulting}
-use Rattle.accept.specs.Accepting.{unrepeated, firstRecord, listed, ofKind, ofReading, acceptOutcome}
-use Rattle.accept.specs.Sorted.{Distinct}
+use Rattle.accept.specs.Accepting.{unrepeated, ofRecords, firstRecord, ofIndex, ofKind, ofReading, acceptOutcome}
+use Rattle.accept.specs.Steps.Sorted.{Distinct}
 use Rattle.accept.proofs.ResultLaws.{resulting-valid, accept-good}
 use Rattle.promises.specs.Accepting.{Sends, NoneNamed, Accepted}
-use Rattle.promises.proofs.HeldLaws.{is-equal}
 use Rattle.promises.proofs.BelongLaws.{none-named, named-none, resulting-only, resulting-all}
 use Rattle.promises.proofs.Spans.{from-start}
 
-not-accepted : {k p : ℕ} {l : List ℕ} {P : Type 0} → refused k p ≡ accepted l → P
-not-accepted e = let z : _≡_ {A = ℕ} 0 1 = cc in absurd (omega arith)
-
 -- no name stands twice in a message that was accepted
-unrepeated-distinct : (before : List File) (at : ℕ) (fs : List File) (next : Outcome) (l : List ℕ) → unrepeated before at fs next ≡ accepted l
-    → (next ≡ accepted l) × ((g : File) → List·Memᴰ g fs → NoneNamed (g .name) before) × Distinct fs
+unrepeated-distinct : (before : List File) (at : ℕ) (fs : List File) (next : Outcome) (l : List ℕ) → unrepeated before at fs next ≡ gives l
+    → (next ≡ gives l) × ((g : File) → List·Memᴰ g fs → NoneNamed (g .name) before) × Distinct fs
 unrepeated-distinct before at [] next l e = (e, λ g m. absurd (List·Memᴰ·not-nil m), tt)
 unrepeated-distinct before at (f ∷ fs) next l e = go (isNamed (f .name) before) refl e (λ q. unrepeated-distinct (f ∷ before) _ fs next l q)
   where
-    go : {x : Outcome} (b : Bool) → isNamed (f .name) before ≡ b → cond b (refused 13 at) x ≡ accepted l
-        → (x ≡ accepted l → (next ≡ accepted l) × ((g : File) → List·Memᴰ g fs → NoneNamed (g .name) (f ∷ before)) × Distinct fs)
-        → (next ≡ accepted l) × ((g : File) → List·Memᴰ g (f ∷ fs) → NoneNamed (g .name) before) × Distinct (f ∷ fs)
-    go true q e ih = not-accepted e
+    go : {x : Outcome} (b : Bool) → isNamed (f .name) before ≡ b → cond b (refuses 13 at) x ≡ gives l
+        → (x ≡ gives l → (next ≡ gives l) × ((g : File) → List·Memᴰ g fs → NoneNamed (g .name) (f ∷ before)) × Distinct fs)
+        → (next ≡ gives l) × ((g : File) → List·Memᴰ g (f ∷ fs) → NoneNamed (g .name) before) × Distinct (f ∷ fs)
+    go true q e ih = not-given e
     go false q e ih =
         let r = ih e in (
           r .0,
@@ -53,16 +49,15 @@ unrepeated-distinct before at (f ∷ fs) next l e = go (isNamed (f .name) before
         )
 
 -- the table that an accepted call fills in
-into-records : (fs : List File) (room : ℕ) (l : List ℕ) → AllValid fs → tableInto fs room ≡ accepted l → records l ≡ fs
-into-records fs room l v = go (isWithin (length fs) (length (tableOf fs))) refl (leb (length (tableOf fs)) room)
+table-records : (fs : List File) (l : List ℕ) → AllValid fs → resultingTable fs ≡ gives l → records l ≡ fs
+table-records fs l v = go (isWithin (length fs) (length (tableOf fs))) refl
   where
-    go : (b : Bool) → isWithin (length fs) (length (tableOf fs)) ≡ b → (c : Bool) → cond b (cond c (accepted (tableOf fs)) (refused 14 0)) (refused 19 0) ≡ accepted l → records l ≡ fs
-    go true w true q =
+    go : (b : Bool) → isWithin (length fs) (length (tableOf fs)) ≡ b → cond b (gives (tableOf fs)) (refuses 19 0) ≡ gives l → records l ≡ fs
+    go true w q =
         let is : l ≡ tableOf fs = cc in
         let p = both-true (leb (length fs) recordsLimit) (leb (length (tableOf fs)) bytesLimit) w in
         ap records is ∙ array-records fs v (leb-true (length fs) recordsLimit (p .0))
-    go true w false q = not-accepted q
-    go false w c q = not-accepted q
+    go false w q = not-given q
 
 -- what an accepted call went through
 record Took (old repository table : List ℕ) (k : Kind) (b : Body k) : Type 0 where
@@ -72,53 +67,53 @@ record Took (old repository table : List ℕ) (k : Kind) (b : Body k) : Type 0 w
   distinct : Distinct sent
   records-are : records table ≡ resulting update sent (records old)
 
-module _ (old repository : List ℕ) (room : ℕ) (l : List ℕ) (valid-old : AllValid (records old)) where
-  listed-took : (update : Bool) (sent : List ℕ × List File) → AllValid (sent .1) → listed update old repository room sent ≡ accepted l
+module _ (old repository l : List ℕ) (valid-old : AllValid (records old)) where
+  index-took : (update : Bool) (sent : List ℕ × List File) → AllValid (sent .1) → ofIndex update old repository sent ≡ gives l
       → (sent .0 ≡ repository) × Distinct (sent .1) × (records l ≡ resulting update (sent .1) (records old))
-  listed-took update sent v = go (isEqual (compareLists (sent .0) repository)) refl
+  index-took update sent v = go (isEqual (compareLists (sent .0) repository)) refl
     where
       fs : List File
       fs = resulting update (sent .1) (records old)
 
-      go : (c : Bool) → isEqual (compareLists (sent .0) repository) ≡ c → cond c (unrepeated [] (firstRecord (sent .0)) (sent .1) (tableInto fs room)) (refused 21 0) ≡ accepted l
+      go : (c : Bool) → isEqual (compareLists (sent .0) repository) ≡ c → cond c (ofRecords update (firstRecord (sent .0)) (sent .1) (records old)) (refuses 21 0) ≡ gives l
           → (sent .0 ≡ repository) × Distinct (sent .1) × (records l ≡ fs)
       go true q e =
-          let r = unrepeated-distinct [] (firstRecord (sent .0)) (sent .1) (tableInto fs room) l e in
-          (equal-same (sent .0) repository (is-equal (compareLists (sent .0) repository) q), r .2, into-records fs room l (resulting-valid update (sent .1) (records old) v valid-old) (r .0))
-      go false q e = not-accepted e
+          let r = unrepeated-distinct [] (firstRecord (sent .0)) (sent .1) (resultingTable fs) l e in
+          (is-same (sent .0) repository q, r .2, table-records fs l (resulting-valid update (sent .1) (records old) v valid-old) (r .0))
+      go false q e = not-given e
 
-  kind-took : (k : Kind) (b : Body k) → Valid (body k) b → ofKind old repository room k b ≡ accepted l → Took old repository l k b
+  kind-took : (k : Kind) (b : Body k) → Valid (body k) b → ofKind old repository k b ≡ gives l → Took old repository l k b
   unfolding Valid
-  kind-took isIndex b v e = let r = listed-took false b (v .1 .1) e in record { update = false; sent = b .1; sends = (refl, r .0, refl); distinct = r .1; records-are = r .2 }
-  kind-took isRequest b v e = not-accepted e
-  kind-took isResponse b v e = not-accepted e
-  kind-took isPing b v e = not-accepted e
-  kind-took isPong b v e = not-accepted e
-  kind-took isIndexUpdate b v e = let r = listed-took true b (v .1 .1) e in record { update = true; sent = b .1; sends = (refl, r .0, refl); distinct = r .1; records-are = r .2 }
-  kind-took isOptions b v e = not-accepted e
+  kind-took isIndex b v e = let r = index-took false b (v .1 .1) e in record { update = false; sent = b .1; sends = (refl, r .0, refl); distinct = r .1; records-are = r .2 }
+  kind-took isRequest b v e = not-given e
+  kind-took isResponse b v e = not-given e
+  kind-took isPing b v e = not-given e
+  kind-took isPong b v e = not-given e
+  kind-took isIndexUpdate b v e = let r = index-took true b (v .1 .1) e in record { update = true; sent = b .1; sends = (refl, r .0, refl); distinct = r .1; records-are = r .2 }
+  kind-took isOptions b v e = not-given e
 
 -- every accepted call
-pub accepted-records : (old bytes repository : List ℕ) (room : ℕ) (table : List ℕ) → IsBytes old → IsBytes bytes → acceptOutcome old bytes repository room ≡ accepted table
+pub accepted-records : (old bytes repository table : List ℕ) → IsBytes old → IsBytes bytes → acceptOutcome old bytes repository ≡ gives table
     → Accepted old bytes repository table
 unfolding acceptOutcome Valid
-accepted-records old bytes repository room table b c e = by-old (isGood old) refl e
+accepted-records old bytes repository table b c e = by-old (isGood old) refl e
   where
-    by-reading : isGood old ≡ true → (r : Reading Sent) → read message bytes ≡ r → ofReading old repository room r ≡ accepted table → Accepted old bytes repository table
+    by-reading : isGood old ≡ true → (r : Reading MessageValue) → read message bytes ≡ r → ofReading old repository r ≡ gives table → Accepted old bytes repository table
     by-reading g (taken m n) q h =
-        let t = kind-took old repository room table (good-table old b g .valid) (kindOf (typeOf (m .0))) (m .1) (read-exactly message bytes m n c q .1 .1) h in
+        let t = kind-took old repository table (good-table old b g .valid) (kindOf (typeOf (m .0))) (m .1) (read-exactly message bytes m n c q .1 .1) h in
         record {
-          said = m;
+          value = m;
           end = n;
           reads = q;
           update = t .update;
           sent = t .sent;
           sends = t .sends;
-          good = accept-good old bytes repository room table b c e;
+          good = accept-good old bytes repository table b c e;
           only = λ f i. resulting-only (t .update) (t .sent) (records old) f (subst (λ (l : List File). List·Memᴰ f l) (t .records-are) i);
           all = λ f i. subst (λ (l : List File). List·Memᴰ f l) (sym (t .records-are)) (resulting-all (t .update) (t .sent) (records old) f (t .distinct) i);
         }
-    by-reading g (unread k p) q h = not-accepted h
+    by-reading g (unread k p) q h = not-given h
 
-    by-old : (g : Bool) → isGood old ≡ g → cond g (ofReading old repository room (readAt message bytes 0)) (refused 15 0) ≡ accepted table → Accepted old bytes repository table
-    by-old true g h = by-reading g (read message bytes) refl (ap (ofReading old repository room) (sym (from-start bytes)) ∙ h)
-    by-old false g h = not-accepted h
+    by-old : (g : Bool) → isGood old ≡ g → cond g (ofReading old repository (readAt message bytes 0)) (refuses 15 0) ≡ gives table → Accepted old bytes repository table
+    by-old true g h = by-reading g (read message bytes) refl (ap (ofReading old repository) (sym (from-start bytes)) ∙ h)
+    by-old false g h = not-given h

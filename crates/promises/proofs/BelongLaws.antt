@@ -9,10 +9,14 @@ use Rattle.order.specs.Order.{isEqual, compareLists}
 use Rattle.order.specs.declared.compare.Order.{Order}
 use Rattle.order.specs.declared.compare.Order.the-variants.{Less, Equal, Greater}
 use Rattle.order.proofs.OrderLaws.{same-equal, equal-same}
-use Rattle.accept.specs.Resulting.{isNamed, unmentioned, placed, insert, byName, resulting}
-use Rattle.accept.specs.Sorted.{Distinct}
+use Rattle.order.proofs.SameLaws.{is-same}
+use Rattle.table.specs.Insert.{placed, insert}
+use Rattle.table.proofs.InsertLaws.{insert-from}
+use Rattle.accept.specs.Resulting.{isNamed, unmentioned, replacing, byName, resulting}
+use Rattle.accept.specs.Steps.Sorted.{Distinct}
+use Rattle.accept.proofs.InsertLaws.{replacing-one}
 use Rattle.promises.specs.Accepting.{NoneNamed, Belongs}
-use Rattle.promises.proofs.HeldLaws.{differ, is-equal}
+use Rattle.promises.proofs.HeldLaws.{differ}
 
 -- whether a name is that of one of some records
 
@@ -32,35 +36,26 @@ named-none n [] h = refl
 named-none n (f ∷ fs) h = go (isEqual (compareLists n (f .name))) refl (named-none n fs (λ g m. h g (List·Memᴰ·tail m)))
   where
     go : (b : Bool) → isEqual (compareLists n (f .name)) ≡ b → isNamed n fs ≡ false → cond b true (isNamed n fs) ≡ false
-    go true q ih = absurd (h f (List·Memᴰ·head refl) (sym (equal-same n (f .name) (is-equal (compareLists n (f .name)) q))))
+    go true q ih = absurd (h f (List·Memᴰ·head refl) (sym (is-same n (f .name) q)))
     go false q ih = ih
 
 -- a record put among others
 
 module _ (f : File) where
-  insert-only : (l : List File) (x : File) → List·Memᴰ x (insert f l) → (x ≡ f) ⊎ List·Memᴰ x l
-  insert-only [] x m = List·Memᴰ·cases-cons m
-  insert-only (g ∷ l) x m = go (compareLists (f .name) (g .name)) m (insert-only l x)
-    where
-      go : (o : Order) → List·Memᴰ x (placed o f g l (insert f l)) → (List·Memᴰ x (insert f l) → (x ≡ f) ⊎ List·Memᴰ x l) → (x ≡ f) ⊎ List·Memᴰ x (g ∷ l)
-      go Less m ih = List·Memᴰ·cases-cons m
-      go Equal m ih = ⊎-elim inl (λ k. inr (List·Memᴰ·tail k)) (List·Memᴰ·cases-cons m)
-      go Greater m ih = ⊎-elim (λ k. inr (List·Memᴰ·head k)) (λ k. ⊎-elim inl (λ j. inr (List·Memᴰ·tail j)) (ih k)) (List·Memᴰ·cases-cons m)
-
-  insert-new : (l : List File) → List·Memᴰ f (insert f l)
+  insert-new : (l : List File) → List·Memᴰ f (insert replacing f l)
   insert-new [] = List·Memᴰ·head refl
   insert-new (g ∷ l) = go (compareLists (f .name) (g .name)) (insert-new l)
     where
-      go : (o : Order) → List·Memᴰ f (insert f l) → List·Memᴰ f (placed o f g l (insert f l))
+      go : (o : Order) → List·Memᴰ f (insert replacing f l) → List·Memᴰ f (placed replacing o f g l (insert replacing f l))
       go Less ih = List·Memᴰ·head refl
       go Equal ih = List·Memᴰ·head refl
       go Greater ih = List·Memᴰ·tail ih
 
-  insert-keeps : (l : List File) (x : File) → (f .name ≡ x .name → ⊥) → List·Memᴰ x l → List·Memᴰ x (insert f l)
+  insert-keeps : (l : List File) (x : File) → (f .name ≡ x .name → ⊥) → List·Memᴰ x l → List·Memᴰ x (insert replacing f l)
   insert-keeps [] x h m = absurd (List·Memᴰ·not-nil m)
   insert-keeps (g ∷ l) x h m = go (compareLists (f .name) (g .name)) refl (List·Memᴰ·cases-cons m) (insert-keeps l x h)
     where
-      go : (o : Order) → compareLists (f .name) (g .name) ≡ o → (x ≡ g) ⊎ List·Memᴰ x l → (List·Memᴰ x l → List·Memᴰ x (insert f l)) → List·Memᴰ x (placed o f g l (insert f l))
+      go : (o : Order) → compareLists (f .name) (g .name) ≡ o → (x ≡ g) ⊎ List·Memᴰ x l → (List·Memᴰ x l → List·Memᴰ x (insert replacing f l)) → List·Memᴰ x (placed replacing o f g l (insert replacing f l))
       go Less e k ih = List·Memᴰ·tail m
       go Equal e (inl k) ih = absurd (h (equal-same (f .name) (g .name) e ∙ ap (λ (y : File). y .name) (sym k)))
       go Equal e (inr k) ih = List·Memᴰ·tail k
@@ -73,19 +68,19 @@ by-name-only : (fs l : List File) (x : File) → List·Memᴰ x (byName fs l) �
 unfolding byName
 by-name-only [] l x m = inr m
 by-name-only (f ∷ fs) l x m =
-    ⊎-elim (λ k. inl (List·Memᴰ·tail k)) (λ k. ⊎-elim (λ e. inl (List·Memᴰ·head e)) inr (insert-only f l x k)) (by-name-only fs (insert f l) x m)
+    ⊎-elim (λ k. inl (List·Memᴰ·tail k)) (λ k. ⊎-elim (λ e. inl (List·Memᴰ·head e)) inr (insert-from replacing replacing-one f l x k)) (by-name-only fs (insert replacing f l) x m)
 
 by-name-keeps : (fs l : List File) (x : File) → NoneNamed (x .name) fs → List·Memᴰ x l → List·Memᴰ x (byName fs l)
 unfolding byName
 by-name-keeps [] l x h m = m
-by-name-keeps (f ∷ fs) l x h m = by-name-keeps fs (insert f l) x (λ g k. h g (List·Memᴰ·tail k)) (insert-keeps f l x (h f (List·Memᴰ·head refl)) m)
+by-name-keeps (f ∷ fs) l x h m = by-name-keeps fs (insert replacing f l) x (λ g k. h g (List·Memᴰ·tail k)) (insert-keeps f l x (h f (List·Memᴰ·head refl)) m)
 
 by-name-sent : (fs l : List File) (x : File) → Distinct fs → List·Memᴰ x fs → List·Memᴰ x (byName fs l)
 unfolding byName
 by-name-sent [] l x d m = absurd (List·Memᴰ·not-nil m)
 by-name-sent (f ∷ fs) l x d m =
-    ⊎-elim (λ e. subst (λ (y : File). List·Memᴰ y (byName fs (insert f l))) (sym e) (by-name-keeps fs (insert f l) f (none-named (f .name) fs (d .0)) (insert-new f l)))
-    (λ k. by-name-sent fs (insert f l) x (d .1) k) (List·Memᴰ·cases-cons m)
+    ⊎-elim (λ e. subst (λ (y : File). List·Memᴰ y (byName fs (insert replacing f l))) (sym e) (by-name-keeps fs (insert replacing f l) f (none-named (f .name) fs (d .0)) (insert-new f l)))
+    (λ k. by-name-sent fs (insert replacing f l) x (d .1) k) (List·Memᴰ·cases-cons m)
 
 -- the old records that are not mentioned
 

@@ -10,9 +10,8 @@ use lib.Dec.{eqb}
 use Rattle.record.specs.Block.{Block}
 use Rattle.record.specs.File.{File}
 use Rattle.order.specs.Order.{isEqual, compareLists}
-use Rattle.order.specs.declared.compare.Order.{Order}
-use Rattle.order.specs.declared.compare.Order.the-variants.{Less, Equal, Greater}
-use Rattle.order.proofs.OrderLaws.{same-equal, equal-same}
+use Rattle.order.proofs.OrderLaws.{same-equal}
+use Rattle.order.proofs.SameLaws.{is-same}
 use Rattle.record.proofs.RisingLaws.{both-true}
 use Rattle.want.specs.Listing.{isSame, listed, hasBlock, isHeld}
 
@@ -23,11 +22,6 @@ neither : (a b : Bool) → (a || b) ≡ false → (a ≡ false) × (b ≡ false)
 neither true b e = absurd (differ e)
 neither false b e = (refl, e)
 
-pub is-equal : (o : Order) → isEqual o ≡ true → o ≡ Equal
-is-equal Less e = absurd (differ (sym e))
-is-equal Equal e = refl
-is-equal Greater e = absurd (differ (sym e))
-
 -- the same Length and hash
 
 alike : (b c : Block) → b .size ≡ c .size → b .hash ≡ c .hash → isSame b c ≡ true
@@ -36,7 +30,7 @@ alike b c p q = rw (eq-eqb (b .size) (c .size) p, ap (compareLists (b .hash)) (s
 alike-parts : (b c : Block) → isSame b c ≡ true → (b .size ≡ c .size) × (b .hash ≡ c .hash)
 alike-parts b c e =
     let t = both-true (eqb (b .size) (c .size)) (isEqual (compareLists (b .hash) (c .hash))) e in
-    (eqb-true (b .size) (c .size) (t .0), equal-same (b .hash) (c .hash) (is-equal (compareLists (b .hash) (c .hash)) (t .1)))
+    (eqb-true (b .size) (c .size) (t .0), is-same (b .hash) (c .hash) (t .1))
 
 -- no block of some has them
 abbrev NoneOf : List Block → Block → Type 0

@@ -1,12 +1,9 @@
 -- The promises.
 pub mod Worked
 pub mod Messages
-pub mod Numbers
 mod MemoryLaws
 pub mod Merges
 pub mod SampleMerges
-pub mod ListCalls
-pub mod ListHistory
 pub mod Requests
 mod HeldLaws
 pub mod RequestList

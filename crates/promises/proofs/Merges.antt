@@ -1,4 +1,4 @@
--- After any list of merges, every result still at hand is byte for byte the merged table of exactly the starting tables that went into it.
+-- After any list of merges, every result that nobody wrote into is byte for byte the merged table of exactly the starting tables that went into it.
 use Prim.Native.Nat.{ℕ}
 use mathlib.Core.List.{List, [], _∷_, _++_, map, map-append, append-nil, List·Memᴰ, List·Memᴰ·head, List·Memᴰ·tail, List·Memᴰ·cases-cons, List·Memᴰ·not-nil, List·Memᴰ·append-cases, Memᴰ·append-left, Memᴰ·append-right}
 use mathlib.Core.Path.{_≡_, refl, sym, ap, subst, _∙_}
@@ -7,8 +7,9 @@ use mathlib.Core.Bool.{Bool, true, false, _&&_, cond}
 use native.Mathlib.Omega.{arith}
 use lib.ListN.{length}
 use Rattle.record.specs.File.{File}
-use Rattle.table.specs.Table.{isGood, allGood, isWithin, records, tableOf}
-use Rattle.table.specs.Filling.{Outcome, accepted, refused, bufferAfter, tableInto}
+use Rattle.xdr.specs.Filling.{Outcome, gives, refuses, inRoom, bufferAfter}
+use Rattle.table.specs.Table.{isGood, allGood, isWithin, records, tableOf, resultingTable}
+use Rattle.xdr.proofs.FillingLaws.{not-given, given-room}
 use Rattle.record.proofs.RisingLaws.{both-true}
 use Rattle.table.proofs.TableLaws.{GoodTable, good-table, table-good, records-of}
 use Rattle.merge.specs.Merged.{mergedOf}
@@ -16,16 +17,16 @@ use Rattle.merge.specs.Highest.{joined}
 use Rattle.merge.specs.Answer.{mergedRecords}
 use Rattle.merge.proofs.AnswerLaws.{first-bad, second-bad}
 use Rattle.merge.proofs.HighestLaws.{AllOK, Within}
-use Rattle.merge.proofs.MergeLaws.{all-ok, joined-append, merged-one, merged-good, merged-origins, merged-same, outcome-by-origins, merge-accepted}
+use Rattle.merge.proofs.MergeLaws.{all-ok, joined-append, merged-one, merged-good, merged-origins, merged-same, outcome-by-origins, merge-gave}
 use Rattle.promises.specs.Memory.{Memory, Region, bytesFrom, bytesIn, written, isApart}
-use Rattle.promises.specs.Merges.{Slice, State, Event, call, write, begun, start, untouched, handAfter, merging, step, run, Allowed, AllAllowed, mergedTable, Kept, Throughout, HoldsBytes, SameTables}
+use Rattle.promises.specs.Merges.{Slice, State, Action, call, write, starting, start, untouched, slicesAfter, merging, step, run, Allowed, AllAllowed, mergedTable, Kept, Throughout, HoldsBytes, SameTables}
 use Rattle.promises.proofs.MemoryLaws.{bytes-written, bytes-apart, written-back, written-filled, holds-bytes}
 
 abbrev _∈_ : Slice → List Slice → Type 0
 x ∈ l = List·Memᴰ x l
 
 infix 40 _∈_
--- what stays at hand was at hand, and lies apart from what was written
+-- what stays was there, and lies apart from what was written
 
 stays-in : (r : Region) (l : List Slice) (x : Slice) → x ∈ untouched r l → (x ∈ l) × (isApart (x .region) r ≡ true)
 stays-in r [] x m = absurd (List·Memᴰ·not-nil m)
@@ -37,7 +38,7 @@ stays-in r (y ∷ ys) x m = go (isApart (y .region) r) refl (stays-in r ys x) m
         ⊎-elim (λ f. (List·Memᴰ·head f, subst (λ (z : Slice). isApart (z .region) r ≡ true) (sym f) e)) (λ i. (List·Memᴰ·tail (ih i .0), ih i .1)) (List·Memᴰ·cases-cons k)
     go false e ih k = (List·Memᴰ·tail (ih k .0), ih k .1)
 
--- and all that lies apart stays: no table drops out of hand but by a write into it
+-- and all that lies apart stays: no slice goes but by a write into it
 pub stays : (r : Region) (l : List Slice) (x : Slice) → x ∈ l → isApart (x .region) r ≡ true → x ∈ untouched r l
 stays r [] x m a = m
 stays r (y ∷ ys) x m a = go (isApart (y .region) r) refl (λ k. stays r ys x k a) (List·Memᴰ·cases-cons m)
@@ -64,10 +65,10 @@ records-append ts us p q f m =
 origins-append : (ts us : List (List ℕ)) → Origins ts → Origins us → Origins (ts ++ us)
 origins-append ts us p q = subst (λ (l : List (List File)). AllOK (joined l)) (sym (map-append records ts us)) (records-append ts us p q)
 
--- what is known of a slice at hand: it is a starting slice and no good table, or a good table of its origins' merged records
+-- what is known of a slice: it is a starting slice and no good table, or a good table of its origins' merged records
 
 data Known (m : Memory) (x : Slice) : Type 0 where
-  bad : x .made ≡ false → isGood (bytesIn m (x .region)) ≡ false → allGood (x .origins) ≡ false → Known m x
+  bad : x .isResult ≡ false → isGood (bytesIn m (x .region)) ≡ false → allGood (x .origins) ≡ false → Known m x
   good : allGood (x .origins) ≡ true → Origins (x .origins) → GoodTable (bytesIn m (x .region)) (mergedOf (map records (x .origins))) → Known m x
 
 moved : (m n : Memory) (x : Slice) → bytesIn n (x .region) ≡ bytesIn m (x .region) → Known m x → Known n x
@@ -75,37 +76,36 @@ moved m n x e (bad f b g) = bad f (ap isGood e ∙ b) g
 moved m n x e (good g o t) = good g o (subst (λ (l : List ℕ). GoodTable l (mergedOf (map records (x .origins)))) (sym e) t)
 
 -- two slices merged
-by-origins : (m : Memory) (x y : Slice) (room : ℕ) → Known m x → Known m y
-    → merging m x y room ≡ cond (allGood (x .origins) && allGood (y .origins)) (tableInto (mergedOf (map records (x .origins ++ y .origins))) room) (refused 15 0)
-by-origins m x y room (bad f b g) k = first-bad (bytesIn m (x .region)) (bytesIn m (y .region)) room b ∙ rw g refl
-by-origins m x y room (good g o t) (bad f b h) =
-    second-bad (bytesIn m (x .region)) (bytesIn m (y .region)) room (table-good (bytesIn m (x .region)) (mergedOf (map records (x .origins))) t) b ∙ rw (g, h) refl
-by-origins m x y room (good g o t) (good h p u) =
+by-origins : (m : Memory) (x y : Slice) → Known m x → Known m y
+    → merging m x y ≡ cond (allGood (x .origins) && allGood (y .origins)) (resultingTable (mergedOf (map records (x .origins ++ y .origins)))) (refuses 15 0)
+by-origins m x y (bad f b g) k = first-bad (bytesIn m (x .region)) (bytesIn m (y .region)) b ∙ rw g refl
+by-origins m x y (good g o t) (bad f b h) =
+    second-bad (bytesIn m (x .region)) (bytesIn m (y .region)) (table-good (bytesIn m (x .region)) (mergedOf (map records (x .origins))) t) b ∙ rw (g, h) refl
+by-origins m x y (good g o t) (good h p u) =
     let a = bytesIn m (x .region) in
     let b = bytesIn m (y .region) in
     let ts = map records (x .origins) in
     let us = map records (y .origins) in
-    outcome-by-origins a b room ts us (table-good a (mergedOf ts) t) (table-good b (mergedOf us) u) (records-of a (mergedOf ts) t) (records-of b (mergedOf us) u) (records-append (x .origins) (y .origins) o p)
-    ∙ ap (λ (l : List (List File)). tableInto (mergedOf l) room) (sym (map-append records (x .origins) (y .origins)))
+    outcome-by-origins a b ts us (table-good a (mergedOf ts) t) (table-good b (mergedOf us) u) (records-of a (mergedOf ts) t) (records-of b (mergedOf us) u) (records-append (x .origins) (y .origins) o p)
+    ∙ ap (λ (l : List (List File)). resultingTable (mergedOf l)) (sym (map-append records (x .origins) (y .origins)))
     ∙ rw (g, h) refl
 
--- all that is at hand
+-- all slices
 
 abbrev AllKnown : Memory → List Slice → Type 0
-AllKnown m hand = (x : Slice) → x ∈ hand → Known m x
+AllKnown m slices = (x : Slice) → x ∈ slices → Known m x
 
-written-known : (m : Memory) (hand : List Slice) (at : ℕ) (l : List ℕ) → AllKnown m hand → AllKnown (written m at l) (untouched (record { at = at; size = length l }) hand)
-written-known m hand at l h x i =
-    let p = stays-in (record { at = at; size = length l }) hand x i in
+written-known : (m : Memory) (slices : List Slice) (at : ℕ) (l : List ℕ) → AllKnown m slices → AllKnown (written m at l) (untouched (record { at = at; size = length l }) slices)
+written-known m slices at l h x i =
+    let p = stays-in (record { at = at; size = length l }) slices x i in
     moved m (written m at l) x (bytes-apart m at l (x .region) (p .1)) (h x (p .0))
 
 -- the result of an accepted call
-result-known : (m : Memory) (x y : Slice) (b : Region) (l : List ℕ) → Known m x → Known m y → merging m x y (b .size) ≡ accepted l
-    → Known (written m (b .at) l) (record { region = record { at = b .at; size = length l }; made = true; origins = x .origins ++ y .origins })
-result-known m x y b l (bad f c g) k e = let q = sym e ∙ first-bad (bytesIn m (x .region)) (bytesIn m (y .region)) (b .size) c in let z : _≡_ {A = ℕ} 0 1 = cc in absurd (omega arith)
+result-known : (m : Memory) (x y : Slice) (b : Region) (l : List ℕ) → Known m x → Known m y → merging m x y ≡ gives l
+    → Known (written m (b .at) l) (record { region = record { at = b .at; size = length l }; isResult = true; origins = x .origins ++ y .origins })
+result-known m x y b l (bad f c g) k e = not-given (sym (first-bad (bytesIn m (x .region)) (bytesIn m (y .region)) c) ∙ e)
 result-known m x y b l (good g o t) (bad f c h) e =
-    let q = sym e ∙ second-bad (bytesIn m (x .region)) (bytesIn m (y .region)) (b .size) (table-good (bytesIn m (x .region)) (mergedOf (map records (x .origins))) t) c in
-    let z : _≡_ {A = ℕ} 0 1 = cc in absurd (omega arith)
+    not-given (sym (second-bad (bytesIn m (x .region)) (bytesIn m (y .region)) (table-good (bytesIn m (x .region)) (mergedOf (map records (x .origins))) t) c) ∙ e)
 result-known m x y b l (good g o t) (good h p u) e =
     let a = bytesIn m (x .region) in
     let c = bytesIn m (y .region) in
@@ -113,7 +113,7 @@ result-known m x y b l (good g o t) (good h p u) e =
     let us = map records (y .origins) in
     let os : List (List File) = map records (x .origins ++ y .origins) in
     let ok : Origins (x .origins ++ y .origins) = origins-append (x .origins) (y .origins) o p in
-    let r = merge-accepted a c (b .size) l e in
+    let r = merge-gave a c l e in
     let same : mergedRecords a c ≡ mergedOf os =
     merged-origins a c ts us (records-of a (mergedOf ts) t) (records-of c (mergedOf us) u) (records-append (x .origins) (y .origins) o p)
     ∙ ap mergedOf (sym (map-append records (x .origins) (y .origins))) in
@@ -121,48 +121,47 @@ result-known m x y b l (good g o t) (good h p u) e =
     let fit = subst (λ (fs : List File). isWithin (length fs) (length (tableOf fs)) ≡ true) same (r .within) in
     good (good-append (x .origins) (y .origins) g h) ok (subst (λ (v : List ℕ). GoodTable v (mergedOf os)) (sym there) (merged-good os ok fit))
 
-call-known : (m : Memory) (hand : List Slice) (x y : Slice) (b : Region) (o : Outcome) → merging m x y (b .size) ≡ o → x ∈ hand → y ∈ hand → AllKnown m hand
-    → AllKnown (written m (b .at) (bufferAfter o (bytesIn m b))) (handAfter o x y (b .at) hand)
-call-known m hand x y b (refused k p) e i j h = subst (λ (n : Memory). AllKnown n hand) (sym (written-back m (b .at) (b .size))) h
-call-known m hand x y b (accepted l) e i j h =
-    let r = merge-accepted (bytesIn m (x .region)) (bytesIn m (y .region)) (b .size) l e in
-    subst (λ (n : Memory). AllKnown n (handAfter (accepted l) x y (b .at) hand)) (sym (written-filled m (b .at) l (b .size) (r .fits))) all
+call-known : (m : Memory) (slices : List Slice) (x y : Slice) (b : Region) (o : Outcome) → inRoom (b .size) (merging m x y) ≡ o → x ∈ slices → y ∈ slices → AllKnown m slices
+    → AllKnown (written m (b .at) (bufferAfter o (bytesIn m b))) (slicesAfter o x y (b .at) slices)
+call-known m slices x y b (refuses k p) e i j h = subst (λ (n : Memory). AllKnown n slices) (sym (written-back m (b .at) (b .size))) h
+call-known m slices x y b (gives l) e i j h =
+    subst (λ (n : Memory). AllKnown n (slicesAfter (gives l) x y (b .at) slices)) (sym (written-filled m (b .at) l (b .size) (given-room (b .size) (merging m x y) l e .1))) all
   where
-    all : AllKnown (written m (b .at) l) (handAfter (accepted l) x y (b .at) hand)
-    all z k = ⊎-elim (λ f. subst (λ (w : Slice). Known (written m (b .at) l) w) (sym f) (result-known m x y b l (h x i) (h y j) e)) (λ q. written-known m hand (b .at) l h z q) (List·Memᴰ·cases-cons k)
+    all : AllKnown (written m (b .at) l) (slicesAfter (gives l) x y (b .at) slices)
+    all z k = ⊎-elim (λ f. subst (λ (w : Slice). Known (written m (b .at) l) w) (sym f) (result-known m x y b l (h x i) (h y j) (given-room (b .size) (merging m x y) l e .0))) (λ q. written-known m slices (b .at) l h z q) (List·Memᴰ·cases-cons k)
 
-step-known : (s : State) (e : Event) → Allowed s e → AllKnown (s .memory) (s .hand) → AllKnown (step s e .memory) (step s e .hand)
-step-known s (call x y b) a h = call-known (s .memory) (s .hand) x y b (merging (s .memory) x y (b .size)) refl (a .0) (a .1) h
-step-known s (write at l) a h = written-known (s .memory) (s .hand) at l h
+step-known : (s : State) (e : Action) → Allowed s e → AllKnown (s .memory) (s .slices) → AllKnown (step s e .memory) (step s e .slices)
+step-known s (call x y b) a h = call-known (s .memory) (s .slices) x y b (inRoom (b .size) (merging (s .memory) x y)) refl (a .0) (a .1) h
+step-known s (write at l) a h = written-known (s .memory) (s .slices) at l h
 
 -- the start
 
-begun-known : (m : Memory) (r : Region) → HoldsBytes m → Known m (begun m r)
-begun-known m r h = go (isGood (bytesIn m r)) refl
+starting-known : (m : Memory) (r : Region) → HoldsBytes m → Known m (starting m r)
+starting-known m r h = go (isGood (bytesIn m r)) refl
   where
-    go : (t : Bool) → isGood (bytesIn m r) ≡ t → Known m (begun m r)
+    go : (t : Bool) → isGood (bytesIn m r) ≡ t → Known m (starting m r)
     go true e =
         let g = good-table (bytesIn m r) (holds-bytes m (r .at) (r .size) h) e in
         let fs = records (bytesIn m r) in
         good (rw e refl) (subst AllOK (sym (append-nil fs)) (all-ok fs (g .valid))) (subst (λ (l : List File). GoodTable (bytesIn m r) l) (sym (merged-one fs (g .rising))) g)
     go false e = bad refl e (rw e refl)
 
-start-known : (m : Memory) (rs : List Region) → HoldsBytes m → AllKnown m (map (begun m) rs)
+start-known : (m : Memory) (rs : List Region) → HoldsBytes m → AllKnown m (map (starting m) rs)
 start-known m [] h x i = absurd (List·Memᴰ·not-nil i)
-start-known m (r ∷ rs) h x i = ⊎-elim (λ e. subst (λ (w : Slice). Known m w) (sym e) (begun-known m r h)) (λ j. start-known m rs h x j) (List·Memᴰ·cases-cons i)
+start-known m (r ∷ rs) h x i = ⊎-elim (λ e. subst (λ (w : Slice). Known m w) (sym e) (starting-known m r h)) (λ j. start-known m rs h x j) (List·Memᴰ·cases-cons i)
 
 -- the claim
 
-kept : (s : State) → AllKnown (s .memory) (s .hand) → Kept s
+kept : (s : State) → AllKnown (s .memory) (s .slices) → Kept s
 kept s h =
     record {
       results = λ x i e. result x e (h x i);
       good = λ x i. same-test x (h x i);
       same = λ x i e. same-bytes x e (h x i);
-      answers = λ x y i j room. by-origins (s .memory) x y room (h x i) (h y j);
+      answers = λ x y i j. by-origins (s .memory) x y (h x i) (h y j);
     }
   where
-    result : (x : Slice) → x .made ≡ true → Known (s .memory) x → allGood (x .origins) ≡ true
+    result : (x : Slice) → x .isResult ≡ true → Known (s .memory) x → allGood (x .origins) ≡ true
     result x e (bad f b g) = let z : _≡_ {A = ℕ} 0 1 = cc in absurd (omega arith)
     result x e (good g o t) = g
 
@@ -174,17 +173,17 @@ kept s h =
     same-bytes x e (bad f b g) = let z : _≡_ {A = ℕ} 0 1 = cc in absurd (omega arith)
     same-bytes x e (good g o t) = t .is
 
-throughout : (s : State) (es : List Event) → AllAllowed s es → AllKnown (s .memory) (s .hand) → Throughout s es
+throughout : (s : State) (es : List Action) → AllAllowed s es → AllKnown (s .memory) (s .slices) → Throughout s es
 throughout s [] a h = kept s h
 throughout s (e ∷ es) a h = (kept s h, throughout (step s e) es (a .1) (step-known s e (a .0) h))
 
 -- from any starting slices, good tables or not, through any list of calls and writes
-pub list-of-merges : (m : Memory) (rs : List Region) (es : List Event) → HoldsBytes m → AllAllowed (start m rs) es → Throughout (start m rs) es
+pub list-of-merges : (m : Memory) (rs : List Region) (es : List Action) → HoldsBytes m → AllAllowed (start m rs) es → Throughout (start m rs) es
 list-of-merges m rs es h a = throughout (start m rs) es a (start-known m rs h)
 
 -- two lists of merges, wherever they began: results of the same origins are the same, whatever the order, grouping and repetition
 
-run-known : (s : State) (es : List Event) → AllAllowed s es → AllKnown (s .memory) (s .hand) → AllKnown (run s es .memory) (run s es .hand)
+run-known : (s : State) (es : List Action) → AllAllowed s es → AllKnown (s .memory) (s .slices) → AllKnown (run s es .memory) (run s es .slices)
 run-known s [] a h = h
 run-known s (e ∷ es) a h = run-known (step s e) es (a .1) (step-known s e (a .0) h)
 
@@ -198,14 +197,14 @@ same-joined [] us h f m = absurd (List·Memᴰ·not-nil m)
 same-joined (t ∷ ts) us h f m =
     ⊎-elim (λ k. in-joined us t f (h t (List·Memᴰ·head refl)) k) (λ k. same-joined ts us (λ u i. h u (List·Memᴰ·tail i)) f k) (List·Memᴰ·append-cases (records t) m)
 
-same-known : (m n : Memory) (x y : Slice) → x .made ≡ true → y .made ≡ true → SameTables (x .origins) (y .origins) → Known m x → Known n y → bytesIn m (x .region) ≡ bytesIn n (y .region)
+same-known : (m n : Memory) (x y : Slice) → x .isResult ≡ true → y .isResult ≡ true → SameTables (x .origins) (y .origins) → Known m x → Known n y → bytesIn m (x .region) ≡ bytesIn n (y .region)
 same-known m n x y e f s (bad p b g) k = let z : _≡_ {A = ℕ} 0 1 = cc in absurd (omega arith)
 same-known m n x y e f s (good g o t) (bad p b h) = let z : _≡_ {A = ℕ} 0 1 = cc in absurd (omega arith)
 same-known m n x y e f s (good g o t) (good h p u) =
     t .is ∙ ap tableOf (merged-same (map records (x .origins)) (map records (y .origins)) p (same-joined (x .origins) (y .origins) (s .0)) (same-joined (y .origins) (x .origins) (s .1))) ∙ sym (u .is)
 
-pub whatever-order : (m n : Memory) (rs qs : List Region) (es fs : List Event) → HoldsBytes m → HoldsBytes n → AllAllowed (start m rs) es → AllAllowed (start n qs) fs
-    → (x y : Slice) → x ∈ run (start m rs) es .hand → y ∈ run (start n qs) fs .hand → x .made ≡ true → y .made ≡ true → SameTables (x .origins) (y .origins)
+pub whatever-order : (m n : Memory) (rs qs : List Region) (es fs : List Action) → HoldsBytes m → HoldsBytes n → AllAllowed (start m rs) es → AllAllowed (start n qs) fs
+    → (x y : Slice) → x ∈ run (start m rs) es .slices → y ∈ run (start n qs) fs .slices → x .isResult ≡ true → y .isResult ≡ true → SameTables (x .origins) (y .origins)
     → bytesIn (run (start m rs) es .memory) (x .region) ≡ bytesIn (run (start n qs) fs .memory) (y .region)
 whatever-order m n rs qs es fs h k a b x y i j e f s =
     same-known (run (start m rs) es .memory) (run (start n qs) fs .memory) x y e f s

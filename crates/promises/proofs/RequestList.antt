@@ -55,8 +55,8 @@ module _ (local : List File) (peers : List (List File)) (rises : (k : ℕ) → k
         number = omega (arith, n);
         offset = e;
         size = s;
-        from-one = omega (arith, l .is);
-        to-last = omega (arith, l .is, l .small);
+        fromOne = omega (arith, l .is);
+        toLast = omega (arith, l .is, l .small);
         lists = lists-from l;
         lowest = none-lower l;
       }
@@ -118,5 +118,5 @@ requested local peers b g =
     record {
       list = requestList (records local) (map records peers);
       exact = exact-list (records local) (map records peers) (rising-records peers b (both-true (isGood local) (allGood peers) g .1));
-      filled = λ room. rw g refl;
+      filled = rw g refl;
     }

@@ -11,11 +11,11 @@ use Rattle.xdr.specs.Pad.{allZero}
 use Rattle.order.specs.Order.{compareNumbers, compareLists}
 use Rattle.table.specs.Newest.{compareFiles}
 use Rattle.table.specs.Table.{isGood, records, tableOf}
-use Rattle.table.specs.Filling.{accepted, refused}
+use Rattle.xdr.specs.Filling.{gives, refuses, inRoom}
 use Rattle.merge.specs.Merged.{mergedOf}
 use Rattle.merge.specs.Answer.{mergedRecords, mergeOutcome}
 use Rattle.promises.specs.Memory.{Memory, bytesIn, written}
-use Rattle.promises.specs.Merges.{Slice, State, Event, call, write, start, merging, run, AllAllowed, Throughout}
+use Rattle.promises.specs.Merges.{Slice, State, Action, call, write, start, merging, run, AllAllowed, Throughout}
 use Rattle.promises.proofs.MemoryLaws.{holds-written}
 use Rattle.promises.proofs.Merges.{list-of-merges}
 
@@ -34,20 +34,20 @@ abbrev begin : State
 begin = start memory (record { at = 0; size = 32 } ∷ record { at = 40; size = 32 } ∷ record { at = 80; size = 3 } ∷ [])
 
 abbrev x : Slice
-x = record { region = record { at = 0; size = 32 }; made = false; origins = older ∷ [] }
+x = record { region = record { at = 0; size = 32 }; isResult = false; origins = older ∷ [] }
 
 abbrev y : Slice
-y = record { region = record { at = 40; size = 32 }; made = false; origins = newer ∷ [] }
+y = record { region = record { at = 40; size = 32 }; isResult = false; origins = newer ∷ [] }
 
 abbrev z : Slice
-z = record { region = record { at = 80; size = 3 }; made = false; origins = (0 ∷ 0 ∷ 0 ∷ []) ∷ [] }
+z = record { region = record { at = 80; size = 3 }; isResult = false; origins = (0 ∷ 0 ∷ 0 ∷ []) ∷ [] }
 
 abbrev merged : Slice
-merged = record { region = record { at = 100; size = 32 }; made = true; origins = older ∷ newer ∷ [] }
+merged = record { region = record { at = 100; size = 32 }; isResult = true; origins = older ∷ newer ∷ [] }
 
 -- the two are merged; their result with itself, into a buffer one byte short; one with what is no table; and somebody writes into the first
-abbrev events : List Event
-events =
+abbrev actions : List Action
+actions =
     call x y (record { at = 100; size = 34 })
     ∷ call merged merged (record { at = 140; size = 31 })
     ∷ call y z (record { at = 140; size = 32 })
@@ -55,26 +55,26 @@ events =
     ∷ []
 
 -- what each call did
-pub sample-answers : (merging (begin .memory) x y 34 ≡ accepted newer)
-    × (merging (run begin (take 1 events) .memory) merged merged 31 ≡ refused 14 0)
-    × (merging (run begin (take 2 events) .memory) y z 32 ≡ refused 15 0)
+pub sample-answers : (inRoom 34 (merging (begin .memory) x y) ≡ gives newer)
+    × (inRoom 31 (merging (run begin (take 1 actions) .memory) merged merged) ≡ refuses 14 0)
+    × (inRoom 32 (merging (run begin (take 2 actions) .memory) y z) ≡ refuses 15 0)
 unfolding read encode soundUpTo allZero compareNumbers compareLists compareFiles isGood records tableOf mergedOf mergedRecords mergeOutcome
 sample-answers = (refl, refl, refl)
 
--- the first is at hand no more, and the result is the newer one
-pub sample-run : (run begin events .hand ≡ merged ∷ y ∷ z ∷ []) × (bytesIn (run begin events .memory) (merged .region) ≡ newer)
+-- the first is no slice any more, and the result is the newer one
+pub sample-run : (run begin actions .slices ≡ merged ∷ y ∷ z ∷ []) × (bytesIn (run begin actions .memory) (merged .region) ≡ newer)
 unfolding read encode soundUpTo allZero compareNumbers compareLists compareFiles isGood records tableOf mergedOf mergedRecords mergeOutcome
 sample-run = (refl, refl)
 
 -- it is a list that the claim is about
-sample-allowed : AllAllowed begin events
+sample-allowed : AllAllowed begin actions
 unfolding read encode soundUpTo allZero compareNumbers compareLists compareFiles isGood records tableOf mergedOf mergedRecords mergeOutcome
 sample-allowed = (
   (List·Memᴰ·head refl, List·Memᴰ·tail (List·Memᴰ·head refl), refl, refl),
   ((List·Memᴰ·head refl, List·Memᴰ·head refl, refl, refl), ((List·Memᴰ·tail (List·Memᴰ·tail (List·Memᴰ·head refl)), List·Memᴰ·tail (List·Memᴰ·tail (List·Memᴰ·tail (List·Memᴰ·head refl))), refl, refl), (tt, tt))),
 )
 
-pub sample-kept : Throughout begin events
+pub sample-kept : Throughout begin actions
 sample-kept =
-    list-of-merges memory (record { at = 0; size = 32 } ∷ record { at = 40; size = 32 } ∷ record { at = 80; size = 3 } ∷ []) events
+    list-of-merges memory (record { at = 0; size = 32 } ∷ record { at = 40; size = 32 } ∷ record { at = 80; size = 3 } ∷ []) actions
     (holds-written (written (λ k. 0) 0 older) 40 newer (holds-written (λ k. 0) 0 older (λ k. omega arith) refl) refl) sample-allowed

@@ -2,30 +2,29 @@
 use Prim.Native.Nat.{ℕ, _/_, _%_, _≤_}
 use mathlib.Core.List.{List, []}
 use mathlib.Core.Path.{_≡_, refl, sym, ap, subst, _∙_}
-use mathlib.Core.Bool.{Bool, true, false, cond, _&&_}
+use mathlib.Core.Bool.{true, false, _&&_}
 use native.Mathlib.Omega.{arith}
-use lib.ListN.{length}
-use lib.Dec.{leb}
+use borrow.Author.Tests.{le-leb}
 use Rattle.xdr.specs.Reading.{Reading, taken, refused}
-use Rattle.xdr.specs.Buffer.{filled}
+use Rattle.xdr.specs.Filling.{gives}
 use Rattle.xdr.specs.Pad.{allZero}
 use Rattle.xdr.specs.Format.{read, readAt, encode}
 use Rattle.message.specs.Header.{headerOf, typeOf, idOf}
-use Rattle.message.specs.Message.{Kind, isIndex, isRequest, isResponse, isPing, isPong, isIndexUpdate, isOptions, kindOf, Body, Sent, message}
-use Rattle.message.specs.Answers.{bodyAnswer, messageAnswer, said}
+use Rattle.message.specs.Message.{Kind, isIndex, isRequest, isResponse, isPing, isPong, isIndexUpdate, isOptions, kindOf, Body, MessageValue, message}
+use Rattle.message.specs.Answers.{bodyAnswer, messageAnswer, messageIn}
 use Rattle.message.specs.declared.answer.RequestSpan.{RequestSpan}
 use Rattle.message.specs.declared.answer.Message.{Message}
 use Rattle.message.specs.declared.answer.Message.the-variants as M
-use Rattle.message_write.specs.Writing.{messageBytes, responseBytes, fitted, writing, writtenAnswer, writtenBuffer}
+use Rattle.message_write.specs.Writing.{messageBytes, responseBytes, asRead, writing}
+use Rattle.message_write.specs.Steps.{writingBody}
 use Rattle.message_write.proofs.WritingLaws.{by-body}
 use Rattle.order.specs.Order.{isEqual, compareLists}
 use Rattle.table.specs.Table.{isGood, records}
 use Rattle.want.specs.Listing.{listsThere, blockWith}
-use Rattle.serve.specs.Ruling.{isOurs, Ruling, replies, rulingOf, replyAnswer, servingAnswer, servingBuffer}
-use Rattle.serve.specs.declared.ruling.Serving.the-variants as S
+use Rattle.serve.specs.Ruling.{isOurs, fills, rulingOf}
 use Rattle.serve.proofs.RulingLaws.{table-good, ours-not}
 use Rattle.promises.specs.Spans.{RequestFields}
-use Rattle.promises.specs.Serving.{replyBytes, Replied}
+use Rattle.promises.specs.Serving.{replyBytes}
 
 -- the ID of a Request that was read
 
@@ -48,7 +47,7 @@ id-of isPong b id next = refl
 id-of isIndexUpdate b id next = refl
 id-of isOptions b id next = refl
 
-small-id : (r : Reading Sent) → idIn (messageAnswer r) ≤ 4095
+small-id : (r : Reading MessageValue) → idIn (messageAnswer r) ≤ 4095
 small-id (taken m next) = rw (id-of (kindOf (typeOf (m .0))) (m .1) (idOf (m .0)) next) (omega arith)
 small-id (refused k p) = omega arith
 
@@ -64,31 +63,18 @@ module _ (id : ℕ) (h : id ≤ 4095) where
       let d : headerOf id 3 % 16777216 % 65536 % 256 / 1 ≡ 0 = omega arith in
       cc
 
-  reply-writing : (room : ℕ) → writing id 3 (responseBytes []) room ≡ cond (leb 8 room) (taken (replyBytes id) 8) (refused 14 0)
-  unfolding read encode allZero
-  reply-writing room = by-body id 3 (responseBytes []) room h (omega arith) (omega arith) ∙ ap (λ (l : List ℕ). fitted {A = List ℕ} room l (taken [] 8)) reply-bytes
+  reply-writing : writing message id 3 (responseBytes []) ≡ gives (replyBytes id)
+  unfolding read encode allZero writingBody
+  reply-writing = by-body id 3 (responseBytes []) (omega arith) (omega arith) ∙ simp (le-leb id 4095 h) (ap (λ (l : List ℕ). asRead {A = List ℕ} l (taken [] 8)) reply-bytes)
 
-  by-room : (out : List ℕ) (b : Bool)
-      → (replyAnswer (writtenAnswer (cond b (taken (replyBytes id) 8) (refused 14 0))) ≡ cond b (S.Replied 8) (S.Refused (record { number = 14; place = 0 })))
-      × (writtenBuffer out (cond b (taken (replyBytes id) 8) (refused 14 0)) ≡ cond b (filled out (replyBytes id)) out)
-  by-room out true = (refl, refl)
-  by-room out false = (refl, refl)
-
-  replied : (out : List ℕ) → Replied id out (servingAnswer (replies id) (length out)) (servingBuffer (replies id) out)
-  replied out =
-      let w = reply-writing (length out) in
-      let q = by-room out (leb 8 (length out)) in
-      record { answered = ap (λ (x : Reading (List ℕ)). replyAnswer (writtenAnswer x)) w ∙ q .0; buffer = ap (writtenBuffer out) w ∙ q .1 }
-
--- a Request that is not ours gets the reply under its ID
-pub unserved-replied : (t repository s out : List ℕ) (id : ℕ) (x : RequestSpan) → isGood t ≡ true → said s ≡ M.Request id x → isOurs t repository s x ≡ false
-    → Replied id out (servingAnswer (rulingOf t repository s) (length out)) (servingBuffer (rulingOf t repository s) out)
-unserved-replied t repository s out id x g e o =
-    let ruling : rulingOf t repository s ≡ replies id = table-good t repository s out g (sym e) refl refl ∙ ours-not t repository s out id x refl o in
+-- a Request that is not ours gets the reply under its ID: its eight bytes are filled in, or there is no room for them
+pub unserved-replied : (t repository s : List ℕ) (id : ℕ) (x : RequestSpan) → isGood t ≡ true → messageIn s ≡ M.Request id x → isOurs t repository s x ≡ false
+    → rulingOf t repository s ≡ fills (gives (replyBytes id))
+unserved-replied t repository s id x g e o =
     let small : id ≤ 4095 = subst (λ (a : Message). idIn a ≤ 4095) e (small-id (readAt message s 0)) in
-    subst (λ (r : Ruling). Replied id out (servingAnswer r (length out)) (servingBuffer r out)) (sym ruling) (replied id small out)
+    table-good t repository s [] g (sym e) refl refl ∙ ours-not t repository s [] id x refl o ∙ ap fills (reply-writing id small)
 
 -- whether it is ours goes by its fields
 pub ours-by-fields : (t repository s : List ℕ) (x : RequestSpan) (b : Body isRequest) (end : ℕ) → RequestFields s x b end
-    → isOurs t repository s x ≡ (isEqual (compareLists (b .0) repository) && listsThere (records t) (b .1 .0) (b .1 .1 .0) (blockWith (b .1 .1 .1 .0) (b .1 .1 .1 .1)))
-ours-by-fields t repository s x b end f = rw (f .repository-is, f .name-is, f .offset-is, f .length-is, f .hash-is) refl
+    → isOurs t repository s x ≡ (isEqual (compareLists (b .repository) repository) && listsThere (records t) (b .name) (b .offset) (blockWith (b .size) (b .hash)))
+ours-by-fields t repository s x b end f = rw (f .repository-is, f .name-is, f .offset-is, f .size-is, f .hash-is) refl

@@ -12,15 +12,12 @@ use Rattle.xdr.specs.Fields.{word}
 use Rattle.xdr.proofs.NumberLaws.{bytes-drop}
 use Rattle.xdr.proofs.Steps.{Reads, opened, passed, ends-word, shifted-zero}
 use Rattle.xdr.proofs.Strings.{string-ends}
-use Rattle.xdr.proofs.Parts.{pair-parts}
+use Rattle.xdr.proofs.Parts.{via-parts, pair-parts}
 use Rattle.xdr.proofs.Corollaries.{read-exactly}
 use Rattle.message.specs.Header.{typeOf, idOf}
-use Rattle.message.specs.Message.{Kind, isIndex, isRequest, isResponse, isPing, isPong, isIndexUpdate, isOptions, kindOf, Body, body, Sent, index, request, response, message}
-use Rattle.message.specs.Answers.{indexSpan, requestSpan, responseSpan, optionsSpan, bodyAnswer, messageAnswer, said}
-use Rattle.message.specs.declared.answer.RequestSpan.{RequestSpan}
-use Rattle.serve.specs.Ruling.{spanBytes}
-use Rattle.serve.proofs.SpanLaws.{fields}
-use Rattle.promises.specs.Spans.{IndexFields, RequestFields, ResponseFields, OptionsFields, Answers}
+use Rattle.message.specs.Message.{Kind, isIndex, isRequest, isResponse, isPing, isPong, isIndexUpdate, isOptions, kindOf, Body, body, MessageValue, index, request, response, message}
+use Rattle.message.specs.Answers.{indexSpan, requestSpan, responseSpan, optionsSpan, bodyAnswer, messageAnswer, messageIn}
+use Rattle.promises.specs.Spans.{IndexFields, RequestFields, ResponseFields, OptionsFields, SaysFields}
 
 -- a string or an opaque stands after its length word
 string-there : {k : ℕ} {limited : ℕ → Bool} {s : List ℕ} {at : ℕ} {l : List ℕ} {m : ℕ} → Reads (bytes (checked k limited word)) s at (taken l m) → take (length l) (drop (at + 4) s) ≡ l
@@ -57,15 +54,19 @@ module _ {s : List ℕ} {next : ℕ} where
 
   pub request-fields : {p : Body isRequest} → Reads request s 4 (taken p next) → RequestFields s (requestSpan p next) p next
   request-fields {p} h =
-      let x : RequestSpan = requestSpan p next in
-      let e = sym (fields h .reads .is) ∙ h .is in
-      let same : (spanBytes s (x .repository), (spanBytes s (x .name), (x .offset, (x .length, spanBytes s (x .hash))))) ≡ p = cc in
+      let repository = pair-parts (via-parts h) in
+      let name = pair-parts (repository .2) in
+      let offset = pair-parts (name .2) in
+      let size = pair-parts (offset .2) in
+      let r = string-ends (passed (repository .1)) in
+      let n = string-ends (passed (passed (name .1))) in
+      let hash-at : requestSpan p next .hash .start ≡ size .0 + 4 = omega (arith, r, n, ends-word (offset .1) .0, ends-word (passed (size .1)) .0) in
       record {
-        repository-is = ap (λ (b : Body isRequest). b .0) same;
-        name-is = ap (λ (b : Body isRequest). b .1 .0) same;
+        repository-is = string-there (passed (repository .1));
+        name-is = ap (λ (k : ℕ). take (length (p .name)) (drop (k + 4) s)) (sym r) ∙ string-there (passed (passed (name .1)));
         offset-is = refl;
-        length-is = refl;
-        hash-is = ap (λ (b : Body isRequest). b .1 .1 .1 .1) same;
+        size-is = refl;
+        hash-is = ap (λ (k : ℕ). take (length (p .hash)) (drop k s)) hash-at ∙ string-there (size .2);
         end-is = refl;
       }
 
@@ -75,7 +76,7 @@ module _ {s : List ℕ} {next : ℕ} where
   options-fields : {l : Body isOptions} → IsBytes s → Reads (body isOptions) s 4 (taken l next) → OptionsFields s (optionsSpan l next) l next
   options-fields b h = record { options-are = encoded-there b h; count-is = refl; end-is = refl }
 
-  by-kind : (k : Kind) (p : Body k) (id : ℕ) → IsBytes s → Reads (body k) s 4 (taken p next) → Answers s id k p next (bodyAnswer k id (taken p next))
+  by-kind : (k : Kind) (p : Body k) (id : ℕ) → IsBytes s → Reads (body k) s 4 (taken p next) → SaysFields s id k p next (bodyAnswer k id (taken p next))
   by-kind isIndex p id b h = (indexSpan p next, refl, index-fields b h)
   by-kind isRequest p id b h = (requestSpan p next, refl, request-fields h)
   by-kind isResponse p id b h = (responseSpan p next, refl, response-fields h)
@@ -90,16 +91,16 @@ unfolding readAt
 from-start s = shifted-zero (read message s)
 
 -- its body stands behind its header
-pub body-there : {s : List ℕ} {m : Sent} {n : ℕ} → read message s ≡ taken m n → Reads (body (kindOf (typeOf (m .0)))) s 4 (taken (m .1) n)
+pub body-there : {s : List ℕ} {m : MessageValue} {n : ℕ} → read message s ≡ taken m n → Reads (body (kindOf (typeOf (m .0)))) s 4 (taken (m .1) n)
 body-there {s} {m} {n} e =
     let r : Reads message s 0 (taken m n) = record { is = from-start s ∙ e } in
     let h = pair-parts r in
     subst (λ (k : ℕ). Reads (body (kindOf (typeOf (m .0)))) s k (taken (m .1) n)) (ends-word (passed (passed (passed (h .1)))) .0) (h .2)
 
 -- every message that is read
-pub spans-are-fields : (s : List ℕ) (m : Sent) (n : ℕ) → IsBytes s → read message s ≡ taken m n
-    → Answers s (idOf (m .0)) (kindOf (typeOf (m .0))) (m .1) n (said s)
+pub spans-are-fields : (s : List ℕ) (m : MessageValue) (n : ℕ) → IsBytes s → read message s ≡ taken m n
+    → SaysFields s (idOf (m .0)) (kindOf (typeOf (m .0))) (m .1) n (messageIn s)
 spans-are-fields s m n b e =
     let k : Kind = kindOf (typeOf (m .0)) in
-    subst (λ (r : Reading Sent). Answers s (idOf (m .0)) k (m .1) n (messageAnswer r)) (sym (from-start s ∙ e))
+    subst (λ (r : Reading MessageValue). SaysFields s (idOf (m .0)) k (m .1) n (messageAnswer r)) (sym (from-start s ∙ e))
     (by-kind k (m .1) (idOf (m .0)) b (body-there e))

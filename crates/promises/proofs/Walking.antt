@@ -14,7 +14,7 @@ use Rattle.record.specs.File.{File, file}
 use Rattle.record.specs.Outline.{fieldsOf}
 use Rattle.table.specs.Table.{isGood, records}
 use Rattle.table.proofs.TableLaws.{good-table}
-use Rattle.table.specs.Standing.{At}
+use Rattle.table.specs.Steps.Standing.{At}
 use Rattle.table.proofs.WalkLaws.{at-start, standing}
 use Rattle.walker.specs.Walk.{stepAmong, stepAt, nextPlace, given, stepped}
 use Rattle.walker.specs.declared.Step.{Step}

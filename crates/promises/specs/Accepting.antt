@@ -8,7 +8,7 @@ use Rattle.xdr.specs.Reading.{taken}
 use Rattle.xdr.specs.Format.{read}
 use Rattle.record.specs.File.{File}
 use Rattle.message.specs.Header.{typeOf}
-use Rattle.message.specs.Message.{Kind, isIndex, isRequest, isResponse, isPing, isPong, isIndexUpdate, isOptions, kindOf, Body, Sent, message}
+use Rattle.message.specs.Message.{Kind, isIndex, isRequest, isResponse, isPing, isPong, isIndexUpdate, isOptions, kindOf, Body, MessageValue, message}
 use Rattle.table.specs.Table.{isGood, records}
 
 -- a message of some kind sends files for a Repository, as an IndexUpdate or as an Index
@@ -32,12 +32,12 @@ Belongs update sent old f = List·Memᴰ f sent ⊎ ((update ≡ true) × List·
 -- a message was accepted over an old table for a Repository, and filled in a table
 pub record Accepted (old bytes repository table : List ℕ) : Type 0 where
   -- the bytes were read as a message that sends files for the Repository
-  pub said : Sent
+  pub value : MessageValue
   pub end : ℕ
-  pub reads : read message bytes ≡ taken said end
+  pub reads : read message bytes ≡ taken value end
   pub update : Bool
   pub sent : List File
-  pub sends : Sends (kindOf (typeOf (said .0))) (said .1) update repository sent
+  pub sends : Sends (kindOf (typeOf (value .0))) (value .1) update repository sent
   -- the table is good, and its records are exactly those that belong
   pub good : isGood table ≡ true
   pub only : (f : File) → List·Memᴰ f (records table) → Belongs update sent (records old) f

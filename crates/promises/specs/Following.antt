@@ -2,13 +2,12 @@
 use Prim.Native.Nat.{ℕ}
 use mathlib.Core.List.{List, _++_}
 use mathlib.Core.Path.{_≡_}
-use lib.ListN.{length}
 use Rattle.xdr.specs.Reading.{refused}
 use Rattle.xdr.specs.Format.{read}
 use Rattle.message.specs.Message.{message}
-use Rattle.message.specs.Answers.{said}
+use Rattle.message.specs.Answers.{messageIn}
 use Rattle.accept.specs.Accepting.{acceptOutcome}
-use Rattle.serve.specs.Ruling.{rulingOf, servingAnswer, servingBuffer}
+use Rattle.serve.specs.Ruling.{rulingOf}
 use Rattle.queue.specs.Queue.{answerOf}
 use Rattle.queue.specs.declared.queue.RequestQueue.{RequestQueue}
 
@@ -18,9 +17,7 @@ IsEnough s = (p : ℕ) → read message s ≡ refused 1 p → ⊥
 
 -- each call that is given a message does the same when bytes follow it
 pub record Unchanged (s t : List ℕ) : Type 0 where
-  pub reading : said (s ++ t) ≡ said s
-  pub accepting : (old repository : List ℕ) (room : ℕ) → acceptOutcome old (s ++ t) repository room ≡ acceptOutcome old s repository room
-  pub answering : (q : RequestQueue) → answerOf q (said (s ++ t)) ≡ answerOf q (said s)
-  pub serving : (table repository out : List ℕ)
-      → (servingAnswer (rulingOf table repository (s ++ t)) (length out) ≡ servingAnswer (rulingOf table repository s) (length out))
-      × (servingBuffer (rulingOf table repository (s ++ t)) out ≡ servingBuffer (rulingOf table repository s) out)
+  pub reading : messageIn (s ++ t) ≡ messageIn s
+  pub accepting : (old repository : List ℕ) → acceptOutcome old (s ++ t) repository ≡ acceptOutcome old s repository
+  pub answering : (q : RequestQueue) → answerOf q (messageIn (s ++ t)) ≡ answerOf q (messageIn s)
+  pub serving : (table repository : List ℕ) → rulingOf table repository (s ++ t) ≡ rulingOf table repository s

@@ -1,4 +1,4 @@
-pub mod Fields
+pub mod Bodies
 pub mod Vectors
 pub mod Memory
 pub mod Merges

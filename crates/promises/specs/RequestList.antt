@@ -4,12 +4,13 @@ use mathlib.Core.List.{List, [], _∷_, _++_, map, List·Memᴰ}
 use mathlib.Core.Path.{_≡_}
 use mathlib.Core.Bool.{Bool, true, false}
 use lib.ListN.{length, getD}
+use Rattle.xdr.specs.Filling.{gives}
 use Rattle.record.specs.Block.{Block, totalSize}
 use Rattle.record.specs.File.{File}
 use Rattle.table.specs.Table.{records}
 use Rattle.merge.specs.Merged.{mergedOf}
 use Rattle.want.specs.Listing.{listed, listsThere}
-use Rattle.want.specs.Wanted.{InOrder, listBytes, listInto, requestOutcome}
+use Rattle.want.specs.Wanted.{Ordered, listBytes, requestOutcome}
 use Rattle.want.specs.declared.list.Wanted.{Wanted}
 
 -- a block to ask for
@@ -37,8 +38,8 @@ pub record Asks {local : List File} {peers : List (List File)} (m : Missing loca
   pub number : w .block ≡ length (m .front)
   pub offset : w .offset ≡ totalSize (m .front)
   pub size : w .size ≡ m .block .size
-  pub from-one : 1 ≤ w .peer
-  pub to-last : w .peer ≤ length peers
+  pub fromOne : 1 ≤ w .peer
+  pub toLast : w .peer ≤ length peers
   pub lists : isListedBy m (w .peer) ≡ true
   pub lowest : (k : ℕ) → 1 ≤ k → k < w .peer → isListedBy m k ≡ false
 
@@ -46,10 +47,10 @@ pub record Asks {local : List File} {peers : List (List File)} (m : Missing loca
 pub record Exact (local : List File) (peers : List (List File)) (l : List Wanted) : Type 0 where
   pub only : (w : Wanted) → List·Memᴰ w l → (m : Missing local peers) × Asks m w
   pub all : (m : Missing local peers) → (w : Wanted) × List·Memᴰ w l × Asks m w
-  pub ordered : InOrder l
+  pub ordered : Ordered l
 
--- request_list of good tables: the exact list, whose bytes fill the buffer, or 14 where they don't fit
+-- request_list of good tables gives the bytes of the exact list
 pub record Requested (local : List ℕ) (peers : List (List ℕ)) : Type 0 where
   pub list : List Wanted
   pub exact : Exact (records local) (map records peers) list
-  pub filled : (room : ℕ) → requestOutcome local peers room ≡ listInto (listBytes list) room
+  pub filled : requestOutcome local peers ≡ gives (listBytes list)

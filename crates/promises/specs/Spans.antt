@@ -14,7 +14,7 @@ use Rattle.message.specs.declared.answer.ResponseSpan.{ResponseSpan}
 use Rattle.message.specs.declared.answer.OptionsSpan.{OptionsSpan}
 use Rattle.message.specs.declared.answer.Message.{Message}
 use Rattle.message.specs.declared.answer.Message.the-variants as M
-use Rattle.serve.specs.Ruling.{spanBytes}
+use Rattle.message.specs.Answers.{spanBytes}
 
 -- an Index or an IndexUpdate: its Repository, and its files, which are an encoded array from the count word to the end
 pub record IndexFields (s : List ℕ) (x : IndexSpan) (b : Body isIndex) (end : ℕ) : Type 0 where
@@ -25,11 +25,11 @@ pub record IndexFields (s : List ℕ) (x : IndexSpan) (b : Body isIndex) (end : 
 
 -- a Request: its strings and its hash at their spans, and its numbers
 pub record RequestFields (s : List ℕ) (x : RequestSpan) (b : Body isRequest) (end : ℕ) : Type 0 where
-  pub repository-is : spanBytes s (x .repository) ≡ b .0
-  pub name-is : spanBytes s (x .name) ≡ b .1 .0
-  pub offset-is : x .offset ≡ b .1 .1 .0
-  pub length-is : x .length ≡ b .1 .1 .1 .0
-  pub hash-is : spanBytes s (x .hash) ≡ b .1 .1 .1 .1
+  pub repository-is : spanBytes s (x .repository) ≡ b .repository
+  pub name-is : spanBytes s (x .name) ≡ b .name
+  pub offset-is : x .offset ≡ b .offset
+  pub size-is : x .size ≡ b .size
+  pub hash-is : spanBytes s (x .hash) ≡ b .hash
   pub end-is : x .end ≡ end
 
 -- a Response: its data
@@ -44,11 +44,11 @@ pub record OptionsFields (s : List ℕ) (x : OptionsSpan) (b : Body isOptions) (
   pub end-is : x .end ≡ end
 
 -- the answer for a message of each kind with an ID, by what its body says and the place after it
-abbrev pub Answers : (s : List ℕ) (id : ℕ) (k : Kind) → Body k → (end : ℕ) → Message → Type 0
-Answers s id isIndex b end a = (x : IndexSpan) × (a ≡ M.Index id x) × IndexFields s x b end
-Answers s id isRequest b end a = (x : RequestSpan) × (a ≡ M.Request id x) × RequestFields s x b end
-Answers s id isResponse b end a = (x : ResponseSpan) × (a ≡ M.Response id x) × ResponseFields s x b end
-Answers s id isPing b end a = a ≡ M.Ping id end
-Answers s id isPong b end a = a ≡ M.Pong id end
-Answers s id isIndexUpdate b end a = (x : IndexSpan) × (a ≡ M.IndexUpdate id x) × IndexFields s x b end
-Answers s id isOptions b end a = (x : OptionsSpan) × (a ≡ M.Options id x) × OptionsFields s x b end
+abbrev pub SaysFields : (s : List ℕ) (id : ℕ) (k : Kind) → Body k → (end : ℕ) → Message → Type 0
+SaysFields s id isIndex b end a = (x : IndexSpan) × (a ≡ M.Index id x) × IndexFields s x b end
+SaysFields s id isRequest b end a = (x : RequestSpan) × (a ≡ M.Request id x) × RequestFields s x b end
+SaysFields s id isResponse b end a = (x : ResponseSpan) × (a ≡ M.Response id x) × ResponseFields s x b end
+SaysFields s id isPing b end a = a ≡ M.Ping id end
+SaysFields s id isPong b end a = a ≡ M.Pong id end
+SaysFields s id isIndexUpdate b end a = (x : IndexSpan) × (a ≡ M.IndexUpdate id x) × IndexFields s x b end
+SaysFields s id isOptions b end a = (x : OptionsSpan) × (a ≡ M.Options id x) × OptionsFields s x b end

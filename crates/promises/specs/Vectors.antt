@@ -6,13 +6,13 @@ use Rattle.xdr.specs.Reading.{Reading, taken, refused}
 use Rattle.xdr.specs.Format.{read}
 use Rattle.record.specs.File.{File}
 use Rattle.message.specs.Header.{headerOf}
-use Rattle.message.specs.Message.{Sent, message}
+use Rattle.message.specs.Message.{MessageValue, message}
 use Rattle.table.specs.Newest.{compareFiles}
 use Rattle.order.specs.declared.compare.Order.the-variants.{Greater}
 
 -- bytes with what reading them gives; or Modified of two records, the first of which is the newer one whatever else they say
 pub data Vector : Type 0 where
-  reads : List ℕ → Reading Sent → Vector
+  reads : List ℕ → Reading MessageValue → Vector
   newer : (modified other : ℕ) → Vector
 
 -- what a case says

@@ -1,124 +1,69 @@
--- What the checks of a queue tell.
-use Prim.Native.Nat.{ℕ, zero, suc, _<_, _≤_}
-use native.Mathlib.Omega.{arith}
-use mathlib.Core.Path.{_≡_, refl, ap}
-use mathlib.Core.Bool.{Bool, true, false, cond, _&&_, and-false}
-use mathlib.Core.List.{[], _∷_}
-use lib.ListN.{length, take, getD}
-use lib.Seq.{slice, slice-cons}
+-- What the checks of a queue tell, and what a call gives by them.
+use Prim.Native.Nat.{ℕ, _≤_}
+use mathlib.Core.Path.{_≡_, refl, sym, ap, subst, _∙_}
+use mathlib.Core.Bool.{Bool, true, false, cond}
+use mathlib.Core.List.{List}
+use lib.ListN.{length}
 use lib.Dec.{leb}
 use borrow.Author.Tests.{leb-true, le-leb}
-use Rattle.queue.specs.Requests.{blank, total, inOrder}
-use Rattle.queue.specs.Queue.{allowance, windowFits, outstanding, shapeFits, isOrderly, orderlyBytes, isSound, soundBytes}
+use Rattle.xdr.specs.Filling.{Outcome, refuses, inRoom, fillingAnswer}
+use Rattle.xdr.specs.declared.filling.Filling.{Filling}
+use Rattle.xdr.proofs.FillingLaws.{fills-refused}
+use Rattle.link.specs.Requests.{total}
+use Rattle.link.specs.OneLink.{outstanding, isOrderly, issuing, issuedLink, Issues}
+use Rattle.link.specs.Steps.{orderlyBytes}
+use Rattle.link.specs.declared.list.Tally.the-variants.{Unsound, Bytes}
+use Rattle.link.specs.declared.outcome.LinkIssued.{LinkIssued}
+use Rattle.link.proofs.RequestLaws.{both}
+use Rattle.link.proofs.LinkLaws.{tally-bytes, tally-unsound, bytes-of, unsound-of}
+use Rattle.queue.specs.Queue.{allowance, isSound, issueOutcome}
+use Rattle.queue.specs.Steps.{soundBytes}
 use Rattle.queue.specs.declared.queue.RequestQueue.{RequestQueue}
-use Rattle.queue.specs.declared.queue.Tally.the-variants.{Unsound, Bytes}
-use Rattle.queue.proofs.RequestLaws.{both, Passed}
 
--- a tally
+module _ (q : RequestQueue) where
+  -- what the link's tally tells
+  pub sound-unsound : Unsound ≡ orderlyBytes (q .link) → Unsound ≡ soundBytes q
+  unfolding isSound
+  sound-unsound e = rw (tally-unsound (q .link) e)
 
-pub tally-done : (q : RequestQueue) (i follower sum : ℕ) → i ≤ 0 → shapeFits q ≡ true
-    → Passed (slice i (q .count) (q .entries)) (q .next) follower sum → Bytes sum ≡ orderlyBytes q
-unfolding isOrderly
-tally-done q zero follower sum z s p = rw (s, p .ordered, p .summed)
-tally-done q (suc i) follower sum z s p = absurd (omega arith)
+  pub sound-bytes : (n : ℕ) (t : Bool) → Bytes n ≡ orderlyBytes (q .link) → leb n allowance ≡ t → cond t (Bytes n) Unsound ≡ soundBytes q
+  unfolding isSound
+  sound-bytes n t e f =
+      let h = tally-bytes (q .link) n e in
+      let same : leb (total (outstanding (q .link))) allowance ≡ t = ap (λ (m : ℕ). leb m allowance) (sym (h .1)) ∙ f in
+      rw (h .0, same, sym (h .1)) refl
 
-pub tally-shape : (q : RequestQueue) → shapeFits q ≡ false → Unsound ≡ orderlyBytes q
-unfolding isOrderly
-tally-shape q s = rw s
+  -- what the queue's tally tells
+  pub sound-tells : (n : ℕ) → Bytes n ≡ soundBytes q → (isSound q ≡ true) × (n ≡ total (outstanding (q .link)))
+  sound-tells n e = bytes-of (isSound q) (total (outstanding (q .link))) n e
 
-pub tally-not : (q : RequestQueue) → inOrder (outstanding q) (q .next) ≡ false → Unsound ≡ orderlyBytes q
-unfolding isOrderly
-tally-not q e = rw (e, and-false (shapeFits q))
+  pub unsound-tells : Unsound ≡ soundBytes q → isSound q ≡ false
+  unsound-tells e = unsound-of (isSound q) (total (outstanding (q .link))) e
 
-pub shape-count : (q : RequestQueue) → shapeFits q ≡ true → q .count ≤ 16
-shape-count q s =
-    let w : q .window ≤ 16 = leb-true _ _ (both (leb 1 (q .window)) _ (both (windowFits (q .window)) _ s .0) .1) in
-    let n : q .count ≤ q .window = leb-true _ _ (both (leb (q .count) (q .window)) _ (both (windowFits (q .window)) _ s .1) .0) in
-    omega arith
+  -- what soundness tells
+  pub sound-facts : isSound q ≡ true → (isOrderly (q .link) ≡ true) × (total (outstanding (q .link)) ≤ allowance)
+  unfolding isSound
+  sound-facts e = let b = both (isOrderly (q .link)) (leb (total (outstanding (q .link))) allowance) e in (b .0, leb-true _ _ (b .1))
 
-bytes-of : (b : Bool) (m n : ℕ) → Bytes n ≡ cond b (Bytes m) Unsound → (b ≡ true) × (n ≡ m)
-bytes-of true m n e = (refl, cc)
-bytes-of false m n e = let z : _≡_ {A = ℕ} 0 1 = cc in absurd (omega arith)
+  pub sound-made : isOrderly (q .link) ≡ true → total (outstanding (q .link)) ≤ allowance → isSound q ≡ true
+  unfolding isSound
+  sound-made o t = rw (o, le-leb (total (outstanding (q .link))) allowance t)
 
-unsound-of : (b : Bool) (m : ℕ) → Unsound ≡ cond b (Bytes m) Unsound → b ≡ false
-unsound-of true m e = let z : _≡_ {A = ℕ} 0 1 = cc in absurd (omega arith)
-unsound-of false m e = refl
+  -- an issue
 
--- what a tally tells
-pub tally-bytes : (q : RequestQueue) (n : ℕ) → Bytes n ≡ orderlyBytes q → (isOrderly q ≡ true) × (n ≡ total (outstanding q))
-tally-bytes q n e = bytes-of (isOrderly q) (total (outstanding q)) n e
+  module _ (b : List ℕ) (size : ℕ) (out : List ℕ) where
+    pub issue-sound : {n : ℕ} {r : LinkIssued} {o : List ℕ} → Bytes n ≡ soundBytes q → Issues (issuing n allowance (q .link) b size) (q .link) size out r o
+        → Issues (issueOutcome q b size) (q .link) size out r o
+    issue-sound {n} {r} {o} e p =
+        let t = sound-tells n e in
+        let same : issuing n allowance (q .link) b size ≡ issueOutcome q b size =
+        ap (λ (m : ℕ). issuing m allowance (q .link) b size) (t .1)
+        ∙ ap (λ (c : Bool). cond c (issuing (total (outstanding (q .link))) allowance (q .link) b size) (refuses 22 0)) (sym (t .0)) in
+        subst (λ (x : Outcome). Issues x (q .link) size out r o) same p
 
-pub tally-unsound : (q : RequestQueue) → Unsound ≡ orderlyBytes q → isOrderly q ≡ false
-tally-unsound q e = unsound-of (isOrderly q) (total (outstanding q)) e
-
-pub sound-unsound : (q : RequestQueue) → Unsound ≡ orderlyBytes q → isSound q ≡ false
-unfolding isSound
-sound-unsound q e = rw (tally-unsound q e)
-
-pub sound-bytes : (q : RequestQueue) (n : ℕ) → Bytes n ≡ orderlyBytes q → leb n allowance ≡ isSound q
-unfolding isSound
-sound-bytes q n e = let h = tally-bytes q n e in rw (h .0, h .1)
-
--- the tally of a sound queue
-
-pub unsound-told : (q : RequestQueue) → isSound q ≡ false → Unsound ≡ soundBytes q
-unsound-told q e = rw e refl
-
-pub sound-told : (q : RequestQueue) (n : ℕ) → Bytes n ≡ orderlyBytes q → isSound q ≡ true → Bytes n ≡ soundBytes q
-sound-told q n e s = rw (s, tally-bytes q n e .1) refl
-
-pub sound-tells : (q : RequestQueue) (n : ℕ) → Bytes n ≡ soundBytes q → (isSound q ≡ true) × (n ≡ total (outstanding q))
-sound-tells q n e = bytes-of (isSound q) (total (outstanding q)) n e
-
-pub unsound-tells : (q : RequestQueue) → Unsound ≡ soundBytes q → isSound q ≡ false
-unsound-tells q e = unsound-of (isSound q) (total (outstanding q)) e
-
--- the facts of an orderly queue
-pub record Orderly (q : RequestQueue) : Type 0 where
-  pub low : 1 ≤ q .window
-  pub high : q .window ≤ 16
-  pub held : q .count ≤ q .window
-  pub next-id : q .next ≤ 4095
-  pub ordered : inOrder (outstanding q) (q .next) ≡ true
-
-pub orderly-facts : (q : RequestQueue) → isOrderly q ≡ true → Orderly q
-unfolding isOrderly
-orderly-facts q o =
-    let b = both (shapeFits q) (inOrder (outstanding q) (q .next)) o in
-    let w = both (windowFits (q .window)) (leb (q .count) (q .window) && leb (q .next) 4095) (b .0) in
-    let v = both (leb 1 (q .window)) (leb (q .window) 16) (w .0) in
-    let n = both (leb (q .count) (q .window)) (leb (q .next) 4095) (w .1) in
-    record {
-      low = leb-true _ _ (v .0);
-      high = leb-true _ _ (v .1);
-      held = leb-true _ _ (n .0);
-      next-id = leb-true _ _ (n .1);
-      ordered = b .1;
-    }
-
-pub orderly-made : (q : RequestQueue) → Orderly q → isOrderly q ≡ true
-unfolding isOrderly
-orderly-made q s = rw (le-leb _ _ (s .low), le-leb _ _ (s .high), le-leb _ _ (s .held), le-leb _ _ (s .next-id), s .ordered)
-
--- the facts of a sound queue: it is orderly, and its bytes are within the allowance
-pub record Sound (q : RequestQueue) : Type 0 where
-  pub orderly : Orderly q
-  pub within : total (outstanding q) ≤ allowance
-
-pub sound-facts : (q : RequestQueue) → isSound q ≡ true → Sound q
-unfolding isSound
-sound-facts q s =
-    let a = both (isOrderly q) (leb (total (outstanding q)) allowance) s in
-    record { orderly = orderly-facts q (a .0); within = leb-true _ _ (a .1) }
-
-pub sound-made : (q : RequestQueue) → Sound q → isSound q ≡ true
-unfolding isSound
-sound-made q s = rw (orderly-made q (s .orderly), le-leb _ _ (s .within)) refl
-
--- the oldest of the outstanding requests
-pub oldest : (q : RequestQueue) → length (q .entries) ≡ 16 → q .count ≤ 16 → 0 < q .count
-    → outstanding q ≡ getD (q .entries) 0 blank ∷ slice 1 (q .count) (q .entries)
-oldest q l n z = slice-cons 0 (q .count) (q .entries) blank z (omega arith)
-
-pub none : (q : RequestQueue) → q .count ≡ 0 → outstanding q ≡ []
-none q e = ap (λ (k : ℕ). take k (q .entries)) e
+    pub issue-unsound : {w : Filling} → Unsound ≡ soundBytes q → w ≡ fillingAnswer (refuses 22 0)
+        → Issues (issueOutcome q b size) (q .link) size out (record { link = q .link; id = q .link .next; filling = w }) out
+    issue-unsound e f =
+        let same : issueOutcome q b size ≡ refuses 22 0 =
+        ap (λ (c : Bool). cond c (issuing (total (outstanding (q .link))) allowance (q .link) b size) (refuses 22 0)) (unsound-tells e) in
+        record { fills = fills-refused out same f; id = refl; link = ap (λ (x : Outcome). issuedLink (q .link) size (inRoom (length out) x)) (sym same) }

@@ -1,10 +1,8 @@
 // The calls, each with its line.
-use message_write::Written;
-use queue::Answering;
-use queue::Change;
-use queue::Issuing;
-use queue::Request;
+use link::Release;
 use queue::RequestQueue;
+use queue::Verdict;
+use xdr::Filling;
 
 // What is outstanding, and the end of the line.
 fn outstanding(q: RequestQueue) {
@@ -15,10 +13,10 @@ fn outstanding(q: RequestQueue) {
     lines::text(b" bytes\n");
 }
 
-fn change(o: Change) {
+fn verdict(o: Verdict) {
     match o {
-        Change::Made => lines::text(b"made"),
-        Change::Refused(r) => refused(r.number, r.place),
+        Verdict::Accepted => lines::text(b"made"),
+        Verdict::Refused(r) => refused(r.number, r.place),
     }
 }
 
@@ -34,8 +32,8 @@ pub fn open_with(window: u32) -> RequestQueue {
     lines::number(window as u64);
     lines::text(b": ");
     let d = RequestQueue::open_with(window);
-    let o = d.outcome;
-    change(o);
+    let o = d.verdict;
+    verdict(o);
     let q = d.queue;
     outstanding(q);
     q
@@ -44,23 +42,23 @@ pub fn open_with(window: u32) -> RequestQueue {
 pub fn drop_link(q: RequestQueue) -> RequestQueue {
     lines::text(b"drop: ");
     let d = q.drop_link();
-    let o = d.outcome;
-    change(o);
+    let o = d.verdict;
+    verdict(o);
     let q = d.queue;
     outstanding(q);
     q
 }
 
-fn issuing(o: Issuing) {
-    match o {
-        Issuing::Issued(id, n) => {
+fn issued(id: u32, w: Filling) {
+    match w {
+        Filling::Filled(n) => {
             lines::text(b"ID ");
             lines::number(id as u64);
             lines::text(b" in ");
             lines::number(n as u64);
             lines::text(b" bytes");
         }
-        Issuing::Refused(r) => refused(r.number, r.place),
+        Filling::Refused(r) => refused(r.number, r.place),
     }
 }
 
@@ -74,32 +72,32 @@ pub fn issue(q: RequestQueue, size: u32, room: usize) -> RequestQueue {
         return q;
     }
     let d = q.issue(b"r", b"a", 0, size, &[0xa7u8; 32], &mut out[0..room]);
-    let o = d.outcome;
-    issuing(o);
+    let w = d.filling;
+    issued(d.id, w);
     let q = d.queue;
     outstanding(q);
     q
 }
 
-fn answering(o: Answering) {
+fn release(o: Release) {
     match o {
-        Answering::Data(e, d) => {
-            request(b"data", e);
+        Release::Data { id, size, data: d } => {
+            request(b"data", id, size);
             lines::text(b" at ");
             lines::number(d.start as u64);
         }
-        Answering::NotAvailable(e) => request(b"not available", e),
-        Answering::WrongSize(e) => request(b"wrong size", e),
-        Answering::Refused(r) => refused(r.number, r.place),
+        Release::NotAvailable { id, size } => request(b"not available", id, size),
+        Release::WrongSize { id, size } => request(b"wrong size", id, size),
+        Release::Refused(r) => refused(r.number, r.place),
     }
 }
 
-fn request(outcome: &[u8], e: Request) {
+fn request(outcome: &[u8], id: u32, size: u32) {
     lines::text(outcome);
     lines::text(b" for ID ");
-    lines::number(e.id as u64);
+    lines::number(id as u64);
     lines::text(b" of ");
-    lines::number(e.length as u64);
+    lines::number(size as u64);
     lines::text(b" bytes");
 }
 
@@ -108,8 +106,8 @@ pub fn message(q: RequestQueue, s: &[u8]) -> RequestQueue {
     lines::bytes(s);
     lines::text(b": ");
     let d = q.answer(s);
-    let o = d.outcome;
-    answering(o);
+    let o = d.release;
+    release(o);
     let q = d.queue;
     outstanding(q);
     q
@@ -122,7 +120,7 @@ pub fn answer(q: RequestQueue, id: u32, n: usize) -> RequestQueue {
     }
     let mut out = [0u8; 24];
     let data = [0xd7u8; 16];
-    let Written::Filled(m) = message_write::write_response(&mut out, id, &data[0..n]) else {
+    let Filling::Filled(m) = message_write::write_response(&mut out, id, &data[0..n]) else {
         return q;
     };
     if 24 < m {
@@ -143,11 +141,12 @@ pub fn pairs(q: RequestQueue, times: u32) -> RequestQueue {
 fn pair(q: RequestQueue) -> RequestQueue {
     let mut out = [0u8; 68];
     let d = q.issue(b"r", b"a", 0, 5, &[0xa7u8; 32], &mut out);
-    let o = d.outcome;
-    let Issuing::Issued(id, _) = o else {
-        return d.queue;
+    let q = d.queue;
+    let w = d.filling;
+    let Filling::Filled(_) = w else {
+        return q;
     };
-    answered(d.queue, id)
+    answered(q, d.id)
 }
 
 fn answered(q: RequestQueue, id: u32) -> RequestQueue {

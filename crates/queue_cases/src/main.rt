@@ -2,7 +2,8 @@
 // outstanding then.
 mod calls;
 
-use queue::Request;
+use link::Link;
+use link::Request;
 use queue::RequestQueue;
 
 fn main() {
@@ -90,9 +91,11 @@ fn openings() {
     calls::drop_link(q);
     calls::open_with(17);
     calls::drop_link(RequestQueue {
-        window: 16,
-        next: 5,
-        count: 1,
-        entries: [Request { id: 3, length: 5 }; 16],
+        link: Link {
+            window: 16,
+            next: 5,
+            count: 1,
+            entries: [Request { id: 3, size: 5 }; 16],
+        },
     });
 }

@@ -25,7 +25,8 @@ use Rattle.record.proofs.Arrays.{part-of, array-done}
 use Rattle.record.proofs.Answered.{file-taken, file-refused}
 use Rattle.record.proofs.FileLaws.{file-parts}
 use Rattle.order.specs.Order.{isLess, compareLists, part}
-use Rattle.record.specs.Rising.{isRising, fillRising, isRisingArray, endsAt}
+use Rattle.record.specs.Rising.{isRising, fillRising, isRisingArray}
+use Rattle.record.specs.Steps.{endsAt}
 use Rattle.record.proofs.RisingLaws.{lastName, and-true, and-false, rising-more, rising-front}
 
 pub not-both : {b : Bool} {P : Type 0} → b ≡ true → b ≡ false → P

@@ -1,7 +1,7 @@
 -- Blocks that are all there: each is known by the eight bytes that it begins with.
 use Prim.Native.Nat.{ℕ, zero, suc, _+_, _*_, _/_, _%_, _≤_, _<_}
 use mathlib.Core.List.{List}
-use mathlib.Core.Path.{_≡_, refl, sym, ap, subst, _∙_}
+use mathlib.Core.Path.{_≡_, refl, sym, subst, _∙_}
 use mathlib.Core.Bool.{true}
 use native.Mathlib.Omega.{arith}
 use native.Mathlib.Nat.{add-zero}
@@ -14,8 +14,8 @@ use Rattle.xdr.proofs.NumberLaws.{bytes-drop, digits-read, two-words}
 use Rattle.xdr.proofs.PadLaws.{zeros-zero}
 use Rattle.xdr.proofs.Steps.{Reads, number-whole, checked-passed, via-taken, both-read, bytes-read}
 use Rattle.xdr.proofs.Runs.{Progress, progress-none, progress-more}
-use Rattle.record.specs.Limits.{sizeLimit}
-use Rattle.record.specs.Block.{Block, isSize, toBlock, block, IsHead, SoundBlocks}
+use Rattle.record.specs.Block.{Block, isSize, toBlock, block}
+use Rattle.record.specs.Steps.{IsHead, SoundBlocks}
 use Rattle.record.proofs.SizeRule.{size-fits}
 
 -- what is left of a head when 1 and 32 are taken off its two numbers

@@ -1,12 +1,10 @@
 -- Which outline of an option the tests of the bytes give.
-use Prim.Native.Nat.{ℕ, _+_, _≤_, _<_}
+use Prim.Native.Nat.{ℕ, _+_, _<_}
 use mathlib.Core.List.{List}
-use mathlib.Core.Path.{_≡_, refl, sym, ap, _∙_}
-use mathlib.Core.Bool.{Bool, true, false, cond}
+use mathlib.Core.Path.{_≡_, sym, ap, _∙_}
 use native.Mathlib.Omega.{arith}
-use borrow.Author.Tests.{le-leb, lt-leb, leb-true, leb-false}
+use borrow.Author.Tests.{le-leb, lt-leb}
 use lib.ListN.{length, take, drop}
-use lib.Dec.{leb}
 use Rattle.xdr.specs.Reading.{taken}
 use Rattle.xdr.specs.Fields.{text}
 use Rattle.xdr.specs.Pad.{padded}
@@ -15,8 +13,7 @@ use Rattle.xdr.proofs.Strings.{string-ends, string-within}
 use Rattle.xdr.proofs.Parts.{via-parts, pair-parts}
 use Rattle.record.specs.Limits.{keyLimit, valueLimit}
 use Rattle.record.specs.KeyValue.{KeyValue, keyValue}
-use Rattle.record.specs.Outline.{wordAt}
-use Rattle.record.specs.StringOutline.{pastString}
+use Rattle.record.specs.Outline.{pastString}
 use Rattle.record.specs.OptionOutline.{optionOf}
 use Rattle.record.specs.declared.option_outline.OptionOutline.the-variants as O
 use Rattle.record.proofs.OutlineLaws.{word-read}

@@ -8,8 +8,8 @@ use borrow.Author.Tests.{le-leb, lt-leb, leb-true, leb-false}
 use lib.ListN.{length}
 use lib.Dec.{leb}
 use Rattle.xdr.specs.Pad.{padded}
-use Rattle.record.specs.Outline.{wordAt}
-use Rattle.record.specs.StringOutline.{pastString, stringOf}
+use Rattle.record.specs.Outline.{wordAt, pastString}
+use Rattle.record.specs.Steps.{stringOf}
 use Rattle.record.specs.declared.string_outline.StringOutline.the-variants as S
 
 -- a string stands at a place, and ends within the bytes

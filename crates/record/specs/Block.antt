@@ -1,14 +1,12 @@
 -- BlockInfo: a Length and a Hash.
-use Prim.Native.Nat.{ℕ, _+_, _*_, _/_, _%_, _≤_, _<_}
+use Prim.Native.Nat.{ℕ, _+_}
 use mathlib.Core.List.{List, [], _∷_}
-use mathlib.Core.Path.{_≡_, refl}
+use mathlib.Core.Path.{refl}
 use mathlib.Core.Bool.{Bool, true, cond, _&&_}
 use lib.Dec.{leb, eqb}
-use lib.ListN.{length, drop}
-use Rattle.xdr.specs.Number.{bigEndian}
 use Rattle.xdr.specs.Format.{Format, bytes, array, pair, checked, via}
 use Rattle.xdr.specs.Fields.{word, upTo}
-use Rattle.record.specs.Limits.{blocksLimit, sizeLimit, hashLength, blockBytes}
+use Rattle.record.specs.Limits.{blocksLimit, sizeLimit, hashLength}
 
 -- a block as a value: `size` is the Length
 pub record Block : Type 0 where
@@ -51,11 +49,3 @@ blocks deleted = array (blockCount deleted) block
 abbrev pub totalSize : List Block → ℕ
 totalSize [] = 0
 totalSize (b ∷ l) = b .size + totalSize l
-
--- for the steps of reading: a Length and a hash's length, side by side as one number of 64 bits
-abbrev pub IsHead : ℕ → Type 0
-IsHead h = (isSize (h / 4294967296) ≡ true) × (h % 4294967296 ≡ hashLength)
-
--- and: so many blocks from a place on are there, and each begins as it has to
-abbrev pub SoundBlocks : List ℕ → (first n : ℕ) → Type 0
-SoundBlocks s first n = (first + n * blockBytes ≤ length s) × ((i : ℕ) → i < n → IsHead (bigEndian 8 (drop (first + i * blockBytes) s)))

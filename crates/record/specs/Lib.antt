@@ -4,7 +4,7 @@ pub mod File
 pub mod Modified
 pub mod KeyValue
 pub mod Outline
-pub mod StringOutline
 pub mod OptionOutline
 pub mod Answers
 pub mod Rising
+pub mod Steps

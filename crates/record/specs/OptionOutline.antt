@@ -4,8 +4,7 @@ use mathlib.Core.List.{List}
 use mathlib.Core.Bool.{cond}
 use lib.ListN.{length}
 use lib.Dec.{leb}
-use Rattle.record.specs.Outline.{wordAt}
-use Rattle.record.specs.StringOutline.{pastString}
+use Rattle.record.specs.Outline.{wordAt, pastString}
 use Rattle.record.specs.declared.option_outline.OptionOutline.{OptionOutline}
 use Rattle.record.specs.declared.option_outline.OptionOutline.the-variants as O
 

@@ -8,7 +8,7 @@ use Rattle.xdr.specs.Number.{bigEndian}
 use Rattle.xdr.specs.Pad.{padded}
 use Rattle.record.specs.Limits.{blockBytes}
 use Rattle.record.specs.File.{File}
-use Rattle.record.specs.declared.outline.Fields.{Fields}
+use Rattle.record.specs.declared.outline.RecordFields.{RecordFields}
 use Rattle.record.specs.declared.outline.Outline.{Outline}
 use Rattle.record.specs.declared.outline.Outline.the-variants as O
 use Rattle.record.specs.declared.outline.BlockOutline.{BlockOutline}
@@ -22,12 +22,16 @@ wordAt s at = bigEndian 4 (drop at s)
 unfoldable pub hyperAt : List ℕ → ℕ → ℕ
 hyperAt s at = wordAt s at * 4294967296 + wordAt s (at + 4)
 
+-- where a string at a place ends, its pad included
+abbrev pub pastString : List ℕ → ℕ → ℕ
+pastString s at = at + 4 + padded (wordAt s at)
+
 -- the bytes of so many blocks
 abbrev pub blocksSize : ℕ → ℕ
 blocksSize n = n * blockBytes
 
 -- the fields of a record whose name goes from one place to another, and whose Flags stand at a third
-abbrev pub fieldsFrom : List ℕ → (name stop rest : ℕ) → Fields
+abbrev pub fieldsFrom : List ℕ → (name stop rest : ℕ) → RecordFields
 fieldsFrom s name stop rest =
     record {
       name = name;
@@ -42,7 +46,7 @@ fieldsFrom s name stop rest =
     }
 
 -- fields that end within the bytes
-abbrev pub outlined : List ℕ → Fields → Outline
+abbrev pub outlined : List ℕ → RecordFields → Outline
 outlined s f = cond (leb (f .past) (length s)) (O.Whole f) O.Short
 
 -- the record whose name goes from one place to another, and whose Flags stand at a third
@@ -51,10 +55,10 @@ outlineFrom s name stop rest = outlined s (fieldsFrom s name stop rest)
 
 -- the record at a place
 unfoldable pub outlineOf : List ℕ → ℕ → Outline
-outlineOf s at = outlineFrom s (at + 4) (at + 4 + wordAt s at) (at + 4 + padded (wordAt s at))
+outlineOf s at = outlineFrom s (at + 4) (at + 4 + wordAt s at) (pastString s at)
 
 -- a file's fields and their places, where it begins at a place
-abbrev pub fieldsOf : ℕ → File → Fields
+abbrev pub fieldsOf : ℕ → File → RecordFields
 fieldsOf at f =
     record {
       name = at + 4;

@@ -8,8 +8,6 @@ use Rattle.xdr.specs.Reading.{Reading, taken, refused}
 use Rattle.xdr.specs.Format.{read}
 use Rattle.order.specs.Order.{isLess, compareLists}
 use Rattle.record.specs.File.{File, files}
-use Rattle.record.specs.declared.array.Array.{Array}
-use Rattle.record.specs.declared.array.Array.the-variants as L
 
 -- the first of some files, if there is one, has a name above this one
 abbrev pub isAbove : List ℕ → List File → Bool
@@ -29,8 +27,3 @@ fillRising size (refused k p) = false
 -- bytes that are an array of files, as many as the limit at most, and nothing else, names rising
 unfoldable pub isRisingArray : (limit : ℕ) → List ℕ → Bool
 isRisingArray limit s = fillRising (length s) (read (files limit) s)
-
--- for the steps of reading: an array that was read ends there
-abbrev pub endsAt : ℕ → Array → Bool
-endsAt size (L.Taken count next) = eqb next size
-endsAt size (L.Refused r) = false

@@ -7,17 +7,20 @@ ghost use lib.ListN.{length};
 ghost use Rattle.xdr.specs.Answers.{wordAnswer, bytesAnswer};
 ghost use Rattle.xdr.specs.Format.{readAt};
 ghost use Rattle.record.specs.Answers.{blockAnswer, arrayAnswer};
-ghost use Rattle.record.specs.Block.{isSize, size, hash, block, blockCount, blocks, IsHead, SoundBlocks};
+ghost use Rattle.record.specs.Block.{isSize, size, hash, block, blockCount, blocks};
+ghost use Rattle.record.specs.Steps.{IsHead, SoundBlocks};
 use crate::array::Array;
 use crate::array::read_count;
+use crate::limits::BLOCK_BYTES;
+use crate::limits::BLOCKS_LIMIT;
+use crate::limits::SIZE_LIMIT;
 use xdr::Bytes;
 use xdr::Hyper;
 use xdr::Refusal;
 use xdr::Word;
 
-const SIZE_LIMIT: u32 = 131072;
-
-const BLOCKS_LIMIT: u32 = 1024;
+// The least head of a block: a Length of 1 and a hash's length of 32, side by side as one number of 64 bits.
+const LEAST_HEAD: u64 = 4294967328;
 
 // Whether the Length of a block or of a Request is in its range.
 pub fn is_size(n: u32) -> bool
@@ -115,11 +118,11 @@ fn read_block_count(s: &[u8], deleted: bool) -> Word
 fn is_head(head: u64) -> bool
     ensures { λ r. ⌜ (r ≡ true → IsHead head) ⌝ }
 {
-    let left = std::num::wrapping_sub_u64(head, 4294967328);
+    let left = std::num::wrapping_sub_u64(head, LEAST_HEAD);
     if left % 4294967296 != 0 {
         return false;
     }
-    left / 4294967296 < 131072
+    left / 4294967296 < SIZE_LIMIT as u64
 }
 
 // How many of the blocks from a place on are in order, where all of them are there: then none is tested for missing bytes.
@@ -127,13 +130,13 @@ fn sound_blocks(s: &[u8], first: usize, count: u32) -> u32
     requires { ⌜ first ≤ length (now s) ⌝ }
     ensures { λ r. ⌜ (r ≤ count) × SoundBlocks (now (s .entry)) first r ⌝ }
 {
-    if (s.len() - first) / 40 < count as usize {
+    if (s.len() - first) / BLOCK_BYTES < count as usize {
         return 0;
     }
     let mut i = 0;
     let mut at = first;
     while i < count {
-        let end = at + 40;
+        let end = at + BLOCK_BYTES;
         let Hyper::Taken(head, _) = xdr::read_hyper(&s[at..end], 0) else {
             return i;
         };
@@ -155,7 +158,7 @@ pub fn read_blocks(s: &[u8], deleted: bool) -> Array
         return Array::Refused(answer.refusal());
     };
     let mut i = sound_blocks(s, first, count);
-    let mut next = first + (i as usize) * 40;
+    let mut next = first + (i as usize) * BLOCK_BYTES;
     while i < count {
         let read = read_block(&s[next..]);
         let Word::Taken(_, used) = read else {

@@ -6,14 +6,12 @@ ghost use Rattle.record.specs.Answers.{fileAnswer, fileRefusal};
 ghost use Rattle.record.specs.File.{isDeleted, isInvalid, mode as modeOf, name as nameField, flags as flagsField, file};
 use crate::array::Array;
 use crate::block::read_blocks;
+use crate::limits::FLAGS_BOUND;
+use crate::limits::NAME_LIMIT;
 use xdr::Bytes;
 use xdr::Hyper;
 use xdr::Refusal;
 use xdr::Word;
-
-const NAME_LIMIT: u32 = 255;
-
-const FLAGS_BOUND: u32 = 16384;
 
 // The fields of a file: of its name, which begins at byte 4, the length, of its blocks the number and the place of the first,
 // and the place after the file.

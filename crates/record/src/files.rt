@@ -1,11 +1,10 @@
 // Arrays of files, and whether their names rise.
 ghost use mathlib.Core.Path.{_≡_};
-ghost use mathlib.Core.Bool.{true, false};
-ghost use lib.ListN.{length};
 ghost use Rattle.xdr.specs.Format.{readAt};
 ghost use Rattle.record.specs.Answers.{arrayAnswer};
 ghost use Rattle.record.specs.File.{files};
-ghost use Rattle.record.specs.Rising.{isRisingArray, endsAt};
+ghost use Rattle.record.specs.Rising.{isRisingArray};
+ghost use Rattle.record.specs.Steps.{RunRead};
 use crate::array::Array;
 use crate::array::read_count;
 use crate::file::FileRead;
@@ -17,7 +16,7 @@ use xdr::Word;
 // The files at the front of a part, up to a limit. Where their names are to rise, one that isn't above the name before it ends the reading (15).
 // Both kinds of reading are one loop, so that reading a file has one caller and stands in it.
 fn read_run(s: &[u8], limit: u32, rising: bool) -> Array
-    ensures { λ r. ⌜ (rising ≡ false → r ≡ arrayAnswer (readAt (files limit) (now (s .entry)) 0)) × (rising ≡ true → endsAt (length (now (s .entry))) r ≡ isRisingArray limit (now (s .entry))) ⌝ }
+    ensures { λ r. ⌜ RunRead limit rising (now (s .entry)) r ⌝ }
 {
     let answer = read_count(s, 0, limit);
     let Word::Taken(count, first) = answer else {

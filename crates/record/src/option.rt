@@ -5,13 +5,11 @@ ghost use Rattle.record.specs.Answers.{optionAnswer, optionRefusal, arra
 ghost use Rattle.record.specs.KeyValue.{keyValue, options};
 use crate::array::Array;
 use crate::array::read_count;
+use crate::limits::KEY_LIMIT;
+use crate::limits::VALUE_LIMIT;
 use xdr::Bytes;
 use xdr::Refusal;
 use xdr::Word;
-
-const KEY_LIMIT: u32 = 64;
-
-const VALUE_LIMIT: u32 = 255;
 
 // An option: the length of its Key, which begins at byte 4, the place where its Value's bytes start and their number, and the place after
 // the option.

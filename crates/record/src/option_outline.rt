@@ -24,10 +24,18 @@ pub enum OptionOutline {
 pub fn option_at(s: &[u8], at: usize) -> OptionOutline
     ensures { λ r. ⌜ r ≡ optionOf (now (s .entry)) at ⌝ }
 {
-    let StringOutline::Whole(key_length, value_at) = string_at(s, at) else {
+    let StringOutline::Whole {
+        length: key_length,
+        past: value_at,
+    } = string_at(s, at)
+    else {
         return OptionOutline::Short;
     };
-    let StringOutline::Whole(value_length, past) = string_at(s, value_at) else {
+    let StringOutline::Whole {
+        length: value_length,
+        past,
+    } = string_at(s, value_at)
+    else {
         return OptionOutline::Short;
     };
     OptionOutline::Whole(OptionFields {

@@ -1,16 +1,15 @@
 // The fixed fields of a record at a place, and its blocks by number, by bounds checks alone: for records that were read before.
 ghost use mathlib.Core.Path.{_≡_};
 ghost use Rattle.record.specs.Outline.{outlineFrom, outlineOf, blockOf, offsetOf};
+use crate::limits::BLOCK_BYTES;
 use crate::string_outline::StringOutline;
 use crate::string_outline::string_at;
 use xdr::Hyper;
 use xdr::Word;
 
-const BLOCK_BYTES: usize = 40;
-
 // The fields of a record, by their places in the whole: its name is at name..stop, its bytes from Flags to the end at rest..past, and
 // its blocks begin at first.
-pub struct Fields {
+pub struct RecordFields {
     pub name: usize,
     pub stop: usize,
     pub rest: usize,
@@ -24,13 +23,13 @@ pub struct Fields {
 
 // A record that ends within the bytes, or none.
 pub enum Outline {
-    Whole(Fields),
+    Whole(RecordFields),
     Short,
 }
 
 // The Length of a block and the place of its hash's 32 bytes, where they are within the bytes.
 pub enum BlockOutline {
-    Whole(u32, usize),
+    Whole { size: u32, hash: usize },
     Short,
 }
 
@@ -54,7 +53,7 @@ fn outline_from(s: &[u8], name: usize, stop: usize, rest: usize) -> Outline
     if s.len() - first < size {
         return Outline::Short;
     }
-    Outline::Whole(Fields {
+    Outline::Whole(RecordFields {
         name,
         stop,
         rest,
@@ -71,7 +70,11 @@ fn outline_from(s: &[u8], name: usize, stop: usize, rest: usize) -> Outline
 pub fn outline_at(s: &[u8], at: usize) -> Outline
     ensures { λ r. ⌜ r ≡ outlineOf (now (s .entry)) at ⌝ }
 {
-    let StringOutline::Whole(n, rest) = string_at(s, at) else {
+    let StringOutline::Whole {
+        length: n,
+        past: rest,
+    } = string_at(s, at)
+    else {
         return Outline::Short;
     };
     let name = at + 4;
@@ -93,7 +96,10 @@ pub fn block_at(s: &[u8], first: usize, i: u32) -> BlockOutline
     let Word::Taken(size, next) = xdr::read_word(s, at) else {
         return BlockOutline::Short;
     };
-    BlockOutline::Whole(size, next + 4)
+    BlockOutline::Whole {
+        size,
+        hash: next + 4,
+    }
 }
 
 // The offset of block i, the sum of the Lengths before it: a block that is not there counts 0.
@@ -103,7 +109,7 @@ pub fn offset_of(s: &[u8], first: usize, i: u32) -> u64
     let mut sum: u64 = 0;
     let mut j = 0;
     while j < i {
-        let BlockOutline::Whole(size, _) = block_at(s, first, j) else {
+        let BlockOutline::Whole { size, hash: _ } = block_at(s, first, j) else {
             return sum;
         };
         sum += size as u64;

@@ -1,11 +1,11 @@
 // A string at a place, by bounds checks alone: for strings that were read before.
 ghost use mathlib.Core.Path.{_≡_};
-ghost use Rattle.record.specs.StringOutline.{stringOf};
+ghost use Rattle.record.specs.Steps.{stringOf};
 use xdr::Word;
 
 // The length of a string's contents, which begin 4 bytes after its place, and the place after its pad, where they are within the bytes.
 pub enum StringOutline {
-    Whole(usize, usize),
+    Whole { length: usize, past: usize },
     Short,
 }
 
@@ -21,5 +21,8 @@ pub(crate) fn string_at(s: &[u8], at: usize) -> StringOutline
     if s.len() - start < size {
         return StringOutline::Short;
     }
-    StringOutline::Whole(n, start + size)
+    StringOutline::Whole {
+        length: n,
+        past: start + size,
+    }
 }

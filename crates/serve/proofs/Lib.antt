@@ -1,3 +1,2 @@
 -- Laws of the ruling.
 pub mod RulingLaws
-pub mod SpanLaws

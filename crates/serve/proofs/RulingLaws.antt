@@ -1,36 +1,44 @@
 -- Looking a name up in a table, the bytes of spans, and the ruling by what was read.
 use Prim.Native.Nat.{ℕ, _+_, _-_, _≤_, _<_}
-use mathlib.Core.List.{List}
+use mathlib.Core.List.{List, []}
 use mathlib.Core.Path.{_≡_, refl, sym, ap, subst, _∙_}
 use mathlib.Core.Bool.{Bool, true, false, cond}
 use native.Mathlib.Omega.{arith}
 use lib.ListN.{length, take, drop}
 use Rattle.xdr.specs.Number.{IsBytes}
+use Rattle.xdr.proofs.FillingLaws.{in-room}
 use Rattle.record.specs.Block.{Block}
 use Rattle.record.specs.File.{File}
 use Rattle.record.specs.Outline.{outlineOf, fieldsOf}
-use Rattle.record.specs.declared.outline.Fields.{Fields}
+use Rattle.record.specs.declared.outline.RecordFields.{RecordFields}
 use Rattle.record.specs.declared.outline.Outline.{Outline}
 use Rattle.record.specs.declared.outline.Outline.the-variants as O
-use Rattle.message.specs.Answers.{said}
+use Rattle.xdr.specs.Filling.{Outcome, refuses, bufferAfter, Fills}
+use Rattle.xdr.specs.declared.filling.Filling.{Filling}
+use Rattle.message.specs.Answers.{spanBytes, messageIn}
+use Rattle.message.specs.Message.{message}
+use Rattle.message_write.specs.Writing.{writing, responseBytes}
+use Rattle.message.specs.declared.answer.Span.{Span}
 use Rattle.message.specs.declared.answer.RequestSpan.{RequestSpan}
 use Rattle.message.specs.declared.answer.Message.{Message}
 use Rattle.order.specs.Order.{isEqual, compareLists, part}
 use Rattle.order.specs.declared.compare.Order.{Order}
 use Rattle.table.specs.Table.{isGood, records}
 use Rattle.table.proofs.TableLaws.{good-table}
-use Rattle.table.specs.Standing.{At}
+use Rattle.table.specs.Steps.Standing.{At}
 use Rattle.table.proofs.WalkLaws.{at-start, standing}
 use Rattle.order.proofs.PartLaws.{part-beyond, part-cut}
 use Rattle.want.specs.Listing.{listed, hasThere, listsThere, blockWith}
-use Rattle.want.specs.Blocks.{blocksFrom, listedCount}
-use Rattle.want.specs.Places.{listsAt}
+use Rattle.want.specs.Steps.Blocks.{blocksFrom, listedCount}
+use Rattle.want.specs.Steps.Places.{listsAt}
 use Rattle.want.proofs.ListingLaws.{Heads, heads, none-here, listed-blocks}
 use Rattle.want.proofs.ThereLaws.{lists-by}
-use Rattle.serve.specs.Ruling.{spanBytes, isOurs, Ruling, serves, replies, refuses, askingOf, rulingBy, rulingOf, servingAnswer, servingBuffer}
-use Rattle.serve.specs.declared.ruling.Asking.{Asking}
-use Rattle.serve.specs.declared.ruling.Asking.the-variants as A
+use Rattle.serve.specs.Ruling.{isOurs, Ruling, serves, fills, rulingOn, rulingOf, Rules}
+use Rattle.message.specs.Kinds.{requestIn}
+use Rattle.message.specs.declared.kind.RequestIn.{RequestIn}
+use Rattle.message.specs.declared.kind.RequestIn.the-variants as Q
 use Rattle.serve.specs.declared.ruling.Serving.{Serving}
+use Rattle.serve.specs.declared.ruling.Serving.the-variants as S
 
 -- the record of a name is not among those passed
 pub record Looking (t name : List ℕ) (at : ℕ) : Type 0 where
@@ -45,12 +53,12 @@ module _ {t name : List ℕ} {at : ℕ} (w : Looking t name at) {x : Outline} (e
   pub look-ends : (offset : ℕ) (b : Block) → x ≡ O.Short → false ≡ listsThere (records t) name offset b
   look-ends offset b g = sym (w .same offset b ∙ ap (λ (l : List File). listsThere l name offset b) (none-here (w .left) (w .here) e g))
 
-  module _ {f : Fields} (g : x ≡ O.Whole f) where
+  module _ {f : RecordFields} (g : x ≡ O.Whole f) where
     abbrev there : Heads t at (w .left) f
     there = heads (w .left) (w .here) e g
 
     past-is : f .past ≡ fieldsOf at (there .head) .past
-    past-is = ap (λ (y : Fields). y .past) (there .fields-are)
+    past-is = ap (λ (y : RecordFields). y .past) (there .fields-are)
 
     pub look-less : length t - f .past < length t - at
     look-less = omega (arith, past-is, standing (there .here) .next .inside, standing (there .here) .sized)
@@ -58,7 +66,7 @@ module _ {t name : List ℕ} {at : ℕ} (w : Looking t name at) {x : Outline} (e
     module _ {p : List ℕ} {o : Order} {r : Bool} (k : p ≡ part t (f .name) (f .stop)) (c : o ≡ compareLists p name) (q : r ≡ isEqual o) where
       name-test : {v : Bool} → r ≡ v → isEqual (compareLists (there .head .name) name) ≡ v
       name-test h =
-          let n : part t (f .name) (f .stop) ≡ there .head .name = ap (λ (y : Fields). part t (y .name) (y .stop)) (there .fields-are) ∙ standing (there .here) .name-is in
+          let n : part t (f .name) (f .stop) ≡ there .head .name = ap (λ (y : RecordFields). part t (y .name) (y .stop)) (there .fields-are) ∙ standing (there .here) .name-is in
           sym (q ∙ ap isEqual (c ∙ ap (λ (l : List ℕ). compareLists l name) (k ∙ n))) ∙ h
 
       by-head : (offset : ℕ) (b : Block) {v : Bool} → r ≡ v → listsThere (records t) name offset b ≡ cond v (hasThere 0 (listed (there .head)) offset b) (listsThere (there .tail) name offset b)
@@ -69,7 +77,7 @@ module _ {t name : List ℕ} {at : ℕ} (w : Looking t name at) {x : Outline} (e
 
       pub look-found : (offset : ℕ) (b : Block) {y : Bool} → r ≡ true → y ≡ listsAt t at name offset b → y ≡ listsThere (records t) name offset b
       look-found offset b h z =
-          let blocks : blocksFrom t (f .first) 0 (listedCount f) ≡ listed (there .head) = ap (λ (y : Fields). blocksFrom t (y .first) 0 (listedCount y)) (there .fields-are) ∙ listed-blocks (there .here) in
+          let blocks : blocksFrom t (f .first) 0 (listedCount f) ≡ listed (there .head) = ap (λ (y : RecordFields). blocksFrom t (y .first) 0 (listedCount y)) (there .fields-are) ∙ listed-blocks (there .here) in
           z ∙ sym (lists-by name t at e g k c q offset b h) ∙ ap (λ (l : List Block). hasThere 0 l offset b) blocks ∙ sym (by-head offset b h)
 
       pub look-on : r ≡ false → Looking t name (f .past)
@@ -104,31 +112,36 @@ module _ (t repository m : List ℕ) (x : RequestSpan) {l : List ℕ} {o : Order
   pub not-ours : r ≡ false → false ≡ isOurs t repository m x
   not-ours h = rw (named h) refl
 
-  pub ours-by : {n h : List ℕ} {b : Bool} → r ≡ true → n ≡ spanBytes m (x .name) → h ≡ spanBytes m (x .hash) → b ≡ listsThere (records t) n (x .offset) (blockWith (x .length) h) → b ≡ isOurs t repository m x
+  pub ours-by : {n h : List ℕ} {b : Bool} → r ≡ true → n ≡ spanBytes m (x .name) → h ≡ spanBytes m (x .hash) → b ≡ listsThere (records t) n (x .offset) (blockWith (x .size) h) → b ≡ isOurs t repository m x
   ours-by {n} {h} {b} v f g e =
       rw (named v)
       (e
-      ∙ ap (λ (y : List ℕ). listsThere (records t) y (x .offset) (blockWith (x .length) h)) f
-      ∙ ap (λ (y : List ℕ). listsThere (records t) (spanBytes m (x .name)) (x .offset) (blockWith (x .length) y)) g)
+      ∙ ap (λ (y : List ℕ). listsThere (records t) y (x .offset) (blockWith (x .size) h)) f
+      ∙ ap (λ (y : List ℕ). listsThere (records t) (spanBytes m (x .name)) (x .offset) (blockWith (x .size) y)) g)
 
 -- the answer and the buffer, by the ruling
 
-module _ (t repository m out : List ℕ) where
-  pub ruled : {u : Ruling} {r : Serving} {o : List ℕ} → rulingOf t repository m ≡ u → (r ≡ servingAnswer u (length out)) × (o ≡ servingBuffer u out)
-      → (r ≡ servingAnswer (rulingOf t repository m) (length out)) × (o ≡ servingBuffer (rulingOf t repository m) out)
-  ruled e p = (p .0 ∙ ap (λ (u : Ruling). servingAnswer u (length out)) (sym e), p .1 ∙ ap (λ (u : Ruling). servingBuffer u out) (sym e))
+pub served-so : (out : List ℕ) (name : Span) (offset size : ℕ) → Rules (serves name offset size) out (S.Served name offset size) out
+served-so out name offset size = record { answered = refl; buffer = ap (λ (y : Outcome). bufferAfter y out) (sym (in-room [] (length out) (omega arith))) }
 
-  pub table-bad : isGood t ≡ false → rulingOf t repository m ≡ refuses 15 0
+pub filled-in : {x : Outcome} {out : List ℕ} {w : Filling} {o : List ℕ} → Fills x out w o → Rules (fills x) out (S.Unserved w) o
+filled-in p = record { answered = ap S.Unserved (p .answered); buffer = p .buffer }
+
+module _ (t repository m out : List ℕ) where
+  pub ruled : {u : Ruling} {r : Serving} {o : List ℕ} → rulingOf t repository m ≡ u → Rules u out r o → Rules (rulingOf t repository m) out r o
+  ruled {u} {r} {o} e p = subst (λ (v : Ruling). Rules v out r o) (sym e) p
+
+  pub table-bad : isGood t ≡ false → rulingOf t repository m ≡ fills (refuses 15 0)
   unfolding rulingOf
   table-bad e = rw e refl
 
-  pub table-good : {a : Message} {b c : Asking} → isGood t ≡ true → a ≡ said m → b ≡ askingOf a → b ≡ c → rulingOf t repository m ≡ rulingBy t repository m c
+  pub table-good : {a : Message} {b c : RequestIn} → isGood t ≡ true → a ≡ messageIn m → b ≡ requestIn a → b ≡ c → rulingOf t repository m ≡ rulingOn t repository m c
   unfolding rulingOf
-  table-good e f g h = rw e (ap (rulingBy t repository m) (ap askingOf (sym f) ∙ sym g ∙ h))
+  table-good e f g h = rw e (ap (rulingOn t repository m) (ap requestIn (sym f) ∙ sym g ∙ h))
 
   module _ (id : ℕ) (x : RequestSpan) {r : Bool} (e : r ≡ isOurs t repository m x) where
-    pub ours-served : r ≡ true → rulingBy t repository m (A.Asked id x) ≡ serves (x .name) (x .offset) (x .length)
+    pub ours-served : r ≡ true → rulingOn t repository m (Q.Taken id x) ≡ serves (x .name) (x .offset) (x .size)
     ours-served f = rw (sym e ∙ f) refl
 
-    pub ours-not : r ≡ false → rulingBy t repository m (A.Asked id x) ≡ replies id
+    pub ours-not : r ≡ false → rulingOn t repository m (Q.Taken id x) ≡ fills (writing message id 3 (responseBytes []))
     ours-not f = rw (sym e ∙ f) refl

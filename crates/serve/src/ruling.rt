@@ -1,37 +1,21 @@
 // The ruling on an incoming Request: it is served, or gets a reply with no data.
 ghost use mathlib.Core.Path.{_≡_};
 ghost use mathlib.Core.Bool.{true};
-ghost use mathlib.Core.List.{[]};
-ghost use lib.ListN.{length};
-ghost use Rattle.message_write.specs.Writing.{writing, responseBytes, writtenAnswer, writtenBuffer};
 ghost use Rattle.table.specs.Table.{isGood, records};
+ghost use Rattle.message.specs.Answers.{spanBytes};
 ghost use Rattle.want.specs.Listing.{listsThere, blockWith};
-ghost use Rattle.serve.specs.Ruling.{spanBytes, isOurs as isOursOf, refuses, rulingOf, replyAnswer, servingAnswer, servingBuffer, otherOf, askingOf};
-use message::Message;
+ghost use Rattle.serve.specs.Ruling.{isOurs as isOursOf, rulingOf, Rules};
+use message::RequestIn;
 use message::RequestSpan;
 use message::Span;
-use message_write::Written;
 use record::Outline;
+use xdr::Filling;
 use xdr::Refusal;
 
-// To serve: the file's name, the offset and the length. Or how many bytes of a reply were filled in, or a refusal.
+// To serve: the file's name, the offset and the Length. Or how many bytes of a reply were filled in, or a refusal.
 pub enum Serving {
-    Served(Span, u64, u32),
-    Replied(usize),
-    Refused(Refusal),
-}
-
-// A Request with its ID, or a refusal.
-enum Asking {
-    Asked(u32, RequestSpan),
-    Other(Refusal),
-}
-
-// No Request, but a refusal at place 0.
-fn other(number: u32) -> Asking
-    ensures { λ r. ⌜ r ≡ otherOf number ⌝ }
-{
-    Asking::Other(Refusal { number, place: 0 })
+    Served { name: Span, offset: u64, size: u32 },
+    Unserved(Filling),
 }
 
 // Whether a good table lists a block there.
@@ -82,59 +66,31 @@ fn is_ours(table: &[u8], repository: &[u8], message: &[u8], x: RequestSpan) -> b
         table,
         bytes_of(message, name),
         x.offset,
-        x.length,
+        x.size,
         bytes_of(message, hash),
     )
 }
 
-// A refusal at place 0.
-fn refused(number: u32) -> Serving
-    ensures { λ r. ⌜ r ≡ servingAnswer (refuses number 0) 0 ⌝ }
-{
-    Serving::Refused(Refusal { number, place: 0 })
-}
-
-// A Response with no data.
-fn reply(message: &[u8], id: u32, out: &mut [u8]) -> Serving
-    ensures { λ r. ⌜ (r ≡ replyAnswer (writtenAnswer (writing id 3 (responseBytes []) (length (now (out .entry)))))) × (now (out .exit) ≡ writtenBuffer (now (out .entry)) (writing id 3 (responseBytes []) (length (now (out .entry))))) ⌝ }
-{
-    match message_write::write_response(out, id, &message[0..0]) {
-        Written::Filled(n) => Serving::Replied(n),
-        Written::Refused(r) => Serving::Refused(r),
-    }
-}
-
-// The Request that was read, or the refusal of the reading, or 18.
-fn request_of(m: Message) -> Asking
-    ensures { λ r. ⌜ r ≡ askingOf m ⌝ }
-{
-    match m {
-        Message::Index(_, _) => other(18),
-        Message::Request(id, x) => Asking::Asked(id, x),
-        Message::Response(_, _) => other(18),
-        Message::Ping(_, _) => other(18),
-        Message::Pong(_, _) => other(18),
-        Message::IndexUpdate(_, _) => other(18),
-        Message::Options(_, _) => other(18),
-        Message::Refused(r) => Asking::Other(r),
-    }
-}
-
 // The ruling on a message: whether it is to be served out of our table, or a reply with no data in the first bytes of the buffer.
 pub fn serve(table: &[u8], repository: &[u8], message: &[u8], out: &mut [u8]) -> Serving
-    ensures { λ r. ⌜ (r ≡ servingAnswer (rulingOf (now (table .entry)) (now (repository .entry)) (now (message .entry))) (length (now (out .entry)))) × (now (out .exit) ≡ servingBuffer (rulingOf (now (table .entry)) (now (repository .entry)) (now (message .entry))) (now (out .entry))) ⌝ }
+    ensures { λ r. ⌜ Rules (rulingOf (now (table .entry)) (now (repository .entry)) (now (message .entry)))
+        (now (out .entry)) r (now (out .exit)) ⌝ }
 {
     if !table::is_good(table) {
-        return refused(15);
+        return Serving::Unserved(xdr::refused(15));
     }
-    match request_of(message::read(message)) {
-        Asking::Other(r) => Serving::Refused(r),
-        Asking::Asked(id, x) => {
+    match message::request_in(message::read(message)) {
+        RequestIn::Refused(r) => Serving::Unserved(Filling::Refused(r)),
+        RequestIn::Taken { id, request: x } => {
             if is_ours(table, repository, message, x) {
                 let name = x.name;
-                return Serving::Served(name, x.offset, x.length);
+                return Serving::Served {
+                    name,
+                    offset: x.offset,
+                    size: x.size,
+                };
             }
-            reply(message, id, out)
+            Serving::Unserved(message_write::write_response(out, id, &message[0..0]))
         }
     }
 }

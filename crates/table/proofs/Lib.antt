@@ -2,5 +2,7 @@
 pub mod NewestLaws
 pub mod TableLaws
 pub mod WalkLaws
-pub mod FillingLaws
 pub mod PassLaws
+pub mod InsertLaws
+pub mod UnionLaws
+pub mod SideLaws

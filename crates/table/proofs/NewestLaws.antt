@@ -6,21 +6,21 @@ use lib.Signed.{_<ℤ_}
 use Rattle.xdr.specs.Format.{encode, Valid}
 use Rattle.record.specs.File.{File, name, file, fromFlags}
 use Rattle.record.specs.Modified.{signed, raised}
-use Rattle.record.specs.declared.outline.Fields.{Fields}
+use Rattle.record.specs.declared.outline.RecordFields.{RecordFields}
 use Rattle.record.proofs.FileLaws.{split-encoding, same-file}
 use Rattle.record.proofs.SignedOrder.{raised-order}
 use Rattle.order.specs.Order.{compareLists}
 use Rattle.table.specs.Newest.{key, keyAt, compareFiles, compareAt}
 use Rattle.order.specs.declared.compare.Order.{Order}
 use Rattle.order.specs.declared.compare.Order.the-variants.{Less, Equal}
-use Rattle.order.proofs.OrderLaws.{number-less, heads, Compared, turned, compare-turned, equal-same, below-trans, same-equal, below-irrefl, below-asym, at-most-same, at-most-trans}
+use Rattle.order.proofs.OrderLaws.{number-less, heads, Compared, reversed, compare-reversed, equal-same, below-trans, same-equal, below-irrefl, below-asym, at-most-same, at-most-trans}
 
 pub by-key : (f g : File) → compareFiles f g ≡ compareLists (key f) (key g)
 unfolding compareFiles
 by-key f g = refl
 
 -- at places of some bytes
-pub compared-at : (s : List ℕ) (f : Fields) (t : List ℕ) (g : Fields) {o : Order} → Compared (keyAt s f) (keyAt t g) o → o ≡ compareAt s f t g
+pub compared-at : (s : List ℕ) (f : RecordFields) (t : List ℕ) (g : RecordFields) {o : Order} → Compared (keyAt s f) (keyAt t g) o → o ≡ compareAt s f t g
 unfolding compareAt
 compared-at s f t g c = c .is
 
@@ -41,9 +41,9 @@ same-key f g v w n k =
 pub tie-equal : (f g : File) → Valid file f → Valid file g → f .name ≡ g .name → compareFiles f g ≡ Equal → f ≡ g
 tie-equal f g v w n e = same-key f g v w n (equal-same (key f) (key g) (sym (by-key f g) ∙ e))
 
-pub newest-turned : (f g : File) → compareFiles g f ≡ turned (compareFiles f g)
+pub newest-reversed : (f g : File) → compareFiles g f ≡ reversed (compareFiles f g)
 unfolding compareFiles
-newest-turned f g = compare-turned (key f) (key g)
+newest-reversed f g = compare-reversed (key f) (key g)
 
 pub newest-trans : (f g h : File) → compareFiles f g ≡ Less → compareFiles g h ≡ Less → compareFiles f h ≡ Less
 unfolding compareFiles
@@ -59,9 +59,9 @@ pub at-least-itself : (f : File) → compareFiles f f ≡ Less → ⊥
 unfolding compareFiles
 at-least-itself f h = below-irrefl (key f) h
 
-pub at-least-turned : (f g : File) → compareFiles f g ≡ Less → compareFiles g f ≡ Less → ⊥
+pub at-least-reversed : (f g : File) → compareFiles f g ≡ Less → compareFiles g f ≡ Less → ⊥
 unfolding compareFiles
-at-least-turned f g h k = below-asym (key f) (key g) h k
+at-least-reversed f g h k = below-asym (key f) (key g) h k
 
 pub at-least-trans : (f g h : File) → (compareFiles g f ≡ Less → ⊥) → (compareFiles h g ≡ Less → ⊥) → compareFiles h f ≡ Less → ⊥
 unfolding compareFiles

@@ -8,7 +8,7 @@ use lib.ListN.{length, length-append}
 use Rattle.xdr.specs.Format.{encode}
 use Rattle.record.specs.File.{File, file}
 use Rattle.table.specs.Table.{tableOf}
-use Rattle.table.specs.Standing.{bytesOf}
+use Rattle.table.specs.Steps.Standing.{bytesOf}
 use Rattle.table.proofs.TableLaws.{table-length}
 
 -- so many records and bytes of all were counted, and the rest is to come

@@ -9,16 +9,19 @@ use lib.ListN.{length, length-append}
 use lib.Dec.{leb, eqb}
 use Rattle.xdr.specs.Reading.{Reading, taken, refused}
 use Rattle.xdr.specs.Number.{IsBytes}
-use Rattle.xdr.specs.Format.{read, encode, encodeAll, AllOf, Valid}
+use Rattle.xdr.specs.Format.{read, encode, Valid}
 use Rattle.xdr.specs.Fields.{word}
+use Rattle.xdr.specs.Buffer.{filled, over, put}
+use Rattle.xdr.specs.Filling.{gives, refuses}
+use Rattle.xdr.proofs.BufferLaws.{filled-next}
 use Rattle.xdr.proofs.NumberLaws.{length-digits}
 use Rattle.xdr.proofs.RoundTrip.{round}
 use Rattle.xdr.proofs.Corollaries.{read-whole}
-use Rattle.record.specs.File.{File, file}
+use Rattle.record.specs.File.{File}
 use Rattle.record.specs.Rising.{isRising, fillRising, isRisingArray}
 use Rattle.table.specs.Limits.{recordsLimit, bytesLimit}
-use Rattle.table.specs.Standing.{bytesOf, AllValid}
-use Rattle.table.specs.Table.{table, goodReading, isGood, recordsRead, records, tableOf}
+use Rattle.table.specs.Steps.Standing.{bytesOf, AllValid}
+use Rattle.table.specs.Table.{table, isWithin, goodReading, isGood, recordsRead, records, tableOf, resultingTable}
 use Rattle.record.proofs.RisingLaws.{and-true, both-true, Rising, rising-is, rising-test}
 
 -- the count, and then the records
@@ -116,3 +119,24 @@ empty-good = refl
 pub nothing-bad : isGood [] ≡ false
 unfolding isGood read
 nothing-bad = refl
+
+-- a resulting table: too large, or its bytes, which are the count and the records from place 4 on
+
+pub result-large : (fs : List File) → isWithin (length fs) (length (tableOf fs)) ≡ false → resultingTable fs ≡ refuses 19 0
+result-large fs e = rw e refl
+
+pub result-within : (fs : List File) → isWithin (length fs) (length (tableOf fs)) ≡ true → resultingTable fs ≡ gives (tableOf fs)
+result-within fs e = rw e refl
+
+pub table-filled : (out : List ℕ) (fs : List File) {n : ℕ} {o p : List ℕ} → n ≡ length fs → length (tableOf fs) ≤ length out
+    → o ≡ put out 0 (encode word n) → p ≡ over o 4 (bytesOf fs) → p ≡ filled out (tableOf fs)
+table-filled out fs {n} {o} {p} e h f g =
+    let w : List ℕ = encode word n in
+    let long : length w ≡ 4 = word-bytes n in
+    let room : length w ≤ length out = omega (arith, table-length fs) in
+    let counted : o ≡ filled out w = f ∙ rw (le-leb (0 + length w) (length out) (omega arith)) refl in
+    g
+    ∙ ap (λ (x : List ℕ). over x 4 (bytesOf fs)) counted
+    ∙ ap (λ (k : ℕ). over (filled out w) k (bytesOf fs)) (sym long)
+    ∙ filled-next out w (bytesOf fs) room
+    ∙ ap (filled out) (ap (λ (k : ℕ). encode word k ++ bytesOf fs) e ∙ sym (table-bytes fs))

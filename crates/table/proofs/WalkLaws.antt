@@ -1,5 +1,5 @@
 -- Walking a table by outlines: what stands at a place where records begin, and where the next one begins.
-use Prim.Native.Nat.{ℕ, _+_, _-_, _≤_}
+use Prim.Native.Nat.{ℕ, _+_, _-_}
 use mathlib.Core.List.{List, [], _∷_}
 use mathlib.Core.Path.{_≡_, refl, sym, ap, _∙_}
 use native.Mathlib.Omega.{arith}
@@ -9,7 +9,7 @@ use Rattle.xdr.specs.Format.{encode}
 use Rattle.xdr.specs.Fields.{word}
 use Rattle.record.specs.File.{File, file, fromFlags}
 use Rattle.record.specs.Outline.{wordAt, outlineOf, fieldsOf}
-use Rattle.record.specs.declared.outline.Fields.{Fields}
+use Rattle.record.specs.declared.outline.RecordFields.{RecordFields}
 use Rattle.record.specs.declared.outline.Outline.{Outline}
 use Rattle.record.specs.declared.outline.Outline.the-variants as O
 use Rattle.record.proofs.FileLaws.{encoding-parts, encoding-rest}
@@ -17,7 +17,7 @@ use Rattle.record.proofs.OutlineLaws.{outline-cut}
 use Rattle.order.specs.Order.{part}
 use Rattle.table.specs.Newest.{key, keyAt, compareFiles, compareAt}
 use Rattle.table.specs.Table.{tableOf}
-use Rattle.table.specs.Standing.{bytesOf, AllValid, At}
+use Rattle.table.specs.Steps.Standing.{bytesOf, AllValid, At}
 use Rattle.table.proofs.TableLaws.{GoodTable, table-bytes, table-length, word-bytes}
 
 -- the records of an array begin after the count
@@ -86,14 +86,14 @@ compared-there u w = rw (key-is u, key-is w) refl
 
 -- which records are left, by the outline that was answered
 
-pub record Headed (t : List ℕ) (at : ℕ) (fs : List File) (g : Fields) : Type 0 where
+pub record Headed (t : List ℕ) (at : ℕ) (fs : List File) (g : RecordFields) : Type 0 where
   pub head : File
   pub tail : List File
   pub is : fs ≡ head ∷ tail
   pub stands : At t at (head ∷ tail)
   pub fields : g ≡ fieldsOf at head
 
-pub at-whole : {t : List ℕ} {at : ℕ} {fs : List File} {x : Outline} {g : Fields} → At t at fs → x ≡ outlineOf t at → x ≡ O.Whole g → Headed t at fs g
+pub at-whole : {t : List ℕ} {at : ℕ} {fs : List File} {x : Outline} {g : RecordFields} → At t at fs → x ≡ outlineOf t at → x ≡ O.Whole g → Headed t at fs g
 at-whole {fs = []} {g = g} w e q = let k : O.Whole g ≡ O.Short = sym q ∙ e ∙ at-end w in let z : _≡_ {A = ℕ} 0 1 = cc in absurd (omega arith)
 at-whole {at = at} {fs = f ∷ fs} {g = g} w e q =
     let k : O.Whole g ≡ O.Whole (fieldsOf at f) = sym q ∙ e ∙ standing w .outline-is in

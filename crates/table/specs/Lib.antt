@@ -1,5 +1,5 @@
 pub mod Newest
 pub mod Limits
 pub mod Table
-pub mod Filling
-pub mod Standing
+pub mod Steps
+pub mod Insert

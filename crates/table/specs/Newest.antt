@@ -4,7 +4,7 @@ use mathlib.Core.List.{List, _∷_}
 use mathlib.Core.Bool.{Bool, not, cond}
 use Rattle.record.specs.File.{File, isDeleted, isInvalid, fromFlags}
 use Rattle.record.specs.Modified.{raised}
-use Rattle.record.specs.declared.outline.Fields.{Fields}
+use Rattle.record.specs.declared.outline.RecordFields.{RecordFields}
 use Rattle.order.specs.Order.{compareLists, part}
 use Rattle.order.specs.declared.compare.Order.{Order}
 
@@ -26,9 +26,9 @@ unfoldable pub compareFiles : File → File → Order
 compareFiles f g = compareLists (key f) (key g)
 
 -- the key of a record whose fields are at places of some bytes
-abbrev pub keyAt : List ℕ → Fields → List ℕ
+abbrev pub keyAt : List ℕ → RecordFields → List ℕ
 keyAt s f = keyOf (f .modified) (f .version) (f .flags) (part s (f .rest) (f .past))
 
 -- two records by their fields, each in its own bytes: Greater where the first is the newer one
-unfoldable pub compareAt : List ℕ → Fields → List ℕ → Fields → Order
+unfoldable pub compareAt : List ℕ → RecordFields → List ℕ → RecordFields → Order
 compareAt s f t g = compareLists (keyAt s f) (keyAt t g)

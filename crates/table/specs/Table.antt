@@ -1,11 +1,12 @@
 -- Good tables, and the records of a table.
 use Prim.Native.Nat.{ℕ}
 use mathlib.Core.List.{List, [], _∷_}
-use mathlib.Core.Bool.{Bool, true, false, _&&_}
+use mathlib.Core.Bool.{Bool, true, false, _&&_, cond}
 use lib.ListN.{length}
 use lib.Dec.{leb, eqb}
 use Rattle.xdr.specs.Reading.{Reading, taken, refused}
 use Rattle.xdr.specs.Format.{Format, read, encode}
+use Rattle.xdr.specs.Filling.{Outcome, gives, refuses}
 use Rattle.record.specs.File.{File, files}
 use Rattle.record.specs.Rising.{isRising}
 use Rattle.table.specs.Limits.{recordsLimit, bytesLimit}
@@ -44,3 +45,7 @@ records t = recordsRead (read table t)
 -- the bytes of records, of any number
 unfoldable pub tableOf : List File → List ℕ
 tableOf fs = encode table fs
+
+-- a resulting table: its bytes, where it is within the limits (19)
+abbrev pub resultingTable : List File → Outcome
+resultingTable fs = cond (isWithin (length fs) (length (tableOf fs))) (gives (tableOf fs)) (refuses 19 0)

@@ -2,9 +2,9 @@
 ghost use mathlib.Core.Path.{_≡_};
 ghost use Rattle.table.specs.Table.{isGood, isWithin};
 
-const RECORDS_LIMIT: u32 = 512;
+pub const RECORDS_LIMIT: u32 = 512;
 
-const BYTES_LIMIT: usize = 65536;
+pub const BYTES_LIMIT: usize = 65536;
 
 // Whether so many records in so many bytes are within the limits of a table.
 pub fn within_limits(count: u32, size: usize) -> bool

@@ -1,10 +1,12 @@
-// Tables of records: which of two records is the newer, good tables, and what a call answers that fills a buffer.
-pub mod filling;
+// Tables of records: which of two records is the newer, good tables, and whose record comes next in a walk over two.
 pub mod good;
 pub mod newest;
+pub mod side;
 
-pub use filling::Filling;
-pub use filling::refused;
+pub use good::BYTES_LIMIT;
+pub use good::RECORDS_LIMIT;
 pub use good::is_good;
 pub use good::within_limits;
 pub use newest::compare_records;
+pub use side::Side;
+pub use side::side_at;

@@ -7,7 +7,7 @@ use order::Order;
 use order::compare_long;
 use order::compare_numbers;
 use order::part;
-use record::Fields;
+use record::RecordFields;
 
 // Modified as a number from 0, in the order of the signed numbers.
 fn raised(modified: u64) -> u64
@@ -44,7 +44,7 @@ fn compare_bits(a: bool, b: bool) -> Order
 }
 
 // Two records by their fields, each in its own bytes: Greater where the first is the newer.
-pub fn compare_records(s: &[u8], f: Fields, t: &[u8], g: Fields) -> Order
+pub fn compare_records(s: &[u8], f: RecordFields, t: &[u8], g: RecordFields) -> Order
     ensures { λ r. ⌜ r ≡ compareAt (now (s .entry)) f (now (t .entry)) g ⌝ }
 {
     let modified = compare_modified(f.modified, g.modified);

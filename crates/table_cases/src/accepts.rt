@@ -51,7 +51,7 @@ pub fn small() {
 fn given(old: &[u8]) {
     let index = pair(1, 0x62626262, 0x63636363);
     let update = pair(6, 0x62626262, 0x63636363);
-    let turned = pair(6, 0x63636363, 0x62626262);
+    let reversed = pair(6, 0x63636363, 0x62626262);
     accept(
         b"an Index gives its records and no others",
         old,
@@ -69,7 +69,7 @@ fn given(old: &[u8]) {
     accept(
         b"an IndexUpdate with its names in reverse",
         old,
-        &turned,
+        &reversed,
         b"r",
         96,
     );

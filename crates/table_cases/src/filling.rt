@@ -1,5 +1,5 @@
 // The lines of calls that fill a buffer.
-use table::Filling;
+use xdr::Filling;
 
 // What a call answered: the table of a small result, the length of a large one, or the refusal and whether the buffer is as it was.
 pub fn show(call: &[u8], label: &[u8], f: Filling, out: &[u8]) {

@@ -10,12 +10,12 @@ use Rattle.xdr.specs.Number.{IsBytes}
 use Rattle.xdr.specs.Format.{encode}
 use Rattle.record.specs.File.{File, file}
 use Rattle.record.specs.Outline.{outlineOf, fieldsOf}
-use Rattle.record.specs.declared.outline.Fields.{Fields}
+use Rattle.record.specs.declared.outline.RecordFields.{RecordFields}
 use Rattle.record.specs.declared.outline.Outline.{Outline}
 use Rattle.record.specs.declared.outline.Outline.the-variants as O
 use Rattle.table.specs.Table.{isGood, records}
 use Rattle.table.proofs.TableLaws.{good-table}
-use Rattle.table.specs.Standing.{At}
+use Rattle.table.specs.Steps.Standing.{At}
 use Rattle.table.proofs.WalkLaws.{at-start, standing, Headed, at-whole, at-short}
 use Rattle.walker.specs.Walk.{bad, stepAmong, stepAt}
 use Rattle.walker.specs.declared.Step.the-variants.{Record, End}
@@ -48,12 +48,12 @@ module _ {t : List ℕ} {at place : ℕ} (c : Come t at place) where
   pub come-end : {x : Outline} → place < at → x ≡ outlineOf t place → x ≡ O.Short → bad ≡ stepAt t at
   come-end h e q = sym (c .left ∙ ap (λ (l : List File). stepAmong l place at) (at-short (c .here) e q) ∙ rw (ne-eqb place at (λ e. omega arith)) refl)
 
-  module _ {x : Outline} {g : Fields} (h : place < at) (e : x ≡ outlineOf t place) (q : x ≡ O.Whole g) where
+  module _ {x : Outline} {g : RecordFields} (h : place < at) (e : x ≡ outlineOf t place) (q : x ≡ O.Whole g) where
     r : Headed t place (c .rest) g
     r = at-whole (c .here) e q
 
     past-is : g .past ≡ fieldsOf place (r .head) .past
-    past-is = ap (λ (y : Fields). y .past) (r .fields)
+    past-is = ap (λ (y : RecordFields). y .past) (r .fields)
 
     pub come-on : Come t at (g .past)
     come-on = record {
@@ -79,7 +79,7 @@ module _ {t : List ℕ} {at place : ℕ} (c : Come t at place) where
     pub ended : x ≡ O.Short → End ≡ stepAt t at
     ended q = sym (left-here ∙ ap (λ (l : List File). stepAmong l at at) (at-short at-here e q) ∙ rw (eq-eqb at at refl) refl)
 
-    pub found : {g : Fields} → x ≡ O.Whole g → Record g ≡ stepAt t at
+    pub found : {g : RecordFields} → x ≡ O.Whole g → Record g ≡ stepAt t at
     found q =
         let r = at-whole at-here e q in
         ap Record (r .fields) ∙ sym (left-here ∙ ap (λ (l : List File). stepAmong l at at) (r .is) ∙ rw (eq-eqb at at refl) refl)

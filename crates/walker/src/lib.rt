@@ -2,13 +2,13 @@
 // the table and the place; the walker is thin over them.
 ghost use mathlib.Core.Path.{_≡_};
 ghost use Rattle.walker.specs.Walk.{stepAt, nextPlace, given, stepped};
-use record::Fields;
 use record::Outline;
+use record::RecordFields;
 use xdr::Refusal;
 
 // The record at a place, by the places of its fields; or the end of the table; or a refusal.
 pub enum Step {
-    Record(Fields),
+    Record(RecordFields),
     End,
     Refused(Refusal),
 }

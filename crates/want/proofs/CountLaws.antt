@@ -9,9 +9,9 @@ use Rattle.record.specs.Block.{Block}
 use Rattle.record.specs.File.{File}
 use Rattle.record.specs.Outline.{blockPlace}
 use Rattle.want.specs.Listing.{isHeld}
-use Rattle.want.specs.Blocks.{blockHere, blocksFrom}
+use Rattle.want.specs.Steps.Blocks.{blockHere, blocksFrom}
 use Rattle.want.specs.Wanted.{wantedBlock, wantedBlocks}
-use Rattle.want.specs.Places.{wantedCount}
+use Rattle.want.specs.Steps.Places.{wantedCount}
 use Rattle.want.specs.declared.list.Wanted.{Wanted}
 
 -- what the loop keeps: so many of the blocks before j are not held

@@ -7,7 +7,7 @@ use native.Mathlib.Omega.{arith}
 use lib.ListN.{length, getD, drop, length-append}
 use Rattle.record.specs.File.{File}
 use Rattle.record.specs.Outline.{outlineOf}
-use Rattle.record.specs.declared.outline.Fields.{Fields}
+use Rattle.record.specs.declared.outline.RecordFields.{RecordFields}
 use Rattle.record.specs.declared.outline.Outline.{Outline}
 use Rattle.record.specs.declared.outline.Outline.the-variants as O
 use Rattle.order.specs.Order.{part}
@@ -15,9 +15,9 @@ use Rattle.table.specs.Table.{isGood, records}
 use Rattle.table.proofs.TableLaws.{good-table}
 use Rattle.merge.specs.Merged.{mergedOf}
 use Rattle.want.specs.Listing.{listed}
-use Rattle.want.specs.Blocks.{blocksFrom, listedCount}
+use Rattle.want.specs.Steps.Blocks.{blocksFrom, listedCount}
 use Rattle.want.specs.Wanted.{peerFrom, wantedBlocks, wantedFiles, requestList}
-use Rattle.want.specs.Places.{tableAt, placeAt, lowestFrom, peerAt, wantedCount, Five, listOf, wantedFrom}
+use Rattle.want.specs.Steps.Places.{tableAt, placeAt, lowestFrom, peerAt, wantedCount, Five, listOf, wantedFrom}
 use Rattle.want.specs.declared.list.Wanted.{Wanted}
 use Rattle.want.proofs.PlaceLaws.{element}
 use Rattle.want.proofs.CountLaws.{wanted-count, count-few, length-from, same-peers}
@@ -63,7 +63,7 @@ module _ {ts : List (List ℕ)} {ps : List ℕ} {file : ℕ} {done : List Wanted
   done-all e z y g =
       sym (append-nil done) ∙ ap (λ (l : List File). done ++ wantedFiles (localOf ts) (peersOf ts) file l) (sym (turns-end (d .walk) e z y g)) ∙ d .follows
 
-  module _ {k : ℕ} {t : List ℕ} {f : Fields} (g : Five ts) (u : Turn ts ps (d .ls) k t f) {name : List ℕ} (n : name ≡ part t (f .name) (f .stop)) where
+  module _ {k : ℕ} {t : List ℕ} {f : RecordFields} (g : Five ts) (u : Turn ts ps (d .ls) k t f) {name : List ℕ} (n : name ≡ part t (f .name) (f .stop)) where
     name-is : name ≡ u .head .name
     name-is = n ∙ turn-name (d .walk) u
 
@@ -128,7 +128,7 @@ module _ {ts : List (List ℕ)} {ps : List ℕ} {n : ℕ} (c : Counted ts ps n) 
   pub counted-all : {k : ℕ} {t : List ℕ} {x : Outline} → k ≡ lowestFrom ts ps 0 1 4 → t ≡ tableAt ts k → x ≡ outlineOf t (placeAt ps k) → x ≡ O.Short → Five ts → (n ≡ length (listOf ts)) × (n ≤ 327680)
   counted-all e z y g v = (c .counted ∙ ap length (done-all (c .so-far) e z y g), omega (arith, c .counted, c .so-far .few, total-small v (c .so-far .walk)))
 
-  module _ {k : ℕ} {t : List ℕ} {f : Fields} (g : Five ts) (u : Turn ts ps (c .so-far .ls) k t f) {local : List ℕ} {count m : ℕ}
+  module _ {k : ℕ} {t : List ℕ} {f : RecordFields} (g : Five ts) (u : Turn ts ps (c .so-far .ls) k t f) {local : List ℕ} {count m : ℕ}
       (z : local ≡ tableAt ts 0) (q : count ≡ listedCount f) (r : m ≡ wantedCount (records local) (blocksFrom t (f .first) 0 count)) where
     -- how many were counted
     pub counted-here : m ≡ length (wantedFrom ts ps (part t (f .name) (f .stop)) (c .file) 0 0 t (f .first) (listedCount f))

@@ -14,16 +14,16 @@ use Rattle.xdr.proofs.BufferLaws.{over-over, length-over, filled-next, FilledTo
 use Rattle.record.specs.Block.{Block}
 use Rattle.record.specs.File.{File}
 use Rattle.record.specs.Outline.{wordAt, outlineOf, blockPlace}
-use Rattle.record.specs.declared.outline.Fields.{Fields}
+use Rattle.record.specs.declared.outline.RecordFields.{RecordFields}
 use Rattle.record.specs.declared.outline.Outline.{Outline}
 use Rattle.record.specs.declared.outline.Outline.the-variants as O
 use Rattle.order.specs.Order.{part}
 use Rattle.table.specs.Table.{isGood, records}
 use Rattle.merge.specs.Merged.{mergedOf}
 use Rattle.want.specs.Listing.{isHeld, blockWith}
-use Rattle.want.specs.Blocks.{blockHere, listedCount}
+use Rattle.want.specs.Steps.Blocks.{blockHere, listedCount}
 use Rattle.want.specs.Wanted.{wantedBlock, wantedFiles, wantedBytes, listBytes}
-use Rattle.want.specs.Places.{tableAt, placeAt, lowestFrom, Five, listOf, wantedHere, wantedFrom}
+use Rattle.want.specs.Steps.Places.{tableAt, placeAt, lowestFrom, Five, listOf, wantedHere, wantedFrom}
 use Rattle.want.specs.declared.list.Wanted.{Wanted}
 use Rattle.table.proofs.TableLaws.{word-bytes}
 use Rattle.want.proofs.PlaceLaws.{element}
@@ -238,7 +238,7 @@ module _ {ts : List (List ℕ)} {ps out₀ out : List ℕ} {file at : ℕ} (w : 
     pub filled-same : length out ≡ length out₀
     filled-same = filled-length (wantedFiles (localOf ts) (peersOf ts) file (mergedOf (w .so-far .ls))) (w .so-far .follows) .1
 
-    module _ {k : ℕ} {t : List ℕ} {f : Fields} (g : Five ts) (u : Turn ts ps (w .so-far .ls) k t f) {name : List ℕ} {count : ℕ} (n : name ≡ part t (f .name) (f .stop)) (q : count ≡ listedCount f) where
+    module _ {k : ℕ} {t : List ℕ} {f : RecordFields} (g : Five ts) (u : Turn ts ps (w .so-far .ls) k t f) {name : List ℕ} {count : ℕ} (n : name ≡ part t (f .name) (f .stop)) (q : count ≡ listedCount f) where
       abbrev these : List Wanted
       these = wantedFrom ts ps name file 0 0 t (f .first) count
 

@@ -1,7 +1,7 @@
 -- Which of several tables has the record that comes first, where records of each are left.
 use Prim.Native.Nat.{ℕ, zero, suc, _+_, _<_}
 use mathlib.Core.List.{List, [], _∷_}
-use mathlib.Core.Path.{_≡_, refl, sym, ap, subst, _∙_}
+use mathlib.Core.Path.{_≡_, refl, sym, subst, _∙_}
 use mathlib.Core.Logic.{_⊎_, inl, inr}
 use mathlib.Core.Bool.{Bool, true, false, cond}
 use native.Mathlib.Omega.{arith}
@@ -9,19 +9,20 @@ use native.Mathlib.Decide.{decLt}
 use lib.ListN.{getD}
 use Rattle.record.specs.File.{File}
 use Rattle.record.specs.Outline.{fieldsOf}
-use Rattle.order.specs.Order.{compareLists, part}
-use Rattle.table.specs.Newest.{compareFiles}
+use Rattle.table.specs.Newest.{compareFiles, compareAt}
+use Rattle.table.specs.declared.side.Side.{Side}
 use Rattle.order.specs.declared.compare.Order.{Order}
 use Rattle.order.specs.declared.compare.Order.the-variants.{Less, Equal, Greater}
-use Rattle.order.proofs.OrderLaws.{Below, equal-same, greater-above, below-trans}
-use Rattle.table.proofs.NewestLaws.{at-least-itself, at-least-turned, at-least-trans}
-use Rattle.table.specs.Standing.{At}
-use Rattle.table.proofs.WalkLaws.{at-end, standing, compared-there}
+use Rattle.order.proofs.OrderLaws.{Below, equal-same, below-trans}
+use Rattle.record.proofs.RisingLaws.{Above}
+use Rattle.table.proofs.NewestLaws.{at-least-itself, at-least-reversed, at-least-trans}
+use Rattle.table.specs.Steps.Standing.{At}
+use Rattle.table.proofs.WalkLaws.{compared-there}
+use Rattle.table.proofs.SideLaws.{shows-at, Told, told-none, told-left, told-right, told-both, told}
 use Rattle.merge.specs.Highest.{AtLeast}
-use Rattle.merge.specs.Next.{chosen, nextOf}
+use Rattle.merge.specs.Steps.Next.{higherStep, higherOf, nextBy, nextOf}
 use Rattle.merge.specs.declared.next.Next.{Next}
-use Rattle.merge.proofs.NextLaws.{next-by, by-records}
-use Rattle.want.specs.Places.{isFirst, tableAt, placeAt, lowerOf, lowestFrom}
+use Rattle.want.specs.Steps.Places.{isFirst, tableAt, placeAt, lowerOf, lowestFrom}
 use Rattle.want.proofs.PlaceLaws.{lower-small}
 use Rattle.want.proofs.HeadLaws.{Leads}
 
@@ -54,24 +55,24 @@ FirstBy false fs gs = First gs fs
 abbrev Firsts : List File → List File → Next → Type 0
 Firsts fs gs n = FirstBy (isFirst n) fs gs
 
-chosen-first : (f g : File) (fs gs : List File) (i j x y : ℕ) (n o : Order) → compareLists (f .name) (g .name) ≡ n → compareFiles f g ≡ o
-    → Firsts (f ∷ fs) (g ∷ gs) (chosen i j x y n o)
-chosen-first f g fs gs i j x y Less o e h = inl e
-chosen-first f g fs gs i j x y Greater o e h = inl (greater-above (f .name) (g .name) e)
-chosen-first f g fs gs i j x y Equal Less e h = inr (sym (equal-same (f .name) (g .name) e), at-least-turned f g h)
-chosen-first f g fs gs i j x y Equal Equal e h = inr (equal-same (f .name) (g .name) e, λ k. let z : _≡_ {A = ℕ} 0 1 = cc (sym h ∙ k) in omega arith)
-chosen-first f g fs gs i j x y Equal Greater e h = inr (equal-same (f .name) (g .name) e, λ k. let z : _≡_ {A = ℕ} 0 1 = cc (sym h ∙ k) in omega arith)
+above-leads : (f : File) (gs : List File) → Above (f .name) gs → Leads f gs
+above-leads f [] a = tt
+above-leads f (g ∷ gs) a = inl a
+
+first-told : {a b : List ℕ} {i j : ℕ} {fs gs : List File} {t : Side} → Told i j fs gs t → At a i fs → At b j gs → Firsts fs gs (nextBy (higherOf a i b j) i j t)
+first-told told-none u w = refl
+first-told (told-left f fs gs h) u w = above-leads f gs h
+first-told (told-right g fs gs h) u w = above-leads g fs h
+first-told {a} {b} {i} {j} (told-both f g fs gs e) u w = go (compareAt a (fieldsOf i f) b (fieldsOf j g)) (sym (compared-there u w))
+  where
+    go : (o : Order) → compareFiles f g ≡ o → Firsts (f ∷ fs) (g ∷ gs) (higherStep o i (fieldsOf i f .past) j (fieldsOf j g .past))
+    go Less h = inr (sym (equal-same (f .name) (g .name) e), at-least-reversed f g h)
+    go Equal h = inr (equal-same (f .name) (g .name) e, λ k. let z : _≡_ {A = ℕ} 0 1 = cc (sym h ∙ k) in omega arith)
+    go Greater h = inr (equal-same (f .name) (g .name) e, λ k. let z : _≡_ {A = ℕ} 0 1 = cc (sym h ∙ k) in omega arith)
 
 firsts : (a : List ℕ) (i : ℕ) (b : List ℕ) (j : ℕ) (fs gs : List File) → At a i fs → At b j gs → Firsts fs gs (nextOf a i b j)
-firsts a i b j [] [] u w = subst (Firsts [] []) (next-by a i b j refl (at-end u) refl (at-end w) refl) refl
-firsts a i b j [] (g ∷ gs) u w = subst (Firsts [] (g ∷ gs)) (next-by a i b j refl (at-end u) refl (standing w .outline-is) refl) tt
-firsts a i b j (f ∷ fs) [] u w = subst (Firsts (f ∷ fs) []) (next-by a i b j refl (standing u .outline-is) refl (at-end w) refl) tt
-firsts a i b j (f ∷ fs) (g ∷ gs) u w =
-    let names : compareLists (part a (fieldsOf i f .name) (fieldsOf i f .stop)) (part b (fieldsOf j g .name) (fieldsOf j g .stop)) ≡ compareLists (f .name) (g .name) =
-    ap (λ (l : List ℕ). compareLists l (part b (fieldsOf j g .name) (fieldsOf j g .stop))) (standing u .name-is) ∙ ap (compareLists (f .name)) (standing w .name-is) in
-    subst (Firsts (f ∷ fs) (g ∷ gs))
-    (next-by a i b j refl (standing u .outline-is) refl (standing w .outline-is) (by-records a i (fieldsOf i f) b j (fieldsOf j g) refl names refl (compared-there u w) refl))
-    (chosen-first f g fs gs i j (fieldsOf i f .past) (fieldsOf j g .past) (compareLists (f .name) (g .name)) (compareFiles f g) refl refl)
+unfolding nextOf
+firsts a i b j fs gs u w = first-told (told (shows-at fs u) (shows-at gs w)) u w
 
 -- the lowest of all
 module _ (ts : List (List ℕ)) (ps : List ℕ) (ls : List (List File)) (at : (k : ℕ) → k < 5 → At (tableAt ts k) (placeAt ps k) (getD ls k [])) where

@@ -9,10 +9,11 @@ use lib.ListN.{length, getD, take, drop, length-drop}
 use lib.Seq.{length-take-le}
 use lib.Dec.{eqb}
 use Rattle.record.specs.Outline.{wordAt}
+use Rattle.record.proofs.RisingLaws.{and-true}
 use Rattle.order.specs.Order.{isEqual, compareLists}
 use Rattle.order.proofs.SameLaws.{differ}
 use Rattle.want.specs.Listing.{isSame, blockWith}
-use Rattle.want.specs.Blocks.{blockHere}
+use Rattle.want.specs.Steps.Blocks.{blockHere}
 
 -- not of 32 bytes, or they end otherwise
 pub differ-end : (a b : List ℕ) → length a ≡ 32 → {r : Bool} → r ≡ (eqb (length b) 32 && eqb (getD a 31 0) (getD b 31 0)) → r ≡ false → false ≡ isEqual (compareLists a b)
@@ -27,10 +28,6 @@ and-false : (b : Bool) → false ≡ (b && false)
 and-false true = refl
 and-false false = refl
 
-and-true : (b : Bool) → b ≡ (b && true)
-and-true true = refl
-and-true false = refl
-
 module _ (s : List ℕ) (at : ℕ) {l : List ℕ} (k : l ≡ take 32 (drop (at + 8) s)) where
   pub hash-long : at + 40 ≤ length s → length l ≡ 32
   hash-long h = ap length k ∙ length-take-le 32 (drop (at + 8) s) (simp length-drop (omega arith))
@@ -43,4 +40,4 @@ module _ (s : List ℕ) (at : ℕ) {l : List ℕ} (k : l ≡ take 32 (drop (at +
     hash-differs e = rw (told e) (and-false (eqb (wordAt s at) size))
 
     pub hash-same : {n : ℕ} → true ≡ isEqual (compareLists l hash) → n ≡ wordAt s at → eqb n size ≡ isSame (blockHere s at) (blockWith size hash)
-    hash-same {n} e g = ap (λ (m : ℕ). eqb m size) g ∙ rw (told e) (and-true (eqb (wordAt s at) size))
+    hash-same {n} e g = ap (λ (m : ℕ). eqb m size) g ∙ rw (told e) (sym (and-true (eqb (wordAt s at) size)))

@@ -8,10 +8,10 @@ use native.Mathlib.Omega.{arith}
 use lib.ListN.{length, getD, List·getD-map}
 use Rattle.record.specs.File.{File}
 use Rattle.order.specs.Order.{isEqual, compareLists}
-use Rattle.order.proofs.OrderLaws.{Below, turned, compare-turned, same-equal}
+use Rattle.order.proofs.OrderLaws.{Below, reversed, compare-reversed, same-equal}
 use Rattle.record.proofs.RisingLaws.{Above, Rising, rising-test}
 use Rattle.merge.specs.Merged.{mergedOf}
-use Rattle.merge.specs.Highest.{joined, AtLeast, Topped, Highest}
+use Rattle.merge.specs.Highest.{joined, AtLeast, Covered, Highest}
 use Rattle.merge.proofs.HighestLaws.{_∈_, above-all, AllOK, merged-highest, highest-same}
 use Rattle.merge.proofs.MergeLaws.{merged-rising}
 
@@ -26,7 +26,7 @@ without w [] = []
 without w (f ∷ fs) = cond (isEqual (compareLists (f .name) (w .name))) fs (f ∷ fs)
 
 pub above-test : (m n : List ℕ) → Below m n → isEqual (compareLists n m) ≡ false
-above-test m n b = ap isEqual (compare-turned m n ∙ ap turned b)
+above-test m n b = ap isEqual (compare-reversed m n ∙ ap reversed b)
 
 pub same-test : (m n : List ℕ) → m ≡ n → isEqual (compareLists n m) ≡ true
 same-test m n e = rw e (ap isEqual (same-equal n))
@@ -132,19 +132,19 @@ module _ {ls : List (List File)} {w : File} (h : Heading ls w) where
       record {
         rising = rising-test (w ∷ mergedOf rest) (heads-rest (mergedOf rest) (λ g i. left-above g (m .from g i)), merged-rising rest);
         from = λ g i. ⊎-elim (λ e. subst (λ (x : File). x ∈ joined ls) (sym e) head-in) (λ k. left-in g (m .from g k)) (List·Memᴰ·cases-cons i);
-        tops = λ g i. tops g (in-joined ls g i);
+        covers = λ g i. tops g (in-joined ls g i);
       }
     where
-      tops : (g : File) → Within ls g → Topped (w ∷ mergedOf (map (without w) ls)) g
+      tops : (g : File) → Within ls g → Covered (w ∷ mergedOf (map (without w) ls)) g
       tops g i = go (rest-or w (getD ls (i .number) []) (h .leads (i .number) (i .small)) g (i .there))
         where
-          go : (g ∈ without w (getD ls (i .number) [])) ⊎ ((w .name ≡ g .name) × AtLeast w g) → Topped (w ∷ mergedOf (map (without w) ls)) g
+          go : (g ∈ without w (getD ls (i .number) [])) ⊎ ((w .name ≡ g .name) × AtLeast w g) → Covered (w ∷ mergedOf (map (without w) ls)) g
           go (inl k) =
               let small : i .number < length (map (without w) ls) = omega (arith, i .small, length-map (without w) ls) in
               let there : g ∈ getD (map (without w) ls) (i .number) [] = subst (λ (l : List File). g ∈ l) (sym (left-of w ls (i .number))) k in
-              let t = merged-highest (map (without w) ls) .tops g (joined-in (map (without w) ls) (i .number) g small there) in
-              record { top = t .top; within = List·Memᴰ·tail (t .within); named = t .named; high = t .high }
-          go (inr e) = record { top = w; within = List·Memᴰ·head refl; named = e .0; high = e .1 }
+              let t = merged-highest (map (without w) ls) .covers g (joined-in (map (without w) ls) (i .number) g small there) in
+              record { cover = t .cover; within = List·Memᴰ·tail (t .within); named = t .named; high = t .high }
+          go (inr e) = record { cover = w; within = List·Memᴰ·head refl; named = e .0; high = e .1 }
 
   pub merged-next : mergedOf ls ≡ w ∷ mergedOf (map (without w) ls)
   merged-next = highest-same (joined ls) (joined ls) (mergedOf ls) (w ∷ mergedOf (map (without w) ls)) (h .ok) (merged-highest ls) highest (λ f m. m) (λ f m. m)

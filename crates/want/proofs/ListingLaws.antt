@@ -10,7 +10,7 @@ use Rattle.xdr.proofs.Parts.{Elements}
 use Rattle.record.specs.Block.{Block, block}
 use Rattle.record.specs.File.{File}
 use Rattle.record.specs.Outline.{wordAt, outlineOf, fieldsOf, blockPlace, blockOf}
-use Rattle.record.specs.declared.outline.Fields.{Fields}
+use Rattle.record.specs.declared.outline.RecordFields.{RecordFields}
 use Rattle.record.specs.declared.outline.Outline.{Outline}
 use Rattle.record.specs.declared.outline.Outline.the-variants as O
 use Rattle.record.specs.declared.outline.BlockOutline.{BlockOutline}
@@ -18,10 +18,10 @@ use Rattle.record.specs.declared.outline.BlockOutline.the-variants as B
 use Rattle.record.proofs.OutlineLaws.{block-whole}
 use Rattle.record.proofs.BlockLaws.{nth-block}
 use Rattle.record.proofs.FileLaws.{encoding-parts}
-use Rattle.table.specs.Standing.{bytesOf, At}
+use Rattle.table.specs.Steps.Standing.{bytesOf, At}
 use Rattle.table.proofs.WalkLaws.{at-end, standing}
 use Rattle.want.specs.Listing.{isCurrent, listed}
-use Rattle.want.specs.Blocks.{blockHere, blocksFrom, listedCount}
+use Rattle.want.specs.Steps.Blocks.{blockHere, blocksFrom, listedCount}
 
 -- the Length of a block that is there, by the answer that was given
 
@@ -53,7 +53,7 @@ listed-few true n = omega arith
 listed-few false n = omega arith
 
 -- the record at the front of those that are left, by its outline
-pub record Heads (t : List ℕ) (at : ℕ) (l : List File) (f : Fields) : Type 0 where
+pub record Heads (t : List ℕ) (at : ℕ) (l : List File) (f : RecordFields) : Type 0 where
   pub head : File
   pub tail : List File
   pub is : l ≡ head ∷ tail
@@ -61,7 +61,7 @@ pub record Heads (t : List ℕ) (at : ℕ) (l : List File) (f : Fields) : Type 0
   pub here : At t at (head ∷ tail)
 
 module _ {t : List ℕ} {at : ℕ} where
-  pub heads : (l : List File) {x : Outline} {f : Fields} → At t at l → x ≡ outlineOf t at → x ≡ O.Whole f → Heads t at l f
+  pub heads : (l : List File) {x : Outline} {f : RecordFields} → At t at l → x ≡ outlineOf t at → x ≡ O.Whole f → Heads t at l f
   heads [] {x} {f} w e g = let same : O.Short ≡ O.Whole f = sym (at-end w) ∙ sym e ∙ g in let z : _≡_ {A = ℕ} 0 1 = cc in absurd (omega arith)
   heads (h ∷ hs) {x} {f} w e g =
       let same : O.Whole (fieldsOf at h) ≡ O.Whole f = sym (standing w .outline-is) ∙ sym e ∙ g in

@@ -1,40 +1,30 @@
--- What the request list does, by the checks of the tables and the room.
-use Prim.Native.Nat.{ℕ, _*_, _≤_, _<_}
+-- What the request list does, by the checks of the tables.
+use Prim.Native.Nat.{ℕ, _*_}
 use mathlib.Core.List.{List, [], _∷_}
 use mathlib.Core.Path.{_≡_, refl, sym, ap, _∙_}
-use mathlib.Core.Bool.{Bool, true, false, _&&_}
-use borrow.Author.Tests.{le-leb, lt-leb}
+use mathlib.Core.Bool.{Bool, true, false}
 use lib.ListN.{length}
 use Rattle.xdr.specs.Number.{IsBytes}
+use Rattle.xdr.specs.Filling.{gives, refuses}
 use Rattle.table.specs.Table.{isGood, allGood}
-use Rattle.table.specs.Filling.{accepted, refused}
 use Rattle.record.proofs.RisingLaws.{both-true}
 use Rattle.want.specs.Wanted.{listBytes, requestOutcome}
-use Rattle.want.specs.Places.{tableAt, Five, listOf}
+use Rattle.want.specs.Steps.Places.{tableAt, Five, listOf}
 use Rattle.want.proofs.SideLaws.{by-five}
 use Rattle.want.proofs.EntryLaws.{bytes-length}
 
-pub and-true : (b : Bool) → (b && true) ≡ b
-and-true true = refl
-and-true false = refl
-
-module _ (local : List ℕ) (peers : List (List ℕ)) (room : ℕ) where
-  pub request-bad : {b : Bool} → b ≡ allGood (local ∷ peers) → b ≡ false → requestOutcome local peers room ≡ refused 15 0
+module _ (local : List ℕ) (peers : List (List ℕ)) {b : Bool} (e : b ≡ allGood (local ∷ peers)) where
+  pub request-bad : b ≡ false → requestOutcome local peers ≡ refuses 15 0
   unfolding requestOutcome
-  request-bad e f = rw (sym e ∙ f) refl
+  request-bad f = rw (sym e ∙ f) refl
 
-  module _ {b : Bool} {n : ℕ} (e : b ≡ allGood (local ∷ peers)) (f : b ≡ true) (k : n ≡ length (listOf (local ∷ peers))) where
-    -- how many bytes it has
-    pub request-size : n * 24 ≡ length (listBytes (listOf (local ∷ peers)))
-    request-size = ap (λ (m : ℕ). m * 24) k ∙ sym (bytes-length (listOf (local ∷ peers)))
+  pub request-good : b ≡ true → requestOutcome local peers ≡ gives (listBytes (listOf (local ∷ peers)))
+  unfolding requestOutcome
+  request-good f = rw (sym e ∙ f) refl
 
-    pub request-tight : room < n * 24 → requestOutcome local peers room ≡ refused 14 0
-    unfolding requestOutcome
-    request-tight h = rw (sym e ∙ f, lt-leb (length (listBytes (listOf (local ∷ peers)))) room (rw (← request-size) h)) refl
-
-    pub request-room : n * 24 ≤ room → requestOutcome local peers room ≡ accepted (listBytes (listOf (local ∷ peers)))
-    unfolding requestOutcome
-    request-room h = rw (sym e ∙ f, le-leb (length (listBytes (listOf (local ∷ peers)))) room (rw (← request-size) h)) refl
+-- how many bytes a list has
+pub request-size : (ts : List (List ℕ)) {n : ℕ} → n ≡ length (listOf ts) → n * 24 ≡ length (listBytes (listOf ts))
+request-size ts k = ap (λ (m : ℕ). m * 24) k ∙ sym (bytes-length (listOf ts))
 
 -- five good tables
 pub five-good : (a b c d e : List ℕ) {t : Bool} → IsBytes a → IsBytes b → IsBytes c → IsBytes d → IsBytes e → t ≡ allGood (a ∷ b ∷ c ∷ d ∷ e ∷ []) → t ≡ true → Five (a ∷ b ∷ c ∷ d ∷ e ∷ [])

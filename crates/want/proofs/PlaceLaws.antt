@@ -6,8 +6,8 @@ use mathlib.Core.Bool.{Bool, true, false, cond}
 use native.Mathlib.Omega.{arith}
 use lib.ListN.{getD, List·getD-map}
 use Rattle.record.specs.Block.{Block}
-use Rattle.merge.specs.Next.{nextOf}
-use Rattle.want.specs.Places.{isFirst, tableAt, placeAt, lowerOf, lowestFrom, pastName, listsAt, peerAt}
+use Rattle.merge.specs.Steps.Next.{nextOf}
+use Rattle.want.specs.Steps.Places.{isFirst, tableAt, placeAt, lowerOf, lowestFrom, pastName, listsAt, peerAt}
 
 -- an element of the lent tables
 pub element : {A : Type 0} (f : A → List ℕ) (l : List A) (k : ℕ) (d : A) → f d ≡ [] → f (getD l k d) ≡ tableAt (map f l) k

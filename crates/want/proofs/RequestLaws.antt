@@ -16,7 +16,7 @@ use Rattle.record.proofs.RisingLaws.{Rising}
 use Rattle.merge.specs.Merged.{mergedOf}
 use Rattle.merge.proofs.HighestLaws.{_∈_, above-all, merged-highest}
 use Rattle.want.specs.Listing.{isSame, listed, hasBlock, isHeld, hasThere, listsThere}
-use Rattle.want.specs.Wanted.{peerFrom, wantedBlock, wantedBlocks, wantedFiles, requestList, Earlier, InOrder}
+use Rattle.want.specs.Wanted.{peerFrom, wantedBlock, wantedBlocks, wantedFiles, requestList, Earlier, Ordered}
 use Rattle.want.specs.declared.list.Wanted.{Wanted}
 use Rattle.want.proofs.HeadLaws.{Within, in-joined}
 
@@ -156,7 +156,7 @@ module _ (local : List File) (peers : List (List File)) where
 
 -- the order: by name, which the file numbers count, then by block
 
-order-append : (a b : List Wanted) → InOrder a → InOrder b → ((v w : Wanted) → List·Memᴰ v a → List·Memᴰ w b → Earlier v w) → InOrder (a ++ b)
+order-append : (a b : List Wanted) → Ordered a → Ordered b → ((v w : Wanted) → List·Memᴰ v a → List·Memᴰ w b → Earlier v w) → Ordered (a ++ b)
 order-append [] b p q h = q
 order-append (v ∷ a) b p q h = (
   λ w m. ⊎-elim (λ k. p .0 w k) (λ k. h v w (List·Memᴰ·head refl) k) (List·Memᴰ·append-cases a m),
@@ -164,17 +164,17 @@ order-append (v ∷ a) b p q h = (
 )
 
 module _ (local : List File) (peers : List (List File)) where
-  block-order : (peer : ℕ → Block → ℕ) (file j offset : ℕ) (b : Block) → InOrder (wantedBlock local peer file j offset b)
+  block-order : (peer : ℕ → Block → ℕ) (file j offset : ℕ) (b : Block) → Ordered (wantedBlock local peer file j offset b)
   block-order peer file j offset b = go (isHeld local b)
     where
       w : Wanted
       w = record { file = file; block = j; offset = offset; size = b .size; peer = peer offset b }
 
-      go : (v : Bool) → InOrder (cond v [] (w ∷ []))
+      go : (v : Bool) → Ordered (cond v [] (w ∷ []))
       go true = tt
       go false = (λ v m. absurd (List·Memᴰ·not-nil m), tt)
 
-  blocks-order : (peer : ℕ → Block → ℕ) (file j offset : ℕ) (l : List Block) → InOrder (wantedBlocks local peer file j offset l)
+  blocks-order : (peer : ℕ → Block → ℕ) (file j offset : ℕ) (l : List Block) → Ordered (wantedBlocks local peer file j offset l)
   blocks-order peer file j offset [] = tt
   blocks-order peer file j offset (b ∷ l) =
       order-append (wantedBlock local peer file j offset b) (wantedBlocks local peer file (j + 1) (offset + b .size) l) (block-order peer file j offset b) (blocks-order peer file (j + 1) (offset + b .size) l)
@@ -183,13 +183,13 @@ module _ (local : List File) (peers : List (List File)) where
       let e = entry-of local peer file l (j + 1) (offset + b .size) w n in
       inr (ap (λ (x : Wanted). x .file) p ∙ sym (e .file-is), omega (arith, ap (λ (x : Wanted). x .block) p, e .block-is)))
 
-  files-order : (file : ℕ) (fs : List File) → InOrder (wantedFiles local peers file fs)
+  files-order : (file : ℕ) (fs : List File) → Ordered (wantedFiles local peers file fs)
   files-order file [] = tt
   files-order file (f ∷ fs) =
       order-append (wantedBlocks local (peerFrom 1 peers (f .name)) file 0 0 (listed f)) (wantedFiles local peers (file + 1) fs) (blocks-order (peerFrom 1 peers (f .name)) file 0 0 (listed f)) (files-order (file + 1) fs)
       (λ v w m n. inl (omega (arith, entry-of local (peerFrom 1 peers (f .name)) file (listed f) 0 0 v m .file-is, asked-of local peers fs (file + 1) w n .entry .file-is)))
 
-  pub request-order : InOrder (requestList local peers)
+  pub request-order : Ordered (requestList local peers)
   unfolding requestList
   request-order = files-order 0 (mergedOf (local ∷ peers))
 

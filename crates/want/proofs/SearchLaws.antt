@@ -9,15 +9,15 @@ use Rattle.xdr.specs.Number.{IsBytes}
 use Rattle.record.specs.Block.{Block}
 use Rattle.record.specs.File.{File}
 use Rattle.record.specs.Outline.{outlineOf, fieldsOf, blockPlace}
-use Rattle.record.specs.declared.outline.Fields.{Fields}
+use Rattle.record.specs.declared.outline.RecordFields.{RecordFields}
 use Rattle.record.specs.declared.outline.Outline.{Outline}
 use Rattle.record.specs.declared.outline.Outline.the-variants as O
 use Rattle.table.specs.Table.{isGood, records}
 use Rattle.table.proofs.TableLaws.{good-table}
-use Rattle.table.specs.Standing.{At}
+use Rattle.table.specs.Steps.Standing.{At}
 use Rattle.table.proofs.WalkLaws.{at-start, standing}
 use Rattle.want.specs.Listing.{isSame, listed, hasBlock, isHeld}
-use Rattle.want.specs.Blocks.{blockHere, blocksFrom, listedCount}
+use Rattle.want.specs.Steps.Blocks.{blockHere, blocksFrom, listedCount}
 use Rattle.want.specs.Found.{foundAmong, foundFrom, foundIn}
 use Rattle.want.specs.declared.search.Found.{Found}
 use Rattle.want.specs.declared.search.Found.the-variants as F
@@ -32,7 +32,7 @@ pub record Searched (t : List ℕ) (b : Block) (at n : ℕ) : Type 0 where
   pub short : length t ≤ 65536
 
 -- before block j of record n
-pub record Searching (t : List ℕ) (b : Block) (at n : ℕ) (f : Fields) (count first j : ℕ) : Type 0 where
+pub record Searching (t : List ℕ) (b : Block) (at n : ℕ) (f : RecordFields) (count first j : ℕ) : Type 0 where
   pub head : File
   pub tail : List File
   pub here : At t at (head ∷ tail)
@@ -51,10 +51,10 @@ module _ {t : List ℕ} {b : Block} {at n : ℕ} (w : Searched t b at n) where
   search-ends e g = sym (w .same ∙ ap (λ (l : List File). foundFrom n l b) (none-here (w .left) (w .here) e g))
 
   -- the blocks of the next one
-  pub search-opens : {x : Outline} {f : Fields} {count : ℕ} → x ≡ outlineOf t at → x ≡ O.Whole f → count ≡ listedCount f → Searching t b at n f count (f .first) 0
+  pub search-opens : {x : Outline} {f : RecordFields} {count : ℕ} → x ≡ outlineOf t at → x ≡ O.Whole f → count ≡ listedCount f → Searching t b at n f count (f .first) 0
   search-opens {x} {f} {count} e g k =
       let h = heads (w .left) (w .here) e g in
-      let first : f .first ≡ fieldsOf at (h .head) .first = ap (λ (y : Fields). y .first) (h .fields-are) in
+      let first : f .first ≡ fieldsOf at (h .head) .first = ap (λ (y : RecordFields). y .first) (h .fields-are) in
       let all : count - 0 ≡ count = omega arith in
       let many : count - 0 ≡ listedCount (fieldsOf at (h .head)) = all ∙ k ∙ ap listedCount (h .fields-are) in
       let blocks : blocksFrom t (f .first) 0 (count - 0) ≡ listed (h .head) =
@@ -73,7 +73,7 @@ module _ {t : List ℕ} {b : Block} {at n : ℕ} (w : Searched t b at n) where
         short = w .short;
       }
 
-module _ {t : List ℕ} {b : Block} {at n : ℕ} {f : Fields} {count first j : ℕ} (w : Searching t b at n f count first j) where
+module _ {t : List ℕ} {b : Block} {at n : ℕ} {f : RecordFields} {count first j : ℕ} (w : Searching t b at n f count first j) where
   -- block j is next
   next-block : j < count → foundFrom 0 (records t) b ≡ cond (isSame (blockHere t (blockPlace first j)) b) (F.At n j) (foundAmong n (j + 1) (blocksFrom t first (j + 1) (count - (j + 1))) b (foundFrom (n + 1) (w .tail) b))
   next-block h =
@@ -100,15 +100,15 @@ module _ {t : List ℕ} {b : Block} {at n : ℕ} {f : Fields} {count first j : �
       }
 
   pub grows : at + 1 ≤ f .past
-  grows = omega (arith, ap (λ (y : Fields). y .past) (w .fields-are))
+  grows = omega (arith, ap (λ (y : RecordFields). y .past) (w .fields-are))
 
   pub inside : f .past ≤ length t
-  inside = omega (arith, ap (λ (y : Fields). y .past) (w .fields-are), standing (w .here) .next .inside)
+  inside = omega (arith, ap (λ (y : RecordFields). y .past) (w .fields-are), standing (w .here) .next .inside)
 
   -- none of its blocks is the one
   pub search-closes : count ≤ j → Searched t b (f .past) (n + 1)
   search-closes h =
-      let past : f .past ≡ fieldsOf at (w .head) .past = ap (λ (y : Fields). y .past) (w .fields-are) in
+      let past : f .past ≡ fieldsOf at (w .head) .past = ap (λ (y : RecordFields). y .past) (w .fields-are) in
       let none : count - j ≡ 0 = omega arith in
       record {
         left = w .tail;

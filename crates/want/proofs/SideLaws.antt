@@ -11,7 +11,7 @@ use Rattle.xdr.specs.Format.{read}
 use Rattle.record.specs.Block.{Block}
 use Rattle.record.specs.File.{File}
 use Rattle.record.specs.Outline.{outlineOf, fieldsOf}
-use Rattle.record.specs.declared.outline.Fields.{Fields}
+use Rattle.record.specs.declared.outline.RecordFields.{RecordFields}
 use Rattle.record.specs.declared.outline.Outline.{Outline}
 use Rattle.record.specs.declared.outline.Outline.the-variants as O
 use Rattle.order.specs.Order.{isEqual, compareLists, part}
@@ -19,16 +19,16 @@ use Rattle.table.specs.Table.{records}
 use Rattle.order.proofs.OrderLaws.{Below, below-trans}
 use Rattle.record.proofs.RisingLaws.{Above, Rising}
 use Rattle.table.proofs.TableLaws.{good-table}
-use Rattle.table.specs.Standing.{At}
+use Rattle.table.specs.Steps.Standing.{At}
 use Rattle.table.proofs.WalkLaws.{at-start, at-end, standing}
 use Rattle.merge.specs.Merged.{mergedOf}
 use Rattle.merge.specs.Highest.{joined}
 use Rattle.merge.proofs.HighestLaws.{_∈_, AllOK, merged-highest}
 use Rattle.merge.proofs.MergeLaws.{all-ok}
 use Rattle.want.specs.Listing.{listed, isCurrent, hasThere, listsThere}
-use Rattle.want.specs.Blocks.{blocksFrom, listedCount}
+use Rattle.want.specs.Steps.Blocks.{blocksFrom, listedCount}
 use Rattle.want.specs.Wanted.{peerFrom}
-use Rattle.want.specs.Places.{tableAt, placeAt, lowestFrom, pastName, listsAt, peerAt, Five}
+use Rattle.want.specs.Steps.Places.{tableAt, placeAt, lowestFrom, pastName, listsAt, peerAt, Five}
 use Rattle.want.proofs.ListingLaws.{listed-few, heads, none-here, listed-blocks, listed-within}
 use Rattle.want.proofs.ThereLaws.{past-none, past-by, lists-none, lists-by}
 use Rattle.want.proofs.PlaceLaws.{peer-next, peer-none}
@@ -153,7 +153,7 @@ walk-starts ts g =
     }
 
 -- the record at the place of the lowest table, by its outline
-pub record Turn (ts : List (List ℕ)) (ps : List ℕ) (ls : List (List File)) (k : ℕ) (t : List ℕ) (f : Fields) : Type 0 where
+pub record Turn (ts : List (List ℕ)) (ps : List ℕ) (ls : List (List File)) (k : ℕ) (t : List ℕ) (f : RecordFields) : Type 0 where
   pub small : k < 5
   pub table-is : t ≡ tableAt ts k
   pub head : File
@@ -179,7 +179,7 @@ module _ {ts : List (List ℕ)} {ps : List ℕ} {ls : List (List File)} (w : Wal
     stands : At t (placeAt ps k) (getD ls k [])
     stands = subst (λ (l : List ℕ). At l (placeAt ps k) (getD ls k [])) (sym z) (w .here k (lead e .small))
 
-    pub turn : {f : Fields} → x ≡ O.Whole f → Turn ts ps ls k t f
+    pub turn : {f : RecordFields} → x ≡ O.Whole f → Turn ts ps ls k t f
     turn {f} g =
         let h = heads (getD ls k []) stands y g in
         record {
@@ -213,7 +213,7 @@ module _ {ts : List (List ℕ)} {ps : List ℕ} {ls : List (List File)} (w : Wal
             let i = in-joined ls f (from f (List·Memᴰ·head refl)) in
             absurd (List·Memᴰ·not-nil (subst (λ (l : List File). f ∈ l) (none (i .number) (omega (arith, i .small, w .many))) (i .there)))
 
-  module _ {k : ℕ} {t : List ℕ} {f : Fields} (u : Turn ts ps ls k t f) where
+  module _ {k : ℕ} {t : List ℕ} {f : RecordFields} (u : Turn ts ps ls k t f) where
     pub turn-merges : mergedOf ls ≡ u .head ∷ mergedOf (map (without (u .head)) ls)
     turn-merges = merged-next (u .heading)
 
@@ -252,7 +252,7 @@ module _ {ts : List (List ℕ)} {ps : List ℕ} {ls : List (List File)} (w : Wal
         (omega (arith, ap (λ (q : List ℕ). placeAt q k) e, place-after ts ps (u .head .name) k (u .small), head-past, past-enough))
       where
         head-past : pastName (u .head .name) (tableAt ts k) (placeAt ps k) ≡ f .past
-        head-past = ap (λ (l : List ℕ). pastName (u .head .name) l (placeAt ps k)) (sym (u .table-is)) ∙ past-head (u .head) (u .tail) (u .here) ∙ sym (ap (λ (g : Fields). g .past) (u .fields-are))
+        head-past = ap (λ (l : List ℕ). pastName (u .head .name) l (placeAt ps k)) (sym (u .table-is)) ∙ past-head (u .head) (u .tail) (u .here) ∙ sym (ap (λ (g : RecordFields). g .past) (u .fields-are))
 
         past-enough : placeAt ps k + (listedCount f + 1) ≤ f .past
         past-enough = rw (u .fields-are) (omega (arith, listed-few (isCurrent (u .head .flags)) (length (u .head .blocks))))

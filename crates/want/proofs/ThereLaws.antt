@@ -9,14 +9,14 @@ use lib.ListN.{length}
 use lib.Dec.{leb, eqb}
 use Rattle.record.specs.Block.{Block}
 use Rattle.record.specs.Outline.{wordAt, blocksSize, outlineFrom, outlineOf, outlined, blockPlace}
-use Rattle.record.specs.declared.outline.Fields.{Fields}
+use Rattle.record.specs.declared.outline.RecordFields.{RecordFields}
 use Rattle.record.specs.declared.outline.Outline.{Outline}
 use Rattle.record.specs.declared.outline.Outline.the-variants as O
 use Rattle.order.specs.Order.{isEqual, compareLists, part}
 use Rattle.order.specs.declared.compare.Order.{Order}
 use Rattle.want.specs.Listing.{isCurrent, isSame, hasThere}
-use Rattle.want.specs.Blocks.{blockHere, blocksFrom, listedCount}
-use Rattle.want.specs.Places.{pastBy, pastName, listsBy, listsAt}
+use Rattle.want.specs.Steps.Blocks.{blockHere, blocksFrom, listedCount}
+use Rattle.want.specs.Steps.Places.{pastBy, pastName, listsBy, listsAt}
 use Rattle.want.proofs.ListingLaws.{listed-few}
 
 -- at offset `from`, before block j: what is asked of all blocks is asked of those left
@@ -63,17 +63,17 @@ module _ {s : List ℕ} {first count offset : ℕ} {b : Block} {from j : ℕ} (w
 
 -- the blocks of an outline are within the bytes
 
-whole-by : (t : Bool) (f g : Fields) → cond t (O.Whole g) O.Short ≡ O.Whole f → (t ≡ true) × (g ≡ f)
+whole-by : (t : Bool) (f g : RecordFields) → cond t (O.Whole g) O.Short ≡ O.Whole f → (t ≡ true) × (g ≡ f)
 whole-by true f g e = (refl, cc)
 whole-by false f g e = let z : _≡_ {A = ℕ} 0 1 = cc in absurd (omega arith)
 
-inside-by : (s : List ℕ) (f g : Fields) → g .past ≡ g .first + blocksSize (g .blocks) → outlined s g ≡ O.Whole f → f .first + blocksSize (f .blocks) ≤ length s
+inside-by : (s : List ℕ) (f g : RecordFields) → g .past ≡ g .first + blocksSize (g .blocks) → outlined s g ≡ O.Whole f → f .first + blocksSize (f .blocks) ≤ length s
 inside-by s f g p e =
     let q = whole-by (leb (g .past) (length s)) f g e in
     let h = leb-true (g .past) (length s) (q .0) in
     rw (← q .1) (omega (arith, p))
 
-pub outline-inside : (s : List ℕ) (at : ℕ) (f : Fields) {x : Outline} → x ≡ outlineOf s at → x ≡ O.Whole f → f .first + blocksSize (listedCount f) ≤ length s
+pub outline-inside : (s : List ℕ) (at : ℕ) (f : RecordFields) {x : Outline} → x ≡ outlineOf s at → x ≡ O.Whole f → f .first + blocksSize (listedCount f) ≤ length s
 unfolding outlineOf outlineFrom
 outline-inside s at f e g = omega (arith, inside-by s f _ refl (sym e ∙ g), listed-few (isCurrent (f .flags)) (f .blocks))
 
@@ -88,7 +88,7 @@ module _ (name t : List ℕ) (at : ℕ) {x : Outline} (e : x ≡ outlineOf t at)
   unfolding listsAt
   lists-none offset b g = ap (listsBy t name offset b) (sym g ∙ e)
 
-  module _ {f : Fields} {p : List ℕ} {o : Order} {r : Bool} (g : x ≡ O.Whole f) (k : p ≡ part t (f .name) (f .stop)) (c : o ≡ compareLists p name) (q : r ≡ isEqual o) where
+  module _ {f : RecordFields} {p : List ℕ} {o : Order} {r : Bool} (g : x ≡ O.Whole f) (k : p ≡ part t (f .name) (f .stop)) (c : o ≡ compareLists p name) (q : r ≡ isEqual o) where
     name-test : r ≡ isEqual (compareLists (part t (f .name) (f .stop)) name)
     name-test = q ∙ ap isEqual (c ∙ ap (λ (l : List ℕ). compareLists l name) k)
 

@@ -1,5 +1,4 @@
 pub mod Listing
 pub mod Found
-pub mod Blocks
 pub mod Wanted
-pub mod Places
+pub mod Steps

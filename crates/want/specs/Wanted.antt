@@ -4,14 +4,12 @@ use mathlib.Core.List.{List, [], _∷_, _++_, map, List·Memᴰ}
 use mathlib.Core.Path.{_≡_}
 use mathlib.Core.Logic.{_⊎_}
 use mathlib.Core.Bool.{cond}
-use lib.ListN.{length}
-use lib.Dec.{leb}
 use Rattle.xdr.specs.Format.{encode, encodeAll}
 use Rattle.xdr.specs.Fields.{word, hyper}
+use Rattle.xdr.specs.Filling.{Outcome, gives, refuses}
 use Rattle.record.specs.Block.{Block}
 use Rattle.record.specs.File.{File}
 use Rattle.table.specs.Table.{allGood, records}
-use Rattle.table.specs.Filling.{Outcome, accepted, refused}
 use Rattle.merge.specs.Merged.{mergedOf}
 use Rattle.want.specs.Listing.{listed, isHeld, listsThere}
 use Rattle.want.specs.declared.list.Wanted.{Wanted}
@@ -45,9 +43,9 @@ abbrev pub Earlier : Wanted → Wanted → Type 0
 Earlier v w = (v .file < w .file) ⊎ ((v .file ≡ w .file) × (v .block < w .block))
 
 -- each entry is earlier than all after it
-abbrev pub InOrder : List Wanted → Type 0
-InOrder [] = Unit {0}
-InOrder (w ∷ ws) = ((v : Wanted) → List·Memᴰ v ws → Earlier w v) × InOrder ws
+abbrev pub Ordered : List Wanted → Type 0
+Ordered [] = Unit {0}
+Ordered (w ∷ ws) = ((v : Wanted) → List·Memᴰ v ws → Earlier w v) × Ordered ws
 
 -- 24 bytes a block
 abbrev pub wantedBytes : Wanted → List ℕ
@@ -57,10 +55,6 @@ wantedBytes w = encode word (w .file) ++ encode word (w .block) ++ encode hyper 
 abbrev pub listBytes : List Wanted → List ℕ
 listBytes l = encodeAll wantedBytes l
 
--- the list into a buffer that has room for it, or 14
-abbrev pub listInto : List ℕ → (room : ℕ) → Outcome
-listInto l room = cond (leb (length l) room) (accepted l) (refused 14 0)
-
--- the request list: each table is good, in turn (15), then the room (14)
-unfoldable pub requestOutcome : (local : List ℕ) → (peers : List (List ℕ)) → (room : ℕ) → Outcome
-requestOutcome local peers room = cond (allGood (local ∷ peers)) (listInto (listBytes (requestList (records local) (map records peers))) room) (refused 15 0)
+-- each table is good, in turn (15), and then the list
+unfoldable pub requestOutcome : (local : List ℕ) → (peers : List (List ℕ)) → Outcome
+requestOutcome local peers = cond (allGood (local ∷ peers)) (gives (listBytes (requestList (records local) (map records peers)))) (refuses 15 0)

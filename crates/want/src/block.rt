@@ -6,9 +6,9 @@ ghost use Prim.Native.Nat.{_+_, _≤_};
 ghost use lib.ListN.{length, getD, take, drop};
 ghost use Rattle.record.specs.Outline.{wordAt, blocksSize, blockPlace};
 ghost use Rattle.want.specs.Listing.{isCurrent, isSame, hasThere, blockWith};
-ghost use Rattle.want.specs.Blocks.{blockHere, blocksFrom, listedCount};
+ghost use Rattle.want.specs.Steps.Blocks.{blockHere, blocksFrom, listedCount};
 use record::BlockOutline;
-use record::Fields;
+use record::RecordFields;
 
 // Valid and undeleted.
 fn is_current(flags: u32) -> bool
@@ -21,7 +21,7 @@ fn is_current(flags: u32) -> bool
 }
 
 // How many blocks a record lists: none where it is invalid or deleted.
-pub fn listed(f: Fields) -> u32
+pub fn listed(f: RecordFields) -> u32
     ensures { λ r. ⌜ r ≡ listedCount f ⌝ }
 {
     if is_current(f.flags) {
@@ -35,7 +35,7 @@ pub(crate) fn block_size(s: &[u8], first: usize, j: u32) -> u32
     requires { ⌜ blockPlace first j + 40 ≤ length (now s) ⌝ }
     ensures { λ r. ⌜ r ≡ wordAt (now (s .entry)) (blockPlace first j) ⌝ }
 {
-    let BlockOutline::Whole(size, _) = record::block_at(s, first, j) else {
+    let BlockOutline::Whole { size, hash: _ } = record::block_at(s, first, j) else {
         return 0;
     };
     size

@@ -2,9 +2,9 @@
 ghost use mathlib.Core.Path.{_≡_};
 ghost use mathlib.Core.List.{[], _∷_, map};
 ghost use Prim.Native.Nat.{_<_};
-ghost use Rattle.merge.specs.Next.{nextOf};
+ghost use Rattle.merge.specs.Steps.Next.{nextOf};
 ghost use Rattle.want.specs.Listing.{blockWith};
-ghost use Rattle.want.specs.Places.{isFirst, tableAt, placeAt, lowerOf, lowestFrom, pastName, listsAt, peerAt};
+ghost use Rattle.want.specs.Steps.Places.{isFirst, tableAt, placeAt, lowerOf, lowestFrom, pastName, listsAt, peerAt};
 use crate::block::has_there;
 use crate::block::listed;
 use merge::next::Next;

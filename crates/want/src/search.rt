@@ -11,7 +11,7 @@ use xdr::Refusal;
 
 // The numbers of a record and of its block, or that there is none, or a refusal.
 pub enum Found {
-    At(u32, u32),
+    At { record: u32, block: u32 },
     Nothing,
     Refused(Refusal),
 }
@@ -40,7 +40,10 @@ fn search(table: &[u8], size: u32, hash: &[u8]) -> Found
         at = f.past;
         n += 1;
     }
-    Found::At(n, j)
+    Found::At {
+        record: n,
+        block: j,
+    }
 }
 
 // Whether a valid, undeleted record of a good table lists a block.
@@ -49,7 +52,10 @@ pub(crate) fn is_held(table: &[u8], size: u32, hash: &[u8]) -> bool
     ensures { λ r. ⌜ r ≡ isHeld (records (now (table .entry))) (blockWith size (now (hash .entry))) ⌝ }
 {
     match search(table, size, hash) {
-        Found::At(_, _) => true,
+        Found::At {
+            record: _,
+            block: _,
+        } => true,
         Found::Nothing => false,
         Found::Refused(_) => false,
     }

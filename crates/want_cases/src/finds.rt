@@ -9,7 +9,10 @@ fn number(label: &[u8], n: u32) {
 
 fn answer(f: Found) {
     match f {
-        Found::At(n, j) => {
+        Found::At {
+            record: n,
+            block: j,
+        } => {
             number(b"record ", n);
             number(b" block ", j);
             lines::text(b"\n");

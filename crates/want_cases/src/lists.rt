@@ -1,6 +1,6 @@
 // Request lists.
 use crate::build;
-use table::Filling;
+use xdr::Filling;
 
 fn field(s: &[u8]) {
     lines::text(b" ");

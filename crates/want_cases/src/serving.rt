@@ -2,6 +2,7 @@
 use crate::build;
 use message::Span;
 use serve::Serving;
+use xdr::Filling;
 
 fn number(label: &[u8], n: u64) {
     lines::text(label);
@@ -21,18 +22,24 @@ fn buffer(out: &[u8]) {
     lines::text(b"\n");
 }
 
-// What is served or replied and the whole buffer, or the refusal and whether the buffer is as it was.
-fn answer(s: Serving, out: &[u8]) {
-    match s {
-        Serving::Served(name, offset, size) => {
-            served(name, offset, size);
-            buffer(out);
-        }
-        Serving::Replied(n) => {
+fn unserved(f: Filling, out: &[u8]) {
+    match f {
+        Filling::Filled(n) => {
             number(b": replied ", n as u64);
             buffer(out);
         }
-        Serving::Refused(r) => lines::refused(out, r),
+        Filling::Refused(r) => lines::refused(out, r),
+    }
+}
+
+// What is served or replied and the whole buffer, or the refusal and whether the buffer is as it was.
+fn answer(s: Serving, out: &[u8]) {
+    match s {
+        Serving::Served { name, offset, size } => {
+            served(name, offset, size);
+            buffer(out);
+        }
+        Serving::Unserved(f) => unserved(f, out),
     }
 }
 

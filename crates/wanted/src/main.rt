@@ -3,7 +3,7 @@
 mod file;
 mod print;
 
-use table::Filling;
+use xdr::Filling;
 
 fn main() {
     // one byte more than a table may have

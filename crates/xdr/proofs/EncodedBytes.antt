@@ -6,7 +6,7 @@ use native.Mathlib.Omega.{arith}
 use native.Mathlib.Nat.{mod-lt, pow-succ', div-lt-iff-lt-mul}
 use lib.ListN.{length, drop, replicate}
 use Rattle.xdr.specs.Number.{bigEndian, digits, IsBytes}
-use Rattle.xdr.specs.Format.{Format, nothing, number, bytes, array, pair, checked, via, encodeAll, encode, AllOf, Valid}
+use Rattle.xdr.specs.Format.{Format, nothing, number, bytes, array, pair, checkedAt, via, encodeAll, encode, AllOf, Valid}
 use Rattle.xdr.specs.Pad.{padded}
 use Rattle.xdr.proofs.NumberLaws.{power-positive, read-digits, digits-read, two-words}
 
@@ -53,5 +53,5 @@ encoded-bytes (array C F) l q i =
     (bytes-all (encode F) (Valid F) (λ a v j. encoded-bytes F a v j) l (q .1)) i
 encoded-bytes (pair F G) p q i =
     bytes-append (encode F (p .0)) (encode (G (p .0)) (p .1)) (λ j. encoded-bytes F (p .0) (q .0) j) (λ j. encoded-bytes (G (p .0)) (p .1) (q .1) j) i
-encoded-bytes (checked k test F) a q i = encoded-bytes F a (q .0) i
+encoded-bytes (checkedAt k test fault F) a q i = encoded-bytes F a (q .0) i
 encoded-bytes (via to from back forth F) b q i = encoded-bytes F (from b) q i

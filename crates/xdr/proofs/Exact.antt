@@ -9,9 +9,9 @@ use borrow.Author.Tests.{leb-true}
 use lib.ListN.{length, take, drop, getD, replicate, length-drop, length-take, List·getD-eq-default}
 use lib.Seq.{take-add, getD-take, length-take-le}
 use lib.Dec.{leb}
-use Rattle.xdr.specs.Reading.{Reading, taken, refused, shifted, mapped, fromStart, tested, andThen, many}
+use Rattle.xdr.specs.Reading.{Reading, taken, refused, shifted, mapped, relocated, tested, andThen, many}
 use Rattle.xdr.specs.Number.{bigEndian, IsBytes}
-use Rattle.xdr.specs.Format.{Format, nothing, number, bytes, array, pair, checked, via, contents, read, encodeAll, encode, AllOf, Valid}
+use Rattle.xdr.specs.Format.{Format, nothing, number, bytes, array, pair, checkedAt, via, padOf, contents, bytesPlace, read, encodeAll, encode, AllOf, Valid}
 use Rattle.xdr.specs.Pad.{padded, allZero}
 use Rattle.xdr.proofs.NumberLaws.{bytes-drop, digits-read}
 use Rattle.xdr.proofs.PadLaws.{zeros-are}
@@ -30,9 +30,9 @@ holds-mapped : {A B : Type 0} (R : A → List ℕ → Type 0) (T : B → List �
 holds-mapped R T g j s (taken a n) h = j a (take n s) h
 holds-mapped R T g j s (refused k p) h = tt
 
-holds-start : {A : Type 0} (R : A → List ℕ → Type 0) (s : List ℕ) (r : Reading A) → Holds R s r → Holds R s (fromStart r)
-holds-start R s (taken a n) h = h
-holds-start R s (refused k p) h = tt
+holds-relocated : {A : Type 0} (R : A → List ℕ → Type 0) (place : ℕ → ℕ → ℕ) (s : List ℕ) (r : Reading A) → Holds R s r → Holds R s (relocated place r)
+holds-relocated R place s (taken a n) h = h
+holds-relocated R place s (refused k p) h = tt
 
 holds-shifted : {A : Type 0} (S T : A → List ℕ → Type 0) (n : ℕ) (s : List ℕ)
     → ((a : A) (m : List ℕ) → S a m → T a (take n s ++ m)) → (r : Reading A) → Holds S (drop n s) r → Holds T s (shifted n r)
@@ -85,7 +85,7 @@ holds-cond R s true x k p h = h refl
 holds-cond R s false x k p h = tt
 
 exact-contents : (n : ℕ) (s : List ℕ) → IsBytes s → Holds (Padded n) s (contents n s)
-exact-contents n s b = holds-cond (Padded n) s (leb (padded n) (length s)) _ 1 0 λ e. holds-cond (Padded n) s (allZero (take (padded n - n) (drop n s))) _ 6 0 λ z.
+exact-contents n s b = holds-cond (Padded n) s (leb (padded n) (length s)) _ 1 0 λ e. holds-cond (Padded n) s (allZero (padOf n s)) _ 6 _ λ z.
     let room : padded n ≤ length s = leb-true (padded n) (length s) e in
     let pad : length (take (padded n - n) (drop n s)) ≡ padded n - n = length-take-le (padded n - n) (drop n s) (simp length-drop (omega arith)) in
     let same : take (padded n - n) (drop n s) ≡ replicate (padded n - n) 0 = zeros-are (take (padded n - n) (drop n s)) z ∙ ap (λ (k : ℕ). replicate k 0) pad in
@@ -96,12 +96,12 @@ exact-contents n s b = holds-cond (Padded n) s (leb (padded n) (length s)) _ 1 0
 abbrev Second : {A : Type 0} {B : A → Type 0} → ((a : A) → Format (B a)) → A → (a : A) × B a → List ℕ → Type 0
 Second {A} {B} G a c m = (y : B a) × (c ≡ (a, y)) × Stands (G a) y m
 
-exact-tested : {A : Type 0} (F : Format A) (k : ℕ) (test : A → Bool) (s : List ℕ) (r : Reading A)
-    → Holds (Stands F) s r → Holds (Stands (checked k test F)) s (tested k test r)
+exact-tested : {A : Type 0} (F : Format A) (k : ℕ) (test : A → Bool) (fault : A → ℕ) (s : List ℕ) (r : Reading A)
+    → Holds (Stands F) s r → Holds (Stands (checkedAt k test fault F)) s (tested k test fault r)
 unfolding encode Valid
-exact-tested F k test s (taken a n) h =
-    holds-cond (Stands (checked k test F)) s (test a) (taken a n) k 0 (λ e. (h .0, (h .1, e)))
-exact-tested F k test s (refused m p) h = tt
+exact-tested F k test fault s (taken a n) h =
+    holds-cond (Stands (checkedAt k test fault F)) s (test a) (taken a n) k _ (λ e. (h .0, (h .1, e)))
+exact-tested F k test fault s (refused m p) h = tt
 
 join-bytes : (e : ℕ → List ℕ) (Q : ℕ → Type 0) (n : ℕ) (l c m : List ℕ) → (e n ≡ c) × Q n → Padded n l m
     → (e (length l) ++ (l ++ replicate (padded (length l) - length l) 0) ≡ c ++ m) × (Q (length l) × IsBytes l)
@@ -124,7 +124,7 @@ unfolding read encode Valid
 exact nothing s b = (refl, tt)
 exact (number k) s b = holds-cond (Stands (number k)) s (leb k (length s)) (taken (bigEndian k s) k) 1 0 (λ e. digits-read k s b (leb-true k (length s) e))
 exact (bytes C) s b =
-    holds-start (Stands (bytes C)) s (andThen (read C s) contents s)
+    holds-relocated (Stands (bytes C)) bytesPlace s (andThen (read C s) contents s)
     (holds-then (Stands C) Padded (Stands (bytes C)) contents (join-bytes (encode C) (Valid C)) s
     (λ n k. exact-contents n (drop k s) (bytes-drop k s b)) (read C s) (exact C s b))
 exact (array C F) s b =
@@ -136,6 +136,6 @@ exact (pair F G) s b =
     (λ a k. holds-mapped (Stands (G a)) (Second G a) (λ y. (a, y)) (λ y m q. (y, refl, q)) (drop k s) (read (G a) (drop k s))
     (exact (G a) (drop k s) (bytes-drop k s b)))
     (read F s) (exact F s b)
-exact (checked k test F) s b = exact-tested F k test s (read F s) (exact F s b)
+exact (checkedAt k test fault F) s b = exact-tested F k test fault s (read F s) (exact F s b)
 exact (via to from back forth F) s b =
     holds-mapped (Stands F) (Stands (via to from back forth F)) to (join-via (encode F) (Valid F) to from back) s (read F s) (exact F s b)

@@ -18,3 +18,4 @@ pub mod EncodedSize
 pub mod Corollaries
 pub mod Numbers
 pub mod BufferLaws
+pub mod FillingLaws

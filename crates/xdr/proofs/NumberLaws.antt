@@ -6,7 +6,8 @@ use native.Mathlib.Omega.{arith}
 use native.Mathlib.Nat.{div-add-mod', mod-lt, pow-succ', suc-mul, add-zero, add-assoc, mul-le-mul-right, div-eq-of-lt, mod-eq-of-lt, mul-add-div-right, mul-add-mod-self-right}
 use lib.ListN.{length, take, drop, getD}
 use lib.Seq.{getD-drop, drop-drop}
-use Rattle.xdr.specs.Number.{bigEndian, lowFirst, digits, IsBytes}
+use Rattle.xdr.specs.Number.{bigEndian, digits, IsBytes}
+use Rattle.xdr.specs.Steps.{littleEndian}
 
 pub power-positive : (k : ℕ) → 0 < 256 ^ k
 power-positive zero = omega arith
@@ -45,26 +46,26 @@ four-bytes s at = simp (drop-drop, getD-drop, add-assoc, add-zero) (omega arith)
 
 -- the same bytes, the lowest first
 pub low-bytes : (s : List ℕ) (at : ℕ)
-    → lowFirst (drop at s) ≡ getD s (at + 3) 0 * 16777216 + getD s (at + 2) 0 * 65536 + getD s (at + 1) 0 * 256 + getD s at 0
+    → littleEndian (drop at s) ≡ getD s (at + 3) 0 * 16777216 + getD s (at + 2) 0 * 65536 + getD s (at + 1) 0 * 256 + getD s at 0
 low-bytes s at = simp (getD-drop, add-zero)
 
 low-byte : (n x b : ℕ) → b < 256 → n ≡ x * 256 + b → n % 256 ≡ b
 low-byte n x b h e = omega arith
 
-turned-bytes : (a b c d w : ℕ) → a < 256 → b < 256 → c < 256 → d < 256 → w ≡ d * 16777216 + c * 65536 + b * 256 + a
+swapped-bytes : (a b c d w : ℕ) → a < 256 → b < 256 → c < 256 → d < 256 → w ≡ d * 16777216 + c * 65536 + b * 256 + a
     → w % 256 * 16777216 + w / 256 % 256 * 65536 + w / 65536 % 256 * 256 + w / 16777216 ≡ a * 16777216 + b * 65536 + c * 256 + d
-turned-bytes a b c d w p q r s e =
+swapped-bytes a b c d w p q r s e =
     let first : w % 256 ≡ a = omega arith in
     let second : w / 256 % 256 ≡ b = low-byte (w / 256) (d * 256 + c) b q (omega arith) in
     let third : w / 65536 % 256 ≡ c = low-byte (w / 65536) d c r (omega arith) in
     let fourth : w / 16777216 ≡ d = omega arith in
     rw (first, second, third, fourth) refl
 
--- and turned round
-pub turned-word : (s : List ℕ) (at : ℕ) {w : ℕ} → IsBytes s → w ≡ lowFirst (drop at s)
+-- and swapped round
+pub swapped-word : (s : List ℕ) (at : ℕ) {w : ℕ} → IsBytes s → w ≡ littleEndian (drop at s)
     → w % 256 * 16777216 + w / 256 % 256 * 65536 + w / 65536 % 256 * 256 + w / 16777216 ≡ bigEndian 4 (drop at s)
-turned-word s at {w} b e =
-    turned-bytes (getD s at 0) (getD s (at + 1) 0) (getD s (at + 2) 0) (getD s (at + 3) 0) w (b at) (b (at + 1)) (b (at + 2)) (b (at + 3)) (e ∙ low-bytes s at)
+swapped-word s at {w} b e =
+    swapped-bytes (getD s at 0) (getD s (at + 1) 0) (getD s (at + 2) 0) (getD s (at + 3) 0) w (b at) (b (at + 1)) (b (at + 2)) (b (at + 3)) (e ∙ low-bytes s at)
     ∙ sym (four-bytes s at)
 
 -- a number of eight bytes, by its two words

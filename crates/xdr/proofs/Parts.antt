@@ -1,5 +1,5 @@
 -- What a reading is made of: the readings of its parts.
-use Prim.Native.Nat.{ℕ, zero, suc, _+_, _-_, _≤_, _<_}
+use Prim.Native.Nat.{ℕ, zero, suc, _+_, _-_, _≤_, _<_, min}
 use mathlib.Core.List.{List, [], _∷_, _++_}
 use mathlib.Core.Path.{_≡_, refl, sym, ap, subst, _∙_}
 use mathlib.Core.Bool.{Bool, true, false, cond}
@@ -8,7 +8,7 @@ use native.Mathlib.Decide.{decLe}
 use lib.ListN.{length, drop}
 use Rattle.xdr.specs.Reading.{Reading, taken, refused, shifted, mapped, tested, andThen, many}
 use Rattle.xdr.specs.Number.{bigEndian}
-use Rattle.xdr.specs.Format.{Format, number, array, pair, checked, via, read, readAt, encode, Valid}
+use Rattle.xdr.specs.Format.{Format, number, array, pair, checkedAt, via, read, readAt, encode, Valid}
 use Rattle.xdr.proofs.RoundTrip.{round}
 use Rattle.xdr.proofs.Steps.{Reads, number-short, number-whole, shifted-mapped, then-taken, then-refused}
 
@@ -102,17 +102,17 @@ array-parts {A} {C} {F} {s} {at} {l} {m} h =
     (q .1, record { is = q .2 ∙ ap (λ (n : ℕ). taken n (q .1)) (sym (w .0)) }, w .1)
 
 -- a value that was tested passes the test
-pub test-passed : {A : Type 0} {F : Format A} {s : List ℕ} {at k : ℕ} {test : A → Bool} {a : A} {m : ℕ} → Reads (checked k test F) s at (taken a m) → test a ≡ true
+pub test-passed : {A : Type 0} {F : Format A} {s : List ℕ} {at k : ℕ} {test : A → Bool} {fault : A → ℕ} {a : A} {m : ℕ} → Reads (checkedAt k test fault F) s at (taken a m) → test a ≡ true
 unfolding read readAt
-test-passed {A} {F} {s} {at} {k} {test} {a} {m} h = go (read F (drop at s)) refl
+test-passed {A} {F} {s} {at} {k} {test} {fault} {a} {m} h = go (read F (drop at s)) refl
   where
-    passes : (x : A) (u : ℕ) (b : Bool) → test x ≡ b → shifted at (cond b (taken x u) (refused k 0)) ≡ taken a m → test a ≡ true
+    passes : (x : A) (u : ℕ) (b : Bool) → test x ≡ b → shifted at (cond b (taken x u) (refused k (min (fault x) u))) ≡ taken a m → test a ≡ true
     passes x u true t e = let same : x ≡ a = cc in ap test (sym same) ∙ t
     passes x u false t e = no-value e
 
     go : (r : Reading A) → read F (drop at s) ≡ r → test a ≡ true
-    go (taken x u) q = passes x u (test x) refl (sym (ap (λ (r : Reading A). shifted at (tested k test r)) q) ∙ h .is)
-    go (refused n p) q = no-value (sym (ap (λ (r : Reading A). shifted at (tested k test r)) q) ∙ h .is)
+    go (taken x u) q = passes x u (test x) refl (sym (ap (λ (r : Reading A). shifted at (tested k test fault r)) q) ∙ h .is)
+    go (refused n p) q = no-value (sym (ap (λ (r : Reading A). shifted at (tested k test fault r)) q) ∙ h .is)
 
 -- where an encoding stands its value is read
 pub encoding-read : {A : Type 0} (F : Format A) (a : A) (s : List ℕ) (at : ℕ) (t : List ℕ) → Valid F a → drop at s ≡ encode F a ++ t → Reads F s at (taken a (at + length (encode F a)))

@@ -1,5 +1,5 @@
 -- Reading the encoding of a value, followed by anything, gives the value and the encoding's length.
-use Prim.Native.Nat.{ℕ, _+_, _-_, _^_, _≤_, _<_}
+use Prim.Native.Nat.{ℕ, _+_, _-_, _^_, _≤_, _<_, min}
 use mathlib.Core.List.{List, [], _∷_, _++_, append-assoc}
 use mathlib.Core.Path.{_≡_, refl, ap, _∙_}
 use mathlib.Core.Bool.{Bool, cond}
@@ -7,9 +7,9 @@ use native.Mathlib.Omega.{arith}
 use borrow.Author.Tests.{le-leb}
 use lib.ListN.{length, replicate, length-append, length-replicate}
 use lib.Seq.{drop-append-seam, take-append-seam, take-at}
-use Rattle.xdr.specs.Reading.{Reading, taken, refused, mapped, fromStart, tested, andThen, many}
+use Rattle.xdr.specs.Reading.{Reading, taken, refused, mapped, relocated, tested, andThen, many}
 use Rattle.xdr.specs.Number.{digits}
-use Rattle.xdr.specs.Format.{Format, nothing, number, bytes, array, pair, checked, via, contents, read, encodeAll, encode, AllOf, Valid}
+use Rattle.xdr.specs.Format.{Format, nothing, number, bytes, array, pair, checkedAt, via, contents, bytesPlace, read, encodeAll, encode, AllOf, Valid}
 use Rattle.xdr.specs.Pad.{padded}
 use Rattle.xdr.proofs.NumberLaws.{length-digits, read-digits}
 use Rattle.xdr.proofs.PadLaws.{zeros-zero}
@@ -57,7 +57,7 @@ unfolding read encode Valid
 round nothing u t q = refl
 round (number k) n t q = round-number k n t q
 round (bytes C) l t q =
-    ap fromStart (round-then (read C) contents (length l) l (encode C (length l)) (l ++ replicate (padded (length l) - length l) 0) t
+    ap (relocated bytesPlace) (round-then (read C) contents (length l) l (encode C (length l)) (l ++ replicate (padded (length l) - length l) 0) t
     (round C (length l) _ (q .0)) (round-contents l t))
 round (array C F) l t q =
     round-then (read C) (λ n. many n (read F)) (length l) l (encode C (length l)) (encodeAll (encode F) l) t
@@ -65,5 +65,7 @@ round (array C F) l t q =
 round (pair F G) p t q =
     round-then (read F) (λ a u. mapped (λ b. (a, b)) (read (G a) u)) (p .0) p (encode F (p .0)) (encode (G (p .0)) (p .1)) t
     (round F (p .0) _ (q .0)) (ap (mapped (λ b. (p .0, b))) (round (G (p .0)) (p .1) t (q .1)))
-round (checked k test F) a t q = ap (tested k test) (round F a t (q .0)) ∙ ap (λ (c : Bool). cond c (taken a (length (encode F a))) (refused k 0)) (q .1)
+round (checkedAt k test fault F) a t q =
+    let n : ℕ = length (encode F a) in
+    ap (tested k test fault) (round F a t (q .0)) ∙ ap (λ (c : Bool). cond c (taken a n) (refused k (min (fault a) n))) (q .1)
 round (via to from back forth F) b t q = ap (mapped to) (round F (from b) t q) ∙ ap (λ x. taken x (length (encode F (from b)))) (forth b)

@@ -9,9 +9,9 @@ use borrow.Author.Tests.{le-leb, lt-leb}
 use lib.ListN.{length, drop, length-drop, length-append}
 use lib.Seq.{drop-append-le, take-append-le}
 use lib.Dec.{eqb}
-use Rattle.xdr.specs.Reading.{Reading, taken, refused, shifted, mapped, fromStart, tested, andThen, many}
+use Rattle.xdr.specs.Reading.{Reading, taken, refused, shifted, mapped, relocated, tested, andThen, many}
 use Rattle.xdr.specs.Number.{bigEndian}
-use Rattle.xdr.specs.Format.{Format, nothing, number, bytes, array, pair, checked, via, contents, read}
+use Rattle.xdr.specs.Format.{Format, nothing, number, bytes, array, pair, checkedAt, via, contents, bytesPlace, read}
 use Rattle.xdr.specs.Pad.{padded}
 use Rattle.xdr.proofs.Within.{Bounded, within}
 
@@ -31,13 +31,13 @@ cut-mapped : {A B : Type 0} (f : A → B) (r : Reading A) → cutShort (mapped f
 cut-mapped f (taken a u) = refl
 cut-mapped f (refused k p) = refl
 
-cut-start : {A : Type 0} (r : Reading A) → cutShort (fromStart r) ≡ cutShort r
-cut-start (taken a u) = refl
-cut-start (refused k p) = refl
+cut-relocated : {A : Type 0} (place : ℕ → ℕ → ℕ) (r : Reading A) → cutShort (relocated place r) ≡ cutShort r
+cut-relocated place (taken a u) = refl
+cut-relocated place (refused k p) = refl
 
-cut-tested : {A : Type 0} (k : ℕ) (test : A → Bool) (r : Reading A) → cutShort (tested k test r) ≡ false → cutShort r ≡ false
-cut-tested k test (taken a u) h = refl
-cut-tested k test (refused m p) h = h
+cut-tested : {A : Type 0} (k : ℕ) (test : A → Bool) (fault : A → ℕ) (r : Reading A) → cutShort (tested k test fault r) ≡ false → cutShort r ≡ false
+cut-tested k test fault (taken a u) h = refl
+cut-tested k test fault (refused m p) h = h
 
 steady-mapped : {A B : Type 0} (f : A → B) (p : List ℕ → Reading A) → Steady p → Steady (λ s. mapped f (p s))
 steady-mapped f p h s t e = ap (mapped f) (h s t (sym (cut-mapped f (p s)) ∙ e))
@@ -97,11 +97,11 @@ unfolding read
 steady nothing s t e = refl
 steady (number k) s t e = steady-number k s t e
 steady (bytes C) s t e =
-    ap fromStart (steady-then (read C) contents (within C) (λ s t e. steady C s t e) steady-contents s t (sym (cut-start (andThen (read C s) contents s)) ∙ e))
+    ap (relocated bytesPlace) (steady-then (read C) contents (within C) (λ s t e. steady C s t e) steady-contents s t (sym (cut-relocated bytesPlace (andThen (read C s) contents s)) ∙ e))
 steady (array C F) s t e =
     steady-then (read C) (λ n. many n (read F)) (within C) (λ s t e. steady C s t e) (λ n. steady-many n (read F) (within F) (λ s t e. steady F s t e)) s t e
 steady (pair F G) s t e =
     steady-then (read F) (λ a t. mapped (λ b. (a, b)) (read (G a) t)) (within F) (λ s t e. steady F s t e)
     (λ a. steady-mapped (λ b. (a, b)) (read (G a)) (λ s t e. steady (G a) s t e)) s t e
-steady (checked k test F) s t e = ap (tested k test) (steady F s t (cut-tested k test (read F s) e))
+steady (checkedAt k test fault F) s t e = ap (tested k test fault) (steady F s t (cut-tested k test fault (read F s) e))
 steady (via to from _ _ F) s t e = steady-mapped to (read F) (λ s t e. steady F s t e) s t e

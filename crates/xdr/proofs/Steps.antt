@@ -1,20 +1,20 @@
 -- How a composed reader goes on from what an inner one read: one step for each way that a format is read.
-use Prim.Native.Nat.{ℕ, suc, _+_, _-_, _≤_, _<_}
+use Prim.Native.Nat.{ℕ, suc, _+_, _-_, _≤_, _<_, min}
 use mathlib.Core.List.{List}
 use mathlib.Core.Path.{_≡_, refl, sym, ap, _∙_}
 use mathlib.Core.Bool.{Bool, true, false, cond}
 use native.Mathlib.Omega.{arith}
-use native.Mathlib.Nat.{add-zero, zero-add, add-assoc}
+use native.Mathlib.Nat.{add-zero, zero-add, add-assoc, zero-min}
 use native.Mathlib.Decide.{decLe}
 use borrow.Author.Tests.{le-leb, lt-leb, leb-true}
 use lib.ListN.{length, take, drop, length-drop}
 use lib.Seq.{drop-drop, length-take-le}
 use lib.Dec.{leb}
-use Rattle.xdr.specs.Reading.{Reading, taken, refused, shifted, mapped, fromStart, tested, andThen}
+use Rattle.xdr.specs.Reading.{Reading, taken, refused, shifted, mapped, relocated, tested, andThen}
 use Rattle.xdr.specs.Number.{bigEndian}
-use Rattle.xdr.specs.Format.{Format, number, bytes, pair, checked, via, contents, read, readAt}
-use Rattle.xdr.specs.Pad.{padded, allZero}
-use Rattle.xdr.proofs.Within.{within}
+use Rattle.xdr.specs.Format.{Format, number, bytes, pair, checkedAt, checked, via, contents, bytesPlace, padPlace, read, readAt}
+use Rattle.xdr.specs.Pad.{padded, zerosUpTo, allZero}
+use Rattle.xdr.proofs.Within.{within, place-start}
 
 -- reading s at a place by a format gives r
 pub record Reads {A : Type 0} (F : Format A) (s : List ℕ) (at : ℕ) (r : Reading A) : Type 0 where
@@ -44,13 +44,18 @@ pub shifted-zero : {A : Type 0} (r : Reading A) → shifted 0 r ≡ r
 shifted-zero (taken a u) = simp zero-add
 shifted-zero (refused n p) = simp zero-add
 
-start-at : {A : Type 0} (at : ℕ) (r : Reading A) (k q : ℕ) → shifted at r ≡ refused k q → shifted at (fromStart r) ≡ refused k at
-start-at at (taken a u) k q e = let z : _≡_ {A = ℕ} 0 1 = cc in absurd (omega arith)
-start-at at (refused n p) k q e = let same : n ≡ k = cc in simp (same, add-zero)
+-- a refusal at another place, and a value as it is
+relocated-at : {A : Type 0} (at : ℕ) (r : Reading A) (k p : ℕ) → shifted at r ≡ refused k (at + p) → shifted at (relocated bytesPlace r) ≡ refused k (at + bytesPlace k p)
+relocated-at at (taken a u) k p e = let z : _≡_ {A = ℕ} 0 1 = cc in absurd (omega arith)
+relocated-at at (refused n q) k p e =
+    let same : n ≡ k = cc in
+    let sum : at + q ≡ at + p = cc in
+    let there : q ≡ p = omega arith in
+    ap (λ (x : ℕ). refused x (at + bytesPlace x q)) same ∙ ap (λ (x : ℕ). refused k (at + bytesPlace k x)) there
 
-start-taken : {A : Type 0} (at : ℕ) (r : Reading A) (a : A) (m : ℕ) → shifted at r ≡ taken a m → shifted at (fromStart r) ≡ taken a m
-start-taken at (taken b u) a m e = e
-start-taken at (refused n p) a m e = let z : _≡_ {A = ℕ} 0 1 = cc in absurd (omega arith)
+relocated-taken : {A : Type 0} (at : ℕ) (r : Reading A) (a : A) (m : ℕ) → shifted at r ≡ taken a m → shifted at (relocated bytesPlace r) ≡ taken a m
+relocated-taken at (taken b u) a m e = e
+relocated-taken at (refused n p) a m e = let z : _≡_ {A = ℕ} 0 1 = cc in absurd (omega arith)
 
 -- after a value, the rest is read at the place after it
 module _ {A B : Type 0} (p : List ℕ → Reading A) (f : A → List ℕ → Reading B) (s : List ℕ) (at : ℕ) where
@@ -77,19 +82,25 @@ number-whole s at k h = record { is = simp (length-drop, le-leb k (length s - at
 module _ {A : Type 0} {F : Format A} {s : List ℕ} {at : ℕ} where
   -- a value that is tested
 
-  pub checked-refused : {k : ℕ} {test : A → Bool} {n q : ℕ} → Reads F s at (refused n q) → Reads (checked k test F) s at (refused n q)
+  pub checked-refused : {k : ℕ} {test : A → Bool} {fault : A → ℕ} {n q : ℕ} → Reads F s at (refused n q) → Reads (checkedAt k test fault F) s at (refused n q)
   unfolding read readAt
   checked-refused h =
       let w = unshifted-refused at (read F (drop at s)) _ _ (h .is) in
       record { is = simp (w .1, w .2) }
 
-  pub checked-failed : {k : ℕ} {test : A → Bool} {a : A} {m : ℕ} → Reads F s at (taken a m) → test a ≡ false → Reads (checked k test F) s at (refused k at)
+  -- the fault's position is within the bytes that were taken
+  pub checked-failed-at : {k : ℕ} {test : A → Bool} {fault : A → ℕ} {a : A} {m : ℕ}
+      → Reads F s at (taken a m) → test a ≡ false → Reads (checkedAt k test fault F) s at (refused k (at + min (fault a) (m - at)))
   unfolding read readAt
-  checked-failed h e =
+  checked-failed-at {fault = fault} {a = a} {m = m} h e =
       let w = unshifted at (read F (drop at s)) _ _ (h .is) in
-      record { is = simp (w .1, e, add-zero) }
+      let used : m - at ≡ w .0 = omega (arith, w .2) in
+      record { is = simp (w .1, e, used) }
 
-  pub checked-passed : {k : ℕ} {test : A → Bool} {a : A} {m : ℕ} → Reads F s at (taken a m) → test a ≡ true → Reads (checked k test F) s at (taken a m)
+  pub checked-failed : {k : ℕ} {test : A → Bool} {a : A} {m : ℕ} → Reads F s at (taken a m) → test a ≡ false → Reads (checked k test F) s at (refused k at)
+  checked-failed {k = k} {m = m} h e = record { is = checked-failed-at h e .is ∙ ap (refused k) (rw (zero-min (m - at)) (add-zero at)) }
+
+  pub checked-passed : {k : ℕ} {test : A → Bool} {fault : A → ℕ} {a : A} {m : ℕ} → Reads F s at (taken a m) → test a ≡ true → Reads (checkedAt k test fault F) s at (taken a m)
   unfolding read readAt
   checked-passed h e =
       let w = unshifted at (read F (drop at s)) _ _ (h .is) in
@@ -166,28 +177,55 @@ number-refused {k} {s} {at} {n} {q} h =
 
 pub length-refused : {C : Format ℕ} {s : List ℕ} {at n q : ℕ} → Reads C s at (refused n q) → q ≡ at → Reads (bytes C) s at (refused n q)
 unfolding read readAt
-length-refused {C} {s} {at} h e = rw e (record { is = start-at at (andThen (read C (drop at s)) contents (drop at s)) _ _ (then-refused (read C) contents s at _ _ (h .is)) })
+length-refused {C} {s} {at} {n} {q} h e =
+    let here : q ≡ at + 0 = e ∙ sym (add-zero at) in
+    record {
+      is =
+          relocated-at at (andThen (read C (drop at s)) contents (drop at s)) n 0 (then-refused (read C) contents s at n q (h .is) ∙ ap (refused n) here)
+          ∙ ap (λ (p : ℕ). refused n (at + p)) (place-start n)
+          ∙ ap (refused n) (sym here);
+    }
 
 module _ {C : Format ℕ} {s : List ℕ} {at n m : ℕ} (h : Reads C s at (taken n m)) where
   after-length : shifted at (andThen (read C (drop at s)) contents (drop at s)) ≡ shifted m (contents n (drop m s))
   unfolding readAt
   after-length = then-taken (read C) contents s at n m (h .is)
 
+  begins : m ≡ at + (m - at)
+  unfolding readAt
+  begins = let w = unshifted at (read C (drop at s)) n m (h .is) in omega (arith, w .2)
+
   pub cut-off : length s - m < padded n → Reads (bytes C) s at (refused 1 at)
   unfolding read readAt
-  cut-off k =
-      record { is = start-at at (andThen (read C (drop at s)) contents (drop at s)) 1 m (after-length ∙ simp (length-drop, lt-leb (padded n) (length s - m) k, add-zero)) }
+  cut-off k = record {
+    is =
+        relocated-at at (andThen (read C (drop at s)) contents (drop at s)) 1 (m - at)
+        (after-length ∙ (simp (length-drop, lt-leb (padded n) (length s - m) k, add-zero)) ∙ ap (refused 1) begins)
+        ∙ ap (refused 1) (add-zero at);
+  }
 
   module _ (k : padded n ≤ length s - m) where
-    pub bad-pad : allZero (take (padded n - n) (drop (m + n) s)) ≡ false → Reads (bytes C) s at (refused 6 at)
+    -- a pad byte that is not zero, at its place from the start on
+    pub bad-pad-at : allZero (take (padded n - n) (drop (m + n) s)) ≡ false
+        → Reads (bytes C) s at (refused 6 (at + bytesPlace 6 (m - at + (n + zerosUpTo (take (padded n - n) (drop (m + n) s))))))
     unfolding read readAt
-    bad-pad z =
-        record { is = start-at at (andThen (read C (drop at s)) contents (drop at s)) 6 m (after-length ∙ simp (length-drop, le-leb (padded n) (length s - m) k, drop-drop, z, add-zero)) }
+    bad-pad-at z =
+        let zeros : ℕ = zerosUpTo (take (padded n - n) (drop (m + n) s)) in
+        let there : m + (n + zeros) ≡ at + (m - at + (n + zeros)) = omega (arith, begins) in
+        record {
+          is =
+              relocated-at at (andThen (read C (drop at s)) contents (drop at s)) 6 (m - at + (n + zeros))
+              (after-length ∙ (simp (length-drop, le-leb (padded n) (length s - m) k, drop-drop, z)) ∙ ap (refused 6) there);
+        }
+
+    pub bad-pad : allZero (take (padded n - n) (drop (m + n) s)) ≡ false → Reads (bytes C) s at (refused 6 at)
+    unfolding padPlace
+    bad-pad z = record { is = bad-pad-at z .is ∙ ap (refused 6) (rw (zero-min (m - at + (n + zerosUpTo (take (padded n - n) (drop (m + n) s))))) (add-zero at)) }
 
     pub bytes-read : allZero (take (padded n - n) (drop (m + n) s)) ≡ true → Reads (bytes C) s at (taken (take n (drop m s)) (m + padded n))
     unfolding read readAt
     bytes-read z =
-        record { is = start-taken at (andThen (read C (drop at s)) contents (drop at s)) _ _ (after-length ∙ simp (length-drop, le-leb (padded n) (length s - m) k, drop-drop, z)) }
+        record { is = relocated-taken at (andThen (read C (drop at s)) contents (drop at s)) _ _ (after-length ∙ simp (length-drop, le-leb (padded n) (length s - m) k, drop-drop, z)) }
 
 -- what an accepted string or opaque is made of: its length, read as its own format says, and its contents after it
 pub record Opened (C : Format ℕ) (s : List ℕ) (at : ℕ) (l : List ℕ) (next : ℕ) : Type 0 where
@@ -197,29 +235,29 @@ pub record Opened (C : Format ℕ) (s : List ℕ) (at : ℕ) (l : List ℕ) (nex
   pub ends : next ≡ start + padded (length l)
   pub room : padded (length l) ≤ length s - start
 
-both-passed : (b z : Bool) (t : List ℕ) (p m : ℕ) (l : List ℕ) (next : ℕ) → shifted m (cond b (cond z (taken t p) (refused 6 0)) (refused 1 0)) ≡ taken l next
+both-passed : (b z : Bool) (t : List ℕ) (p m q : ℕ) (l : List ℕ) (next : ℕ) → shifted m (cond b (cond z (taken t p) (refused 6 q)) (refused 1 0)) ≡ taken l next
     → (b ≡ true) × (l ≡ t) × (next ≡ m + p)
-both-passed true true t p m l next e = (refl, cc, cc)
-both-passed true false t p m l next e = let z : _≡_ {A = ℕ} 0 1 = cc in absurd (omega arith)
-both-passed false z t p m l next e = let z : _≡_ {A = ℕ} 0 1 = cc in absurd (omega arith)
+both-passed true true t p m q l next e = (refl, cc, cc)
+both-passed true false t p m q l next e = let z : _≡_ {A = ℕ} 0 1 = cc in absurd (omega arith)
+both-passed false z t p m q l next e = let z : _≡_ {A = ℕ} 0 1 = cc in absurd (omega arith)
 
 opened-contents : (s : List ℕ) (n m : ℕ) (l : List ℕ) (next : ℕ) → shifted m (contents n (drop m s)) ≡ taken l next
     → (l ≡ take n (drop m s)) × (length l ≡ n) × (next ≡ m + padded n) × (padded n ≤ length s - m)
 opened-contents s n m l next e =
-    let q = both-passed (leb (padded n) (length (drop m s))) (allZero (take (padded n - n) (drop n (drop m s)))) (take n (drop m s)) (padded n) m l next e in
+    let q = both-passed (leb (padded n) (length (drop m s))) (allZero (take (padded n - n) (drop n (drop m s)))) (take n (drop m s)) (padded n) m _ l next e in
     let room : padded n ≤ length s - m = rw length-drop at (leb-true (padded n) (length (drop m s)) (q .0)) in
     (q .1, ap length (q .1) ∙ length-take-le n (drop m s) (simp length-drop (omega arith)), q .2, room)
 
-not-start : {A : Type 0} (at : ℕ) (r : Reading A) (a : A) (m : ℕ) → shifted at (fromStart r) ≡ taken a m → shifted at r ≡ taken a m
-not-start at (taken b u) a m e = e
-not-start at (refused n p) a m e = let z : _≡_ {A = ℕ} 0 1 = cc in absurd (omega arith)
+not-relocated : {A : Type 0} (at : ℕ) (r : Reading A) (a : A) (m : ℕ) → shifted at (relocated bytesPlace r) ≡ taken a m → shifted at r ≡ taken a m
+not-relocated at (taken b u) a m e = e
+not-relocated at (refused n p) a m e = let z : _≡_ {A = ℕ} 0 1 = cc in absurd (omega arith)
 
 pub opened : {C : Format ℕ} {s : List ℕ} {at : ℕ} {l : List ℕ} {next : ℕ} → Reads (bytes C) s at (taken l next) → Opened C s at l next
 unfolding read readAt
 opened {C} {s} {at} {l} {next} h = go (read C (drop at s)) refl
   where
     whole : shifted at (andThen (read C (drop at s)) contents (drop at s)) ≡ taken l next
-    whole = not-start at (andThen (read C (drop at s)) contents (drop at s)) l next (h .is)
+    whole = not-relocated at (andThen (read C (drop at s)) contents (drop at s)) l next (h .is)
 
     go : (r : Reading ℕ) → read C (drop at s) ≡ r → Opened C s at l next
     go (taken n u) q =
@@ -236,16 +274,16 @@ opened {C} {s} {at} {l} {next} h = go (read C (drop at s)) refl
         absurd (omega arith)
 
 -- a value that was tested passed the test
-pub passed : {A : Type 0} {F : Format A} {s : List ℕ} {at k : ℕ} {test : A → Bool} {a : A} {m : ℕ} → Reads (checked k test F) s at (taken a m) → Reads F s at (taken a m)
+pub passed : {A : Type 0} {F : Format A} {s : List ℕ} {at k : ℕ} {test : A → Bool} {fault : A → ℕ} {a : A} {m : ℕ} → Reads (checkedAt k test fault F) s at (taken a m) → Reads F s at (taken a m)
 unfolding read readAt
-passed {A} {F} {s} {at} {k} {test} {a} {m} h = go (read F (drop at s)) refl
+passed {A} {F} {s} {at} {k} {test} {fault} {a} {m} h = go (read F (drop at s)) refl
   where
-    passes : (b : Bool) (x : A) (u : ℕ) → shifted at (cond b (taken x u) (refused k 0)) ≡ taken a m → taken x (at + u) ≡ taken a m
+    passes : (b : Bool) (x : A) (u : ℕ) → shifted at (cond b (taken x u) (refused k (min (fault x) u))) ≡ taken a m → taken x (at + u) ≡ taken a m
     passes true x u e = e
     passes false x u e = let z : _≡_ {A = ℕ} 0 1 = cc in absurd (omega arith)
 
     go : (r : Reading A) → read F (drop at s) ≡ r → Reads F s at (taken a m)
-    go (taken x u) q = record { is = ap (shifted at) q ∙ passes (test x) x u (sym (ap (λ (r : Reading A). shifted at (tested k test r)) q) ∙ h .is) }
+    go (taken x u) q = record { is = ap (shifted at) q ∙ passes (test x) x u (sym (ap (λ (r : Reading A). shifted at (tested k test fault r)) q) ∙ h .is) }
     go (refused n p) q =
-        let z : _≡_ {A = ℕ} 0 1 = cc (sym (ap (λ (r : Reading A). shifted at (tested k test r)) q) ∙ h .is) in
+        let z : _≡_ {A = ℕ} 0 1 = cc (sym (ap (λ (r : Reading A). shifted at (tested k test fault r)) q) ∙ h .is) in
         absurd (omega arith)

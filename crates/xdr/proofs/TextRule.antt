@@ -9,7 +9,8 @@ use native.Mathlib.Nat.{add-zero}
 use borrow.Author.Tests.{le-leb, lt-leb}
 use lib.ListN.{length, getD, drop, drop-of-length-le}
 use lib.Seq.{drop-cons, drop-drop, getD-drop}
-use Rattle.xdr.specs.Text.{followers, follows, followedBy, Plain, soundFrom}
+use Rattle.xdr.specs.Text.{followers, follows, soundFrom}
+use Rattle.xdr.specs.Steps.{followedBy, Plain}
 
 module _ (s : List ℕ) (start i : ℕ) where
   -- at a lead byte, which has n followers

@@ -1,5 +1,5 @@
 -- What reading the encoding of a value gives, whether the value is valid or not and whatever follows: the value alone decides.
-use Prim.Native.Nat.{ℕ, zero, suc, _+_, _%_, _-_, _^_, _<_}
+use Prim.Native.Nat.{ℕ, zero, suc, _+_, _%_, _-_, _^_, _<_, min}
 use mathlib.Core.List.{List, [], _∷_, _++_, append-assoc, append-nil}
 use mathlib.Core.Path.{_≡_, refl, sym, ap, _∙_}
 use mathlib.Core.Bool.{Bool, true, false, cond}
@@ -8,11 +8,12 @@ use native.Mathlib.Nat.{div-add-mod', mod-lt}
 use borrow.Author.Tests.{le-leb}
 use lib.ListN.{length, drop, replicate, length-append, length-replicate}
 use lib.Seq.{drop-append-seam, drop-at}
-use Rattle.xdr.specs.Reading.{Reading, taken, refused, shifted, mapped, fromStart, tested, andThen, many}
+use Rattle.xdr.specs.Reading.{Reading, taken, refused, shifted, mapped, relocated, tested, andThen, many}
 use Rattle.xdr.specs.Number.{digits}
 use Rattle.xdr.specs.Pad.{padded}
-use Rattle.xdr.specs.Format.{Format, nothing, number, bytes, array, pair, checked, via, contents, read, readAt, encodeAll, encode}
+use Rattle.xdr.specs.Format.{Format, nothing, number, bytes, array, pair, checkedAt, checked, via, contents, bytesPlace, read, readAt, encodeAll, encode}
 use Rattle.xdr.specs.Fields.{word}
+use Rattle.xdr.proofs.Within.{place-start}
 use Rattle.xdr.proofs.NumberLaws.{length-digits, read-digits, power-positive}
 use Rattle.xdr.proofs.RoundTrip.{round-contents}
 use Rattle.xdr.proofs.Steps.{Reads, part-read, shifted-zero}
@@ -30,10 +31,10 @@ afterAll w (a ∷ l) = after (w a) (mapped (λ m. a ∷ m) (afterAll w l))
 unfoldable pub readBack : {A : Type 0} → Format A → A → Reading A
 readBack nothing u = taken u 0
 readBack (number k) n = taken n k
-readBack (bytes C) l = fromStart (after (readBack C (length l)) (taken l (padded (length l))))
+readBack (bytes C) l = relocated bytesPlace (after (readBack C (length l)) (taken l (padded (length l))))
 readBack (array C F) l = after (readBack C (length l)) (afterAll (λ a. readBack F a) l)
 readBack (pair F G) p = after (readBack F (p .0)) (mapped (λ b. (p .0, b)) (readBack (G (p .0)) (p .1)))
-readBack (checked k test F) a = tested k test (readBack F a)
+readBack (checkedAt k test fault F) a = tested k test fault (readBack F a)
 readBack (via to from _ _ F) b = mapped to (readBack F (from b))
 
 -- a format whose numbers have at least one byte
@@ -43,78 +44,80 @@ Wide (number k) = 0 < k
 Wide (bytes C) = Wide C
 Wide (array C F) = Wide C × Wide F
 Wide (pair {A = A} F G) = Wide F × ((a : A) → Wide (G a))
-Wide (checked k test F) = Wide F
+Wide (checkedAt k test fault F) = Wide F
 Wide (via to from _ _ F) = Wide F
 
 -- a reading of a that takes n bytes, or is refused
-pub data Fate {A : Type 0} (a : A) (n : ℕ) : Reading A → Type 0 where
-  whole : Fate a n (taken a n)
-  fault : (k p : ℕ) → Fate a n (refused k p)
+pub data TakenOrRefused {A : Type 0} (a : A) (n : ℕ) : Reading A → Type 0 where
+  whole : TakenOrRefused a n (taken a n)
+  fault : (k p : ℕ) → TakenOrRefused a n (refused k p)
 
 -- what is read of a value's bytes, whatever follows
-pub record Told {A : Type 0} (p : List ℕ → Reading A) (a : A) (l : List ℕ) (w : Reading A) : Type 0 where
-  pub fate : Fate a (length l) w
+pub record Rereads {A : Type 0} (p : List ℕ → Reading A) (a : A) (l : List ℕ) (w : Reading A) : Type 0 where
+  pub either : TakenOrRefused a (length l) w
   pub reads : (t : List ℕ) → p (l ++ t) ≡ w
 
 told-then : {A B : Type 0} (p : List ℕ → Reading A) (f : A → List ℕ → Reading B) (a : A) (b : B) (l m : List ℕ) (w : Reading A) (v : Reading B)
-    → Fate a (length l) w → ((t : List ℕ) → p (l ++ t) ≡ w) → Told (f a) b m v → Told (λ s. andThen (p s) f s) b (l ++ m) (after w v)
+    → TakenOrRefused a (length l) w → ((t : List ℕ) → p (l ++ t) ≡ w) → Rereads (f a) b m v → Rereads (λ s. andThen (p s) f s) b (l ++ m) (after w v)
 told-then p f a b l m w v whole h k = record {
-  fate = both v (k .fate);
+  either = both v (k .either);
   reads = λ t. simp (append-assoc, h (m ++ t), drop-append-seam, k .reads t);
 }
   where
-    both : (r : Reading _) → Fate b (length m) r → Fate b (length (l ++ m)) (shifted (length l) r)
+    both : (r : Reading _) → TakenOrRefused b (length m) r → TakenOrRefused b (length (l ++ m)) (shifted (length l) r)
     both r whole = rw (length-append l m) whole
     both r (fault n q) = fault n (length l + q)
-told-then p f a b l m w v (fault n q) h k = record { fate = fault n q; reads = λ t. simp (append-assoc, h (m ++ t)) }
+told-then p f a b l m w v (fault n q) h k = record { either = fault n q; reads = λ t. simp (append-assoc, h (m ++ t)) }
 
-told-mapped : {A B : Type 0} (g : A → B) (p : List ℕ → Reading A) (a : A) (l : List ℕ) (w : Reading A) → Told p a l w → Told (λ s. mapped g (p s)) (g a) l (mapped g w)
-told-mapped g p a l w h = record { fate = go w (h .fate); reads = λ t. ap (mapped g) (h .reads t) }
+told-mapped : {A B : Type 0} (g : A → B) (p : List ℕ → Reading A) (a : A) (l : List ℕ) (w : Reading A) → Rereads p a l w → Rereads (λ s. mapped g (p s)) (g a) l (mapped g w)
+told-mapped g p a l w h = record { either = go w (h .either); reads = λ t. ap (mapped g) (h .reads t) }
   where
-    go : (r : Reading _) → Fate a (length l) r → Fate (g a) (length l) (mapped g r)
+    go : (r : Reading _) → TakenOrRefused a (length l) r → TakenOrRefused (g a) (length l) (mapped g r)
     go r whole = whole
     go r (fault n q) = fault n q
 
-told-start : {A : Type 0} (p : List ℕ → Reading A) (a : A) (l : List ℕ) (w : Reading A) → Told p a l w → Told (λ s. fromStart (p s)) a l (fromStart w)
-told-start p a l w h = record { fate = go w (h .fate); reads = λ t. ap fromStart (h .reads t) }
+told-relocated : {A : Type 0} (place : ℕ → ℕ → ℕ) (p : List ℕ → Reading A) (a : A) (l : List ℕ) (w : Reading A)
+    → Rereads p a l w → Rereads (λ s. relocated place (p s)) a l (relocated place w)
+told-relocated place p a l w h = record { either = go w (h .either); reads = λ t. ap (relocated place) (h .reads t) }
   where
-    go : (r : Reading _) → Fate a (length l) r → Fate a (length l) (fromStart r)
+    go : (r : Reading _) → TakenOrRefused a (length l) r → TakenOrRefused a (length l) (relocated place r)
     go r whole = whole
-    go r (fault n q) = fault n 0
+    go r (fault n q) = fault n (place n q)
 
-told-tested : {A : Type 0} (k : ℕ) (test : A → Bool) (p : List ℕ → Reading A) (a : A) (l : List ℕ) (w : Reading A) → Told p a l w → Told (λ s. tested k test (p s)) a l (tested k test w)
-told-tested k test p a l w h = record { fate = go w (h .fate); reads = λ t. ap (tested k test) (h .reads t) }
+told-tested : {A : Type 0} (k : ℕ) (test : A → Bool) (at : A → ℕ) (p : List ℕ → Reading A) (a : A) (l : List ℕ) (w : Reading A)
+    → Rereads p a l w → Rereads (λ s. tested k test at (p s)) a l (tested k test at w)
+told-tested k test at p a l w h = record { either = go w (h .either); reads = λ t. ap (tested k test at) (h .reads t) }
   where
-    by-test : (b : Bool) → Fate a (length l) (cond b (taken a (length l)) (refused k 0))
+    by-test : (b : Bool) → TakenOrRefused a (length l) (cond b (taken a (length l)) (refused k (min (at a) (length l))))
     by-test true = whole
-    by-test false = fault k 0
+    by-test false = fault k (min (at a) (length l))
 
-    go : (r : Reading _) → Fate a (length l) r → Fate a (length l) (tested k test r)
+    go : (r : Reading _) → TakenOrRefused a (length l) r → TakenOrRefused a (length l) (tested k test at r)
     go r whole = by-test (test a)
     go r (fault n q) = fault n q
 
 told-via : {A B : Type 0} (to : A → B) (from : B → A) → ((b : B) → to (from b) ≡ b) → (p : List ℕ → Reading A) (b : B) (l : List ℕ) (w : Reading A)
-    → Told p (from b) l w → Told (λ s. mapped to (p s)) b l (mapped to w)
+    → Rereads p (from b) l w → Rereads (λ s. mapped to (p s)) b l (mapped to w)
 told-via to from forth p b l w h = rw (forth b) at (told-mapped to p (from b) l w h)
 
-told-many : {A : Type 0} (p : List ℕ → Reading A) (e : A → List ℕ) (w : A → Reading A) → ((a : A) → Told p a (e a) (w a))
-    → (l : List A) → Told (many (length l) p) l (encodeAll e l) (afterAll w l)
-told-many p e w h [] = record { fate = whole; reads = λ t. refl }
+told-many : {A : Type 0} (p : List ℕ → Reading A) (e : A → List ℕ) (w : A → Reading A) → ((a : A) → Rereads p a (e a) (w a))
+    → (l : List A) → Rereads (many (length l) p) l (encodeAll e l) (afterAll w l)
+told-many p e w h [] = record { either = whole; reads = λ t. refl }
 told-many p e w h (a ∷ l) =
     told-then p (λ x u. mapped (λ y. x ∷ y) (many (length l) p u)) a (a ∷ l) (e a) (encodeAll e l) (w a) (mapped (λ y. a ∷ y) (afterAll w l))
-    (h a .fate) (h a .reads)
+    (h a .either) (h a .reads)
     (told-mapped (λ y. a ∷ y) (many (length l) p) l (encodeAll e l) (afterAll w l) (told-many p e w h l))
 
-told-contents : (l : List ℕ) → Told (contents (length l)) l (l ++ replicate (padded (length l) - length l) 0) (taken l (padded (length l)))
+told-contents : (l : List ℕ) → Rereads (contents (length l)) l (l ++ replicate (padded (length l) - length l) 0) (taken l (padded (length l)))
 told-contents l =
     let long : length (l ++ replicate (padded (length l) - length l) 0) ≡ padded (length l) = simp (length-append, length-replicate) (omega arith) in
-    record { fate = rw long whole; reads = λ t. round-contents l t ∙ ap (λ (n : ℕ). taken l n) long }
+    record { either = rw long whole; reads = λ t. round-contents l t ∙ ap (λ (n : ℕ). taken l n) long }
 
-told-number : (k n : ℕ) → 0 < k → Told (read (number k)) n (digits k n) (taken n k)
+told-number : (k n : ℕ) → 0 < k → Rereads (read (number k)) n (digits k n) (taken n k)
 unfolding read
 told-number zero n h = absurd (omega arith)
 told-number (suc k) n h = record {
-  fate = rw (length-digits (suc k) n) whole;
+  either = rw (length-digits (suc k) n) whole;
   reads = λ t. simp (
     length-append,
     length-digits (suc k) n,
@@ -125,22 +128,22 @@ told-number (suc k) n h = record {
 }
 
 -- every value of every format
-pub told : {A : Type 0} (F : Format A) (a : A) → Wide F → Told (read F) a (encode F a) (readBack F a)
+pub told : {A : Type 0} (F : Format A) (a : A) → Wide F → Rereads (read F) a (encode F a) (readBack F a)
 unfolding read encode readBack Wide
-told nothing u w = record { fate = whole; reads = λ t. refl }
+told nothing u w = record { either = whole; reads = λ t. refl }
 told (number k) n w = told-number k n w
 told (bytes C) l w =
-    told-start (λ s. andThen (read C s) contents s) l (encode C (length l) ++ (l ++ replicate (padded (length l) - length l) 0)) (after (readBack C (length l)) (taken l (padded (length l))))
+    told-relocated bytesPlace (λ s. andThen (read C s) contents s) l (encode C (length l) ++ (l ++ replicate (padded (length l) - length l) 0)) (after (readBack C (length l)) (taken l (padded (length l))))
     (told-then (read C) contents (length l) l (encode C (length l)) (l ++ replicate (padded (length l) - length l) 0) (readBack C (length l)) (taken l (padded (length l)))
-    (told C (length l) w .fate) (told C (length l) w .reads) (told-contents l))
+    (told C (length l) w .either) (told C (length l) w .reads) (told-contents l))
 told (array C F) l w =
     told-then (read C) (λ n. many n (read F)) (length l) l (encode C (length l)) (encodeAll (encode F) l) (readBack C (length l)) (afterAll (readBack F) l)
-    (told C (length l) (w .0) .fate) (told C (length l) (w .0) .reads) (told-many (read F) (encode F) (readBack F) (λ a. told F a (w .1)) l)
+    (told C (length l) (w .0) .either) (told C (length l) (w .0) .reads) (told-many (read F) (encode F) (readBack F) (λ a. told F a (w .1)) l)
 told (pair F G) p w =
     told-then (read F) (λ a u. mapped (λ b. (a, b)) (read (G a) u)) (p .0) p (encode F (p .0)) (encode (G (p .0)) (p .1)) (readBack F (p .0)) (mapped (λ b. (p .0, b)) (readBack (G (p .0)) (p .1)))
-    (told F (p .0) (w .0) .fate) (told F (p .0) (w .0) .reads)
+    (told F (p .0) (w .0) .either) (told F (p .0) (w .0) .reads)
     (told-mapped (λ b. (p .0, b)) (read (G (p .0))) (p .1) (encode (G (p .0)) (p .1)) (readBack (G (p .0)) (p .1)) (told (G (p .0)) (p .1) (w .1 (p .0))))
-told (checked k test F) a w = told-tested k test (read F) a (encode F a) (readBack F a) (told F a w)
+told (checkedAt k test at F) a w = told-tested k test at (read F) a (encode F a) (readBack F a) (told F a w)
 told (via to from back forth F) b w = told-via to from forth (read F) b (encode F (from b)) (readBack F (from b)) (told F (from b) w)
 
 -- a string or an opaque whose length is held to a test
@@ -149,9 +152,9 @@ pub bytes-told : (k : ℕ) (test : ℕ → Bool) (l t : List ℕ)
 unfolding encode readBack Wide
 bytes-told k test l t = told (bytes (checked k test word)) l (omega arith) .reads t ∙ go (test (length l))
   where
-    go : (b : Bool) → fromStart (after (cond b (taken (length l) 4) (refused k 0)) (taken l (padded (length l)))) ≡ cond b (taken l (4 + padded (length l))) (refused k 0)
+    go : (b : Bool) → relocated bytesPlace (after (cond b (taken (length l) 4) (refused k 0)) (taken l (padded (length l)))) ≡ cond b (taken l (4 + padded (length l))) (refused k 0)
     go true = refl
-    go false = refl
+    go false = ap (refused k) (place-start k)
 
 -- the same as steps of a reading
 

@@ -1,16 +1,17 @@
 -- What is read, and where it is refused, is within the bytes given.
-use Prim.Native.Nat.{ℕ, zero, suc, _-_, _≤_}
-use mathlib.Core.List.{List, _∷_}
+use Prim.Native.Nat.{ℕ, zero, suc, _+_, _-_, _≤_, min}
+use mathlib.Core.List.{List, [], _∷_}
 use mathlib.Core.Path.{_≡_, refl}
 use mathlib.Core.Bool.{Bool, true, false, cond}
 use native.Mathlib.Omega.{arith}
+use native.Mathlib.Nat.{min-le-right}
 use borrow.Author.Tests.{leb-true}
-use lib.ListN.{length, take, drop, length-drop}
-use lib.Dec.{leb}
-use Rattle.xdr.specs.Reading.{Reading, taken, refused, shifted, mapped, fromStart, tested, andThen, many}
+use lib.ListN.{length, drop, length-drop, length-take}
+use lib.Dec.{leb, eqb}
+use Rattle.xdr.specs.Reading.{Reading, taken, refused, shifted, mapped, relocated, tested, andThen, many}
 use Rattle.xdr.specs.Number.{bigEndian}
-use Rattle.xdr.specs.Format.{Format, nothing, number, bytes, array, pair, checked, via, contents, read}
-use Rattle.xdr.specs.Pad.{padded, allZero}
+use Rattle.xdr.specs.Format.{Format, nothing, number, bytes, array, pair, checkedAt, via, padOf, contents, bytesPlace, padPlace, read}
+use Rattle.xdr.specs.Pad.{padded, zerosUpTo, allZero}
 
 -- the bytes taken, or the place of the refusal, are at most n
 abbrev pub Within : {A : Type 0} → ℕ → Reading A → Type 0
@@ -29,13 +30,26 @@ within-mapped : {A B : Type 0} (f : A → B) (n : ℕ) (r : Reading A) → Withi
 within-mapped f n (taken a u) h = h
 within-mapped f n (refused k p) h = h
 
-within-start : {A : Type 0} (n : ℕ) (r : Reading A) → Within n r → Within n (fromStart r)
-within-start n (taken a u) h = h
-within-start n (refused k p) h = omega arith
+-- a string's refusal is not moved up
+pub place-below : (k p : ℕ) → bytesPlace k p ≤ p
+place-below k p = go (eqb k 6)
+  where
+    go : (b : Bool) → cond b (min (padPlace p) p) 0 ≤ p
+    go true = min-le-right (padPlace p) p
+    go false = omega arith
 
-within-tested : {A : Type 0} (k : ℕ) (test : A → Bool) (n : ℕ) (r : Reading A) → Within n r → Within n (tested k test r)
-within-tested k test n (taken a u) h = within-cond n (test a) (taken a u) (refused k 0) (λ e. h) (omega arith)
-within-tested k test n (refused m p) h = h
+pub place-start : (k : ℕ) → bytesPlace k 0 ≡ 0
+place-start k = let h = place-below k 0 in omega arith
+
+within-relocated : {A : Type 0} (place : ℕ → ℕ → ℕ) → ((k p : ℕ) → place k p ≤ p) → (n : ℕ) (r : Reading A) → Within n r → Within n (relocated place r)
+within-relocated place b n (taken a u) h = h
+within-relocated place b n (refused k p) h = let low = b k p in omega arith
+
+within-tested : {A : Type 0} (k : ℕ) (test : A → Bool) (fault : A → ℕ) (n : ℕ) (r : Reading A) → Within n r → Within n (tested k test fault r)
+within-tested k test fault n (taken a u) h =
+    let low : min (fault a) u ≤ u = min-le-right (fault a) u in
+    within-cond n (test a) (taken a u) (refused k (min (fault a) u)) (λ e. h) (omega arith)
+within-tested k test fault n (refused m p) h = h
 
 within-shifted : {A : Type 0} (u : ℕ) (s : List ℕ) (r : Reading A) → u ≤ length s → Within (length (drop u s)) r → Within (length s) (shifted u r)
 within-shifted u s (taken a v) k h = omega (arith, length-drop u s)
@@ -50,19 +64,28 @@ within-many zero p b s = omega arith
 within-many (suc n) p b s =
     within-then (λ a t. mapped (λ l. a ∷ l) (many n p t)) (λ a t. within-mapped (λ l. a ∷ l) (length t) (many n p t) (within-many n p b t)) s (p s) (b s)
 
+pub zeros-within : (l : List ℕ) → zerosUpTo l ≤ length l
+zeros-within [] = omega arith
+zeros-within (b ∷ l) = go (eqb b 0) (zeros-within l)
+  where
+    go : (z : Bool) → zerosUpTo l ≤ length l → cond z (suc (zerosUpTo l)) 0 ≤ suc (length l)
+    go true h = omega arith
+    go false h = omega arith
+
 within-contents : (n : ℕ) → Bounded (contents n)
 within-contents n s =
     within-cond (length s) (leb (padded n) (length s)) _ (refused 1 0)
-    (λ e. within-cond (length s) (allZero (take (padded n - n) (drop n s))) (taken (take n s) (padded n)) (refused 6 0) (λ z. leb-true (padded n) (length s) e) (omega arith))
+    (λ e. let room = leb-true (padded n) (length s) e in within-cond (length s) (allZero (padOf n s)) _ (refused 6 (n + zerosUpTo (padOf n s))) (λ z. room)
+    (omega (arith, zeros-within (padOf n s), length-take (padded n - n) (drop n s), length-drop n s)))
     (omega arith)
 
 pub within : {A : Type 0} (F : Format A) → Bounded (read F)
 unfolding read
 within nothing s = omega arith
 within (number k) s = within-cond (length s) (leb k (length s)) (taken (bigEndian k s) k) (refused 1 0) (λ e. leb-true k (length s) e) (omega arith)
-within (bytes C) s = within-start (length s) (andThen (read C s) contents s) (within-then contents within-contents s (read C s) (within C s))
+within (bytes C) s = within-relocated bytesPlace place-below (length s) (andThen (read C s) contents s) (within-then contents within-contents s (read C s) (within C s))
 within (array C F) s = within-then (λ n. many n (read F)) (λ n. within-many n (read F) (λ u. within F u)) s (read C s) (within C s)
 within (pair F G) s =
     within-then (λ a t. mapped (λ b. (a, b)) (read (G a) t)) (λ a t. within-mapped (λ b. (a, b)) (length t) (read (G a) t) (within (G a) t)) s (read F s) (within F s)
-within (checked k test F) s = within-tested k test (length s) (read F s) (within F s)
+within (checkedAt k test fault F) s = within-tested k test fault (length s) (read F s) (within F s)
 within (via to from _ _ F) s = within-mapped to (length s) (read F s) (within F s)

@@ -11,6 +11,10 @@ use Rattle.xdr.specs.declared.answer.Hyper.the-variants as H
 use Rattle.xdr.specs.declared.answer.Bytes.{Bytes}
 use Rattle.xdr.specs.declared.answer.Bytes.the-variants as B
 
+-- a refusal at place 0
+abbrev pub atStart : (number : ℕ) → Refusal
+atStart k = record { number = k; place = 0 }
+
 -- a word: its value and the place after it
 abbrev pub wordAnswer : Reading ℕ → Word
 wordAnswer (taken n next) = W.Taken n next

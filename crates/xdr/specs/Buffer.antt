@@ -1,6 +1,7 @@
 -- What a lent buffer holds after bytes were put into it.
 use Prim.Native.Nat.{ℕ, _+_}
 use mathlib.Core.List.{List, [], _++_}
+use mathlib.Core.Path.{_≡_}
 use mathlib.Core.Bool.{Bool, cond}
 use lib.ListN.{length, take, drop}
 use lib.Dec.{leb}
@@ -26,6 +27,10 @@ putCount out at l = cond (hasRoom out at l) (length l) 0
 -- what the buffer then holds
 abbrev pub put : List ℕ → ℕ → List ℕ → List ℕ
 put out at l = cond (hasRoom out at l) (over out at l) out
+
+-- what a call promises that puts bytes at a place: how many it put, and the buffer
+abbrev pub Puts : (l out : List ℕ) → (at count : ℕ) → (after : List ℕ) → Type 0
+Puts l out at count after = (count ≡ putCount out at l) × (after ≡ put out at l)
 
 -- an opaque's length, contents and pad: nothing where no word holds the length
 abbrev pub opaqueBytes : List ℕ → List ℕ

@@ -5,4 +5,6 @@ pub mod Text
 pub mod Format
 pub mod Fields
 pub mod Buffer
+pub mod Filling
 pub mod Answers
+pub mod Steps

@@ -1,8 +1,8 @@
 -- The text rule: a string is a run of sequences, each a lead byte and its followers.
-use Prim.Native.Nat.{ℕ, zero, suc, _≤_}
+use Prim.Native.Nat.{ℕ, zero, suc}
 use mathlib.Core.List.{List, [], _∷_}
-use mathlib.Core.Bool.{Bool, true, false, cond, _&&_}
-use lib.ListN.{length, getD}
+use mathlib.Core.Bool.{Bool, cond, _&&_}
+use lib.ListN.{length}
 use lib.Dec.{leb, eqb}
 
 -- how many followers a lead byte has, 00 to 7F none, C0 to DF one, E0 to EF two, F0 to F7 three: 4 for a byte that can't lead
@@ -28,13 +28,3 @@ soundUpTo l = soundFrom l 0 0 0
 -- the text rule holds of all bytes
 abbrev pub isText : List ℕ → Bool
 isText l = eqb (soundUpTo l) (length l)
-
--- for the steps of the search: so many followers come first
-abbrev pub followedBy : ℕ → List ℕ → Bool
-followedBy zero l = true
-followedBy (suc n) [] = false
-followedBy (suc n) (b ∷ l) = follows b && followedBy n l
-
--- and: each of the first four bytes is a sequence of its own
-abbrev pub Plain : List ℕ → Type 0
-Plain s = (getD s 0 0 ≤ 127) × (getD s 1 0 ≤ 127) × (getD s 2 0 ≤ 127) × (getD s 3 0 ≤ 127)

@@ -1,11 +1,20 @@
 // What the readers answer.
 ghost use mathlib.Core.Path.{_≡_};
-ghost use Rattle.xdr.specs.Answers.{wordRefusal, hyperRefusal, bytesRefusal};
+ghost use Rattle.xdr.specs.Answers.{atStart, wordRefusal, hyperRefusal, bytesRefusal};
 
 // Why a reading was refused, by number, and at which byte.
 pub struct Refusal {
     pub number: u32,
     pub place: usize,
+}
+
+impl Refusal {
+    // A refusal at place 0.
+    pub fn at_start(number: u32) -> Refusal
+        ensures { λ r. ⌜ r ≡ atStart number ⌝ }
+    {
+        Refusal { number, place: 0 }
+    }
 }
 
 // A word and the place after it, or a refusal.

@@ -1,5 +1,6 @@
 // XDR: words, hypers, opaques and strings, read at a place of a slice or put into a lent buffer; the text rule.
 pub mod answer;
+pub mod filling;
 mod number;
 pub mod pad;
 pub mod put;
@@ -10,6 +11,8 @@ pub use answer::Bytes;
 pub use answer::Hyper;
 pub use answer::Refusal;
 pub use answer::Word;
+pub use filling::Filling;
+pub use filling::refused;
 pub use pad::pad_after;
 pub use put::put_bytes;
 pub use put::put_hyper;

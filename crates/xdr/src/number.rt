@@ -2,7 +2,8 @@
 ghost use mathlib.Core.Path.{_≡_};
 ghost use Prim.Native.Nat.{_+_, _*_, _/_, _%_, _≤_};
 ghost use lib.ListN.{length, drop};
-ghost use Rattle.xdr.specs.Number.{bigEndian, lowFirst};
+ghost use Rattle.xdr.specs.Number.{bigEndian};
+ghost use Rattle.xdr.specs.Steps.{littleEndian};
 
 // The number that four bytes are, the highest first.
 fn joined(a: u8, b: u8, c: u8, d: u8) -> u32
@@ -12,15 +13,15 @@ fn joined(a: u8, b: u8, c: u8, d: u8) -> u32
 }
 
 // The number that the four bytes at a place are, the lowest first: as the processor reads them, so that it is one load.
-pub(crate) fn low_first_at(s: &[u8], at: usize) -> u32
+pub(crate) fn little_endian_at(s: &[u8], at: usize) -> u32
     requires { ⌜ at + 4 ≤ length (now s) ⌝ }
-    ensures { λ r. ⌜ r ≡ lowFirst (drop at (now (s .entry))) ⌝ }
+    ensures { λ r. ⌜ r ≡ littleEndian (drop at (now (s .entry))) ⌝ }
 {
     joined(s[at + 3], s[at + 2], s[at + 1], s[at])
 }
 
 // The number whose four bytes stand the other way round.
-fn turned(w: u32) -> u32
+fn swapped(w: u32) -> u32
     ensures { λ r. ⌜ r ≡ w % 256 * 16777216 + w / 256 % 256 * 65536 + w / 65536 % 256 * 256 + w / 16777216 ⌝ }
 {
     w % 256 * 16777216 + w / 256 % 256 * 65536 + w / 65536 % 256 * 256 + w / 16777216
@@ -31,7 +32,7 @@ pub(crate) fn word_at(s: &[u8], at: usize) -> u32
     requires { ⌜ at + 4 ≤ length (now s) ⌝ }
     ensures { λ r. ⌜ r ≡ bigEndian 4 (drop at (now (s .entry))) ⌝ }
 {
-    turned(low_first_at(s, at))
+    swapped(little_endian_at(s, at))
 }
 
 // The number that two words are, the higher first.

@@ -2,7 +2,7 @@
 ghost use mathlib.Core.Path.{_≡_};
 ghost use Prim.Native.Nat.{_+_, _≤_, _<_};
 ghost use lib.ListN.{length, replicate};
-ghost use Rattle.xdr.specs.Buffer.{filled, put, putCount, opaqueBytes};
+ghost use Rattle.xdr.specs.Buffer.{filled, Puts, opaqueBytes};
 ghost use Rattle.xdr.specs.Fields.{word, hyper};
 ghost use Rattle.xdr.specs.Format.{bytes, encode};
 ghost use Rattle.xdr.specs.Pad.{padded};
@@ -21,7 +21,7 @@ fn store_word(out: &mut [u8], w: u32)
 
 // A word, its highest byte first.
 pub fn put_word(out: &mut [u8], at: usize, w: u32) -> usize
-    ensures { λ r. ⌜ (r ≡ putCount (now (out .entry)) at (encode word w)) × (now (out .exit) ≡ put (now (out .entry)) at (encode word w)) ⌝ }
+    ensures { λ r. ⌜ Puts (encode word w) (now (out .entry)) at r (now (out .exit)) ⌝ }
 {
     if out.len() < 4 {
         return 0;
@@ -44,7 +44,7 @@ fn store_hyper(out: &mut [u8], n: u64)
 
 // A number of 64 bits, its highest byte first.
 pub fn put_hyper(out: &mut [u8], at: usize, n: u64) -> usize
-    ensures { λ r. ⌜ (r ≡ putCount (now (out .entry)) at (encode hyper n)) × (now (out .exit) ≡ put (now (out .entry)) at (encode hyper n)) ⌝ }
+    ensures { λ r. ⌜ Puts (encode hyper n) (now (out .entry)) at r (now (out .exit)) ⌝ }
 {
     if out.len() < 8 {
         return 0;
@@ -103,7 +103,7 @@ fn copy(out: &mut [u8], src: &[u8])
 
 // Bytes as they are.
 pub fn put_raw(out: &mut [u8], at: usize, src: &[u8]) -> usize
-    ensures { λ r. ⌜ (r ≡ putCount (now (out .entry)) at (now (src .entry))) × (now (out .exit) ≡ put (now (out .entry)) at (now (src .entry))) ⌝ }
+    ensures { λ r. ⌜ Puts (now (src .entry)) (now (out .entry)) at r (now (out .exit)) ⌝ }
 {
     let n = src.len();
     if out.len() < n {
@@ -142,7 +142,7 @@ fn store_bytes(out: &mut [u8], src: &[u8])
 
 // An opaque: its length, its contents and its pad. None is put where no word holds the length.
 pub fn put_bytes(out: &mut [u8], at: usize, src: &[u8]) -> usize
-    ensures { λ r. ⌜ (r ≡ putCount (now (out .entry)) at (opaqueBytes (now (src .entry)))) × (now (out .exit) ≡ put (now (out .entry)) at (opaqueBytes (now (src .entry)))) ⌝ }
+    ensures { λ r. ⌜ Puts (opaqueBytes (now (src .entry))) (now (out .entry)) at r (now (out .exit)) ⌝ }
 {
     let n = src.len();
     if 4294967295 < n {

@@ -3,8 +3,12 @@ ghost use mathlib.Core.Path.{_≡_};
 ghost use mathlib.Core.Bool.{true};
 ghost use Prim.Native.Nat.{_+_, _≤_};
 ghost use lib.ListN.{length, drop};
-ghost use Rattle.xdr.specs.Text.{followers as followersOf, follows as isFollower, followedBy, Plain, soundFrom, soundUpTo};
-use crate::number::low_first_at;
+ghost use Rattle.xdr.specs.Steps.{followedBy, Plain};
+ghost use Rattle.xdr.specs.Text.{followers as followersOf, follows as isFollower, soundFrom, soundUpTo};
+use crate::number::little_endian_at;
+
+// The top bit of each of four bytes.
+const TOP_BITS: u32 = 0x80808080;
 
 // How many followers a lead byte has: 4 for a byte that can't lead.
 fn followers(b: u8) -> u8
@@ -34,7 +38,7 @@ fn plain_at(s: &[u8], at: usize) -> bool
     requires { ⌜ at + 4 ≤ length (now s) ⌝ }
     ensures { λ r. ⌜ (r ≡ true → Plain (drop at (now (s .entry)))) ⌝ }
 {
-    low_first_at(s, at) & 2155905152 == 0
+    little_endian_at(s, at) & TOP_BITS == 0
 }
 
 // A position up to which every byte is a sequence of its own, in steps of four: most names are ASCII throughout.

@@ -15,23 +15,11 @@ Inv-loop table at place₀ place = Come table at place
 abbrev μ-loop : tie.MeasureT-loop
 μ-loop table at place₀ place = at - place
 
-is-good-requires : tie.Need-is-good-requires Inv-loop μ-loop
-is-good-requires c κs = search needs
-
 returns : tie.Need-returns Inv-loop μ-loop
 returns c = table-bad (now (c .before .before .before .args .table)) (c .before .before .before .args .at) (sym (c .before .is-good .ensures) ∙ not-true _ (c .if1 .taken))
 
 loop-holds : tie.Need-loop-holds Inv-loop μ-loop
 loop-holds c = come-start (now (c .before .before .before .args .table)) (c .before .before .before .args .at) (λ i. c .before .before .shared-slice-known .given i .fits) (sym (c .before .is-good .ensures) ∙ not-false _ (c .if1 .left))
-
-outline-at-requires : tie.Need-outline-at-requires Inv-loop μ-loop
-outline-at-requires c κs = search needs
-
-enum-known-f : tie.Need-enum-known-f Inv-loop μ-loop
-enum-known-f c = search needs
-
-enum-told : tie.Need-enum-told Inv-loop μ-loop
-enum-told c = search needs
 
 returns-2 : tie.Need-returns-2 Inv-loop μ-loop
 returns-2 c = come-end (c .before .before .before .before .loop .inv) (c .before .before .before .loop-test .taken) (c .before .before .outline-at .ensures) (c .enum-told .given .1)
@@ -45,15 +33,6 @@ loop-again c = come-on (c .before .before .before .before .before .loop .inv) (c
 returns-3 : tie.Need-returns-3 Inv-loop μ-loop
 returns-3 c = come-past (c .before .before .loop .inv) (omega (arith, c .if2 .taken, c .before .loop-test .left))
 
-outline-at-requires-2 : tie.Need-outline-at-requires-2 Inv-loop μ-loop
-outline-at-requires-2 c κs = search needs
-
-enum-known-f-2 : tie.Need-enum-known-f-2 Inv-loop μ-loop
-enum-known-f-2 c = search needs
-
-enum-told-2 : tie.Need-enum-told-2 Inv-loop μ-loop
-enum-told-2 c = search needs
-
 returns-4 : tie.Need-returns-4 Inv-loop μ-loop
 returns-4 c = ended (c .before .before .before .before .before .loop .inv) (omega (arith, c .before .before .before .if2 .left)) (c .before .before .outline-at2 .ensures) (c .enum-told2 .given .1)
 
@@ -66,18 +45,18 @@ step-at-spec =
     (tie.spec
     Inv-loop
     μ-loop
-    is-good-requires
+    (λ c κs. search needs)
     returns
     loop-holds
-    outline-at-requires
-    enum-known-f
-    enum-told
+    (λ c κs. search needs)
+    (λ c. search needs)
+    (λ c. search needs)
     returns-2
     loop-less
     loop-again
     returns-3
-    outline-at-requires-2
-    enum-known-f-2
-    enum-told-2
+    (λ c κs. search needs)
+    (λ c. search needs)
+    (λ c. search needs)
     returns-4
     returns-5)

@@ -3,12 +3,10 @@ use Prim.Native.Nat.{ℕ, _-_}
 use mathlib.Core.Path.{_≡_, refl, subst}
 use native.Mathlib.Omega.{arith}
 use denote.Ref.{now}
-use lib.ListN.{length, take}
-use Rattle.table.specs.Table.{records}
-use Rattle.table.specs.Filling.{tableInto}
-use Rattle.table.proofs.FillingLaws.{is-refused, same-outcome}
-use Rattle.accept.specs.Resulting.{resulting}
-use Rattle.accept.specs.Sorted.{InOrder, SortedTo}
+use lib.ListN.{take}
+use Rattle.xdr.proofs.FillingLaws.{fills-refused, fills-same}
+use Rattle.table.specs.Table.{resultingTable}
+use Rattle.accept.specs.Steps.Sorted.{resultOf, SortedPlaces, SortedTo}
 use Rattle.accept.specs.declared.accepting.Sorting.the-variants.{Sorted, Repeated}
 use borrow.Author.Needs.{needs}
 use Rattle.accept.proofs.accepting.accept_list.Statement.{statement}
@@ -22,26 +20,8 @@ repeated c = subst (SortedTo (now (c .before .before .before .before .before .be
 ordered : (c : tie.After-known-told2) → SortedTo (now (c .before .before .before .before .before .before .before .before .before .args .s)) (c .before .before .before .before .sort .last .1 .0) (Sorted (c .before .n .given .0 .0))
 ordered c = subst (SortedTo (now (c .before .before .before .before .before .before .before .before .before .args .s)) (c .before .before .before .before .sort .last .1 .0)) (c .before .n .given .1) (c .before .before .before .before .sort .ensures)
 
-slice-aggregate-sort : tie.Need-slice-aggregate-sort
-slice-aggregate-sort c = search needs
-
-sort-requires : tie.Need-sort-requires
-sort-requires c κs = search needs
-
-enum-known-at : tie.Need-enum-known-at
-enum-known-at c = search needs
-
 add-t13 : tie.Need-add-t13
 add-t13 c = omega (arith, repeated c .0, c .before .before .before .before .before .before .before .before .before .pre .2)
-
-enum-known-n : tie.Need-enum-known-n
-enum-known-n c = search needs
-
-sub-fill : tie.Need-sub-fill
-sub-fill c = search needs
-
-part-fill-start : tie.Need-part-fill-start
-part-fill-start c = search needs
 
 part-fill-end : tie.Need-part-fill-end
 part-fill-end c = omega (arith, ordered (c .before) .0)
@@ -49,34 +29,31 @@ part-fill-end c = omega (arith, ordered (c .before) .0)
 fill-requires : tie.Need-fill-requires
 fill-requires c κs =
     let same : c .before .before .before .before .n .given .0 .0 ≡ c .before .before .before .before .n .given .0 .0 - 0 = omega arith in
-    (subst (λ (n : ℕ). InOrder (now (c .before .before .before .before .before .before .before .before .before .before .before .before .args .s)) (take n (c .before .before .before .before .before .before .before .sort .last .1 .0))) same (ordered (c .before .before .before) .1), c .before .before .before .before .before .before .before .before .before .before .before .before .pre .1)
+    (subst (λ (n : ℕ). SortedPlaces (now (c .before .before .before .before .before .before .before .before .before .before .before .before .args .s)) (take n (c .before .before .before .before .before .before .before .sort .last .1 .0))) same (ordered (c .before .before .before) .1), c .before .before .before .before .before .before .before .before .before .before .before .before .pre .1)
 
 returns : tie.Need-returns
 returns c =
     let a = c .before .before .before .before .before .before .before .before .before .args in
-    is-refused (now (a .out)) (repeated c .1 (a .start) (tableInto (resulting (a .update) (records (now (a .s))) (records (now (a .old)))) (length (now (a .out))))) refl
-
-same-length : tie.Need-same-length
-same-length c = search needs
+    fills-refused (now (a .out)) (repeated c .1 (a .start) (resultingTable (resultOf (a .update) (now (a .s)) (now (a .old))))) refl
 
 returns-2 : tie.Need-returns-2
 returns-2 c =
     let a = c .before .before .before .before .before .before .before .before .before .before .before .before .before .before .before .args in
-    same-outcome (now (a .out)) (ordered (c .before .before .before .before .before .before) .1 .unrefused (a .start) (tableInto (resulting (a .update) (records (now (a .s))) (records (now (a .old)))) (length (now (a .out))))) (c .before .before .fill .ensures)
+    fills-same (now (a .out)) (ordered (c .before .before .before .before .before .before) .1 .unrefused (a .start) (resultingTable (resultOf (a .update) (now (a .s)) (now (a .old))))) (c .before .before .fill .ensures)
 
 pub accept-list-spec : {M : Type 1} → statement M
 accept-list-spec =
     tie.close
     (tie.spec
-    slice-aggregate-sort
-    sort-requires
-    enum-known-at
+    (λ c. search needs)
+    (λ c κs. search needs)
+    (λ c. search needs)
     add-t13
-    enum-known-n
-    sub-fill
-    part-fill-start
+    (λ c. search needs)
+    (λ c. search needs)
+    (λ c. search needs)
     part-fill-end
     fill-requires
     returns
-    same-length
+    (λ c. search needs)
     returns-2)

@@ -14,38 +14,20 @@ Inv-loop places₀ j at k₀ places k = Shifted places₀ places k × (j ≤ k)
 abbrev μ-loop : tie.MeasureT-loop
 μ-loop places₀ j at k₀ places k = k
 
-sub-k : tie.Need-sub-k Inv-loop μ-loop
-sub-k c = search needs
-
 loop-holds : tie.Need-loop-holds Inv-loop μ-loop
 loop-holds c = (shifted-none _ (omega (arith, c .pre)) refl, omega (arith, c .pre))
 
 sub-places : tie.Need-sub-places Inv-loop μ-loop
 sub-places c = omega (arith, c .loop-test .taken)
 
-mul-places : tie.Need-mul-places Inv-loop μ-loop
-mul-places c = search needs
-
 slice-read-places : tie.Need-slice-read-places Inv-loop μ-loop
 slice-read-places c = omega (arith, c .before .before .loop .inv .0 .inside, shifted-length (c .before .before .loop .inv .0))
-
-mul-places-2 : tie.Need-mul-places-2 Inv-loop μ-loop
-mul-places-2 c = search needs
 
 slice-write-places : tie.Need-slice-write-places Inv-loop μ-loop
 slice-write-places c = omega (arith, c .before .before .loop .inv .0 .inside, shifted-length (c .before .before .loop .inv .0))
 
-sub-k-2 : tie.Need-sub-k-2 Inv-loop μ-loop
-sub-k-2 c = search needs
-
-loop-less : tie.Need-loop-less Inv-loop μ-loop
-loop-less c = search needs
-
 loop-again : tie.Need-loop-again Inv-loop μ-loop
 loop-again c = (shifted-more (c .before .before .loop .inv .0) (omega (arith, c .before .loop-test .taken)), omega (arith, c .before .loop-test .taken))
-
-mul-places-3 : tie.Need-mul-places-3 Inv-loop μ-loop
-mul-places-3 c = search needs
 
 slice-write-places-2 : tie.Need-slice-write-places-2 Inv-loop μ-loop
 slice-write-places-2 c = omega (arith, c .before .loop .inv .0 .inside, shifted-length (c .before .loop .inv .0), c .loop-test .left)
@@ -62,17 +44,17 @@ insert-at-spec =
     (tie.spec
     Inv-loop
     μ-loop
-    sub-k
+    (λ c. search needs)
     loop-holds
     sub-places
-    mul-places
+    (λ c. search needs)
     slice-read-places
-    mul-places-2
+    (λ c. search needs)
     slice-write-places
-    sub-k-2
-    loop-less
+    (λ c. search needs)
+    (λ c. search needs)
     loop-again
-    mul-places-3
+    (λ c. search needs)
     slice-write-places-2
     same-length
     returns)

@@ -4,99 +4,88 @@ use mathlib.Core.Path.{sym, _∙_}
 use native.Mathlib.Omega.{arith}
 use denote.Ref.{now}
 use lib.ListN.{length}
-use Rattle.table.specs.Table.{records}
+use Rattle.table.proofs.UnionLaws.{union}
 use Rattle.table.proofs.PassLaws.{Counted, counted-step, counted-all}
 use Rattle.merge.proofs.NotingLaws.{Noting, noting-all, noting-within, noting-more}
-use Rattle.accept.specs.Resulting.{resulting}
+use Rattle.accept.specs.Resulting.{replacing}
+use Rattle.accept.specs.Steps.Sorted.{resultOf}
 use Rattle.accept.proofs.StepLaws.{Took}
-use Rattle.accept.proofs.LoopLaws.{Left, rest, begun-noting, result-few, result-short, took, none-left, after}
+use Rattle.accept.proofs.LoopLaws.{Left, rest, starting-noting, result-few, result-short, took, none-left, after}
 use borrow.Author.Needs.{needs}
 use Rattle.accept.proofs.accepting.note_records.Statement.{statement}
 use Rattle.accept.proofs.accepting.note_records.Tie as tie
 
 abbrev Inv-loop : tie.InvT-loop
 Inv-loop s places old update notes₀ i₀ j₀ count₀ bytes₀ noted₀ notes i j count bytes noted =
-    (l : Left s places old i j) × Counted (resulting update (records s) (records old)) (rest l) count bytes × Noting s old (resulting update (records s) (records old)) (rest l) notes count noted
+    (l : Left s places old i j) × Counted (resultOf update s old) (rest l) count bytes × Noting s old (resultOf update s old) (rest l) notes count noted
 
 abbrev μ-loop : tie.MeasureT-loop
 μ-loop s places old update notes₀ i₀ j₀ count₀ bytes₀ noted₀ notes i j count bytes noted = length places + length old - (i + j)
 
 -- the record that is taken
 taken : (c : tie.After-struct-known Inv-loop μ-loop)
-    → let l = c .before .before .before .before .before in
+    → let l = c .before .before .before .before .before .before in
     let a = l .before .before .before .before .before .before .args in
-    Took (now (a .s)) (now (a .places)) (l .loop .inv .0 .fs) (now (a .old)) (l .loop .inv .0 .gs) (l .loop .i + l .loop .j) (c .before .before .step .given .0 .0)
-taken c = took (c .before .before .before .before .before .loop .inv .0) (c .before .before .before .before .next-at .ensures) (c .before .before .step .given .1)
+    Took (now (a .s)) (now (a .places)) (l .loop .i) (l .loop .inv .0 .fs) (now (a .old)) (l .loop .j) (l .loop .inv .0 .gs) (c .before .before .step .given .0 .0)
+taken c = took (c .before .before .before .before .before .before .loop .inv .0) (c .before .before .before .before .before .place-of .ensures) (c .before .before .before .before .next-at .ensures) (c .before .before .step .given .1)
 
 -- what was counted with it
 counted : (c : tie.After-struct-known Inv-loop μ-loop)
-    → let l = c .before .before .before .before .before in
+    → let l = c .before .before .before .before .before .before in
     let a = l .before .before .before .before .before .before .args in
-    Counted (resulting (a .update) (records (now (a .s))) (records (now (a .old)))) (rest (after (l .loop .inv .0) (taken c))) (l .loop .count + 1) (l .loop .bytes + (c .before .before .step .given .0 .0 .end - c .before .before .step .given .0 .0 .start))
+    Counted (resultOf (a .update) (now (a .s)) (now (a .old))) (union replacing (taken c .lefts) (taken c .rights)) (l .loop .count + 1) (l .loop .bytes + (c .before .before .step .given .0 .0 .end - c .before .before .step .given .0 .0 .start))
 counted c =
     let t = taken c in
     let s = c .before .before .step .given .0 .0 in
-    counted-step (c .before .before .before .before .before .loop .inv .1) (s .start) (s .end) (t .is) (t .sized)
-
-start-of-requires : tie.Need-start-of-requires Inv-loop μ-loop
-start-of-requires c κs = search needs
+    counted-step (c .before .before .before .before .before .before .loop .inv .1) (s .start) (s .end) (t .is) (t .sized)
 
 loop-holds : tie.Need-loop-holds Inv-loop μ-loop
 loop-holds c =
     let z = c .before .before .before .before .before in
     let a = z .args in
-    begun-noting (now (a .s)) (now (a .places)) (now (a .old)) (a .update) (z .pre .0) (λ i. c .before .before .shared-slice-known3 .given i .fits) (z .pre .1) (now (a .notes)) (z .pre .2) (c .start-of .ensures)
-
-next-at-requires : tie.Need-next-at-requires Inv-loop μ-loop
-next-at-requires c κs = search needs
-
-enum-known-step : tie.Need-enum-known-step Inv-loop μ-loop
-enum-known-step c = search needs
-
-enum-told : tie.Need-enum-told Inv-loop μ-loop
-enum-told c = search needs
+    starting-noting (now (a .s)) (now (a .places)) (now (a .old)) (a .update) (z .pre .0) (λ i. c .before .before .shared-slice-known3 .given i .fits) (z .pre .1) (now (a .notes)) (z .pre .2) (c .start-of .ensures)
 
 same-length : tie.Need-same-length Inv-loop μ-loop
-same-length c = c .before .before .before .loop .inv .2 .long ∙ sym (c .before .before .before .before .before .before .before .before .before .pre .2)
+same-length c = c .before .before .before .before .loop .inv .2 .long ∙ sym (c .before .before .before .before .before .before .before .before .before .before .pre .2)
 
 returns : tie.Need-returns Inv-loop μ-loop
 returns c =
-    let l = c .before .before .before .loop .inv in
-    let none = none-left (l .0) (c .before .before .next-at .ensures) (c .enum-told .given .1) in
-    (omega (arith, l .2 .inside, l .2 .long), noting-all (l .2) none (counted-all (l .1) none))
+    let l = c .before .before .before .before .loop .inv in
+    let none = none-left (l .0) (c .before .before .before .place-of .ensures) (c .before .before .next-at .ensures) (c .enum-told .given .1) in
+    noting-all (l .2) none (counted-all (l .1) none)
 
 sub-bytes : tie.Need-sub-bytes Inv-loop μ-loop
 sub-bytes c = omega (arith, taken c .sized)
 
 add-bytes : tie.Need-add-bytes Inv-loop μ-loop
 add-bytes c =
-    let z = c .before .before .before .before .before .before .before .before .before .before .before in
+    let z = c .before .before .before .before .before .before .before .before .before .before .before .before in
     let a = z .args in
-    omega (arith, z .good, counted c .sized, result-short (now (a .s)) (now (a .places)) (now (a .old)) (a .update) (z .pre .0) (λ i. c .before .before .before .before .before .before .before .before .shared-slice-known3 .given i .fits) (z .pre .1))
+    omega (arith, z .good, counted c .sized, result-short (now (a .s)) (now (a .places)) (now (a .old)) (a .update) (z .pre .0) (λ i. c .before .before .before .before .before .before .before .before .before .shared-slice-known3 .given i .fits) (z .pre .1))
 
 add-count : tie.Need-add-count Inv-loop μ-loop
 add-count c =
-    let z = c .before .before .before .before .before .before .before .before .before .before .before in
+    let z = c .before .before .before .before .before .before .before .before .before .before .before .before in
     let a = z .args in
-    omega (arith, counted c .counted, result-few (now (a .s)) (now (a .places)) (now (a .old)) (a .update) (z .pre .0) (λ i. c .before .before .before .before .before .before .before .before .shared-slice-known3 .given i .fits) (z .pre .1))
-
-note-requires : tie.Need-note-requires Inv-loop μ-loop
-note-requires c κs = search needs
+    omega (arith, counted c .counted, result-few (now (a .s)) (now (a .places)) (now (a .old)) (a .update) (z .pre .0) (λ i. c .before .before .before .before .before .before .before .before .before .shared-slice-known3 .given i .fits) (z .pre .1))
 
 add-noted : tie.Need-add-noted Inv-loop μ-loop
 add-noted c =
     let n = c .before .before .note .ensures in
-    omega (arith, noting-within (c .before .before .before .before .before .before .before .before .before .loop .inv .2) (c .before .before .before .before .before .before .step .given .0 .0) (n .0) (n .1))
+    omega (arith, noting-within (c .before .before .before .before .before .before .before .before .before .before .loop .inv .2) (c .before .before .before .before .before .before .step .given .0 .0) (n .0) (n .1))
+
+add-i : tie.Need-add-i Inv-loop μ-loop
+add-i c = let t = taken (c .before .before .before .before .before) in omega (arith, c .before .before .before .before .before .before .before .before .before .before .before .before .before .before .before .before .before .good, c .taken-by .ensures, t .inside)
 
 loop-less : tie.Need-loop-less Inv-loop μ-loop
-loop-less c = let t = taken (c .before .before .before .before) in omega (arith, t .grows, t .inside, t .right .inside)
+loop-less c = let t = taken (c .before .before .before .before .before) in omega (arith, c .taken-by .ensures, t .grows, t .inside, t .right .inside)
 
 loop-again : tie.Need-loop-again Inv-loop μ-loop
 loop-again c =
-    let t = taken (c .before .before .before .before) in
-    let l = c .before .before .before .before .before .before .before .before .before .loop .inv in
-    let n = c .before .before .note .ensures in
-    (after (l .0) t, counted (c .before .before .before .before), noting-more (l .2) (c .before .before .before .before .before .before .step .given .0 .0) (n .0) (n .1) (t .is) (t .bytes-are) (t .some))
+    let t = taken (c .before .before .before .before .before) in
+    let l = c .before .before .before .before .before .before .before .before .before .before .before .loop .inv in
+    let n = c .before .before .before .note .ensures in
+    (after (l .0) (c .taken-by .ensures) t, counted (c .before .before .before .before .before), noting-more (l .2) (c .before .before .before .before .before .before .before .step .given .0 .0) (n .0) (n .1) (t .is) (t .bytes-are) (t .some))
 
 pub note-records-spec : {M : Type 1} → statement M
 note-records-spec =
@@ -104,17 +93,20 @@ note-records-spec =
     (tie.spec
     Inv-loop
     μ-loop
-    start-of-requires
+    (λ c κs. search needs)
     loop-holds
-    next-at-requires
-    enum-known-step
-    enum-told
+    (λ c κs. search needs)
+    (λ c κs. search needs)
+    (λ c. search needs)
+    (λ c. search needs)
     same-length
     returns
     sub-bytes
     add-bytes
     add-count
-    note-requires
+    (λ c κs. search needs)
     add-noted
+    (λ c κs. search needs)
+    add-i
     loop-less
     loop-again)

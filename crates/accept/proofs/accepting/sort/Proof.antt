@@ -36,38 +36,17 @@ slot c =
 loop-holds : tie.Need-loop-holds Inv-loop μ-loop
 loop-holds c = (sorting-none (now (c .before .before .args .s)) (now (c .before .before .args .places)) (c .before .before .pre .0), (omega arith, c .before .before .pre .1))
 
-outline-at-requires : tie.Need-outline-at-requires Inv-loop μ-loop
-outline-at-requires c κs = search needs
-
-enum-known-f : tie.Need-enum-known-f Inv-loop μ-loop
-enum-known-f c = search needs
-
-enum-told : tie.Need-enum-told Inv-loop μ-loop
-enum-told c = search needs
-
 same-length : tie.Need-same-length Inv-loop μ-loop
 same-length c = c .before .before .before .loop .inv .1 .1 ∙ sym (c .before .before .before .before .before .before .pre .1)
 
 returns : tie.Need-returns Inv-loop μ-loop
 returns c = (omega (arith, c .before .before .before .loop .inv .1), sorting-all (c .before .before .before .before .before .before .pre .0) (c .before .before .before .loop .inv .0) (c .before .before .outline-at .ensures) (c .enum-told .given .1))
 
-sub-slot-of : tie.Need-sub-slot-of Inv-loop μ-loop
-sub-slot-of c = search needs
-
 part-slot-of-start : tie.Need-part-slot-of-start Inv-loop μ-loop
 part-slot-of-start c = omega arith
 
 part-slot-of-end : tie.Need-part-slot-of-end Inv-loop μ-loop
 part-slot-of-end c = omega (arith, c .before .before .before .before .before .loop .inv .1)
-
-slot-of-requires : tie.Need-slot-of-requires Inv-loop μ-loop
-slot-of-requires c κs = search needs
-
-enum-known-j : tie.Need-enum-known-j Inv-loop μ-loop
-enum-known-j c = search needs
-
-enum-told-2 : tie.Need-enum-told-2 Inv-loop μ-loop
-enum-told-2 c = search needs
 
 same-length-2 : tie.Need-same-length-2 Inv-loop μ-loop
 same-length-2 c = c .before .before .before .before .before .before .before .before .before .loop .inv .1 .1 ∙ sym (c .before .before .before .before .before .before .before .before .before .before .before .before .pre .1)
@@ -119,17 +98,17 @@ sort-spec =
     Inv-loop
     μ-loop
     loop-holds
-    outline-at-requires
-    enum-known-f
-    enum-told
+    (λ c κs. search needs)
+    (λ c. search needs)
+    (λ c. search needs)
     same-length
     returns
-    sub-slot-of
+    (λ c. search needs)
     part-slot-of-start
     part-slot-of-end
-    slot-of-requires
-    enum-known-j
-    enum-told-2
+    (λ c κs. search needs)
+    (λ c. search needs)
+    (λ c. search needs)
     same-length-2
     returns-2
     add-insert-at

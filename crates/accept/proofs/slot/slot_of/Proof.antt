@@ -6,7 +6,7 @@ use native.Mathlib.Omega.{arith}
 use denote.Ref.{now}
 use lib.ListN.{length, getD}
 use Rattle.order.specs.Order.{compareLists}
-use Rattle.accept.specs.Slots.{slotOf, nameOf}
+use Rattle.accept.specs.Steps.Slots.{slotOf, nameOf}
 use Rattle.accept.proofs.SlotLaws.{slot-behind, slot-repeated, slot-further, slot-first}
 use borrow.Author.Needs.{needs}
 use Rattle.accept.proofs.slot.slot_of.Statement.{statement}
@@ -30,35 +30,17 @@ asked : (c : tie.At-loop Inv-loop μ-loop)
     slotOf (now (a .s)) (now (a .places)) (c .loop .j) (now (c .before .name-at .result)) ≡ slotOf (now (a .s)) (now (a .places)) (length (now (a .places))) (nameOf (now (a .s)) (a .at))
 asked c = sym (c .loop .inv .0) ∙ ap (slotOf (now (c .before .before .before .before .args .s)) (now (c .before .before .before .before .args .places)) (length (now (c .before .before .before .before .args .places)))) (c .before .name-at .ensures)
 
-name-at-requires : tie.Need-name-at-requires Inv-loop μ-loop
-name-at-requires c κs = search needs
-
 loop-holds : tie.Need-loop-holds Inv-loop μ-loop
 loop-holds c = (refl, omega arith)
 
 sub-name-at : tie.Need-sub-name-at Inv-loop μ-loop
 sub-name-at c = omega (arith, c .loop-test .taken)
 
-mul-name-at : tie.Need-mul-name-at Inv-loop μ-loop
-mul-name-at c = search needs
-
 shared-slice-read-name-at : tie.Need-shared-slice-read-name-at Inv-loop μ-loop
 shared-slice-read-name-at c = omega (arith, c .before .loop-test .taken, c .before .before .loop .inv .1)
 
-name-at-requires-2 : tie.Need-name-at-requires-2 Inv-loop μ-loop
-name-at-requires-2 c κs = search needs
-
-compare-bytes-requires : tie.Need-compare-bytes-requires Inv-loop μ-loop
-compare-bytes-requires c κs = search needs
-
-is-less-requires : tie.Need-is-less-requires Inv-loop μ-loop
-is-less-requires c κs = search needs
-
 returns : tie.Need-returns Inv-loop μ-loop
 returns c = sym (slot-behind _ _ _ (omega (arith, c .before .before .before .before .before .loop-test .taken)) (compared (c .before .before)) (sym (c .before .is-less .ensures) ∙ c .if1 .taken)) ∙ asked (c .before .before .before .before .before .before)
-
-is-equal-requires : tie.Need-is-equal-requires Inv-loop μ-loop
-is-equal-requires c κs = search needs
 
 returns-2 : tie.Need-returns-2 Inv-loop μ-loop
 returns-2 c = sym (slot-repeated _ _ _ (omega (arith, c .before .before .before .before .before .before .before .loop-test .taken)) (compared (c .before .before .before .before)) (sym (c .before .is-equal .ensures) ∙ c .if2 .taken)) ∙ asked (c .before .before .before .before .before .before .before .before)
@@ -81,16 +63,16 @@ slot-of-spec =
     (tie.spec
     Inv-loop
     μ-loop
-    name-at-requires
+    (λ c κs. search needs)
     loop-holds
     sub-name-at
-    mul-name-at
+    (λ c. search needs)
     shared-slice-read-name-at
-    name-at-requires-2
-    compare-bytes-requires
-    is-less-requires
+    (λ c κs. search needs)
+    (λ c κs. search needs)
+    (λ c κs. search needs)
     returns
-    is-equal-requires
+    (λ c κs. search needs)
     returns-2
     sub-j
     loop-less

@@ -8,32 +8,23 @@ use lib.ListN.{length}
 use lib.Dec.{leb}
 use Rattle.xdr.specs.Pad.{padded}
 use Rattle.record.specs.Outline.{wordAt, fieldsFrom, outlineFrom, outlineOf}
-use Rattle.record.specs.declared.outline.Fields.{Fields}
+use Rattle.record.specs.declared.outline.RecordFields.{RecordFields}
 use Rattle.record.specs.declared.outline.Outline.the-variants as O
 use Rattle.bep.specs.Words.{fileWords, fileNumber}
 use borrow.Author.Needs.{needs}
 use Rattle.bep.proofs.outline.bep_file.Statement.{statement}
 use Rattle.bep.proofs.outline.bep_file.Tie as tie
 
-same-fields : (b : Bool) (f g : Fields) → O.Whole f ≡ cond b (O.Whole g) O.Short → f ≡ g
+same-fields : (b : Bool) (f g : RecordFields) → O.Whole f ≡ cond b (O.Whole g) O.Short → f ≡ g
 same-fields true f g e = cc
 same-fields false f g e = let z : _≡_ {A = ℕ} 0 1 = cc in absurd (omega arith)
 
 -- a name starts before it ends
-name-first : (s : List ℕ) (at : ℕ) (f : Fields) → O.Whole f ≡ outlineOf s at → f .name ≤ f .stop
+name-first : (s : List ℕ) (at : ℕ) (f : RecordFields) → O.Whole f ≡ outlineOf s at → f .name ≤ f .stop
 unfolding outlineOf outlineFrom
 name-first s at f e =
     let g = fieldsFrom s (at + 4) (at + 4 + wordAt s at) (at + 4 + padded (wordAt s at)) in
     rw (same-fields (leb (g .past) (length s)) f g e) (omega arith)
-
-outline-at-requires : tie.Need-outline-at-requires
-outline-at-requires c κs = search needs
-
-enum-known-outline : tie.Need-enum-known-outline
-enum-known-outline c = search needs
-
-enum-told : tie.Need-enum-told
-enum-told c = search needs
 
 returns : tie.Need-returns
 returns c = let e = sym (c .before .enum-told .given .1) ∙ c .before .before .before .outline-at .ensures in (ap fileNumber e, ap fileWords e)
@@ -48,9 +39,9 @@ pub bep-file-spec : {M : Type 1} → statement M
 bep-file-spec =
     tie.close
     (tie.spec
-    outline-at-requires
-    enum-known-outline
-    enum-told
+    (λ c κs. search needs)
+    (λ c. search needs)
+    (λ c. search needs)
     returns
     field-words-requires
     returns-2)

@@ -6,20 +6,8 @@ use borrow.Author.Needs.{needs}
 use Rattle.bep.proofs.outline.bep_step.Statement.{statement}
 use Rattle.bep.proofs.outline.bep_step.Tie as tie
 
-step-at-requires : tie.Need-step-at-requires
-step-at-requires c κs = search needs
-
-enum-known-step : tie.Need-enum-known-step
-enum-known-step c = search needs
-
 field-words-requires : tie.Need-field-words-requires
 field-words-requires c κs = subst NameFirst (sym (sym (c .before .step .given .1) ∙ c .before .before .before .step-at .ensures)) (name-first _ _)
-
-enum-told : tie.Need-enum-told
-enum-told c = search needs
-
-enum-known-step-2 : tie.Need-enum-known-step-2
-enum-known-step-2 c = search needs
 
 returns : tie.Need-returns
 returns c = let e = sym (c .before .before .step .given .1) ∙ c .before .before .before .before .step-at .ensures in (ap stepNumber e, c .field-words .ensures ∙ ap stepWords e)
@@ -34,11 +22,11 @@ pub bep-step-spec : {M : Type 1} → statement M
 bep-step-spec =
     tie.close
     (tie.spec
-    step-at-requires
-    enum-known-step
+    (λ c κs. search needs)
+    (λ c. search needs)
     field-words-requires
-    enum-told
-    enum-known-step-2
+    (λ c. search needs)
+    (λ c. search needs)
     returns
     returns-2
     returns-3)

@@ -6,26 +6,14 @@ use borrow.Author.Needs.{needs}
 use Rattle.bep.proofs.outstanding.bep_queue_drop.Statement.{statement}
 use Rattle.bep.proofs.outstanding.bep_queue_drop.Tie as tie
 
-unpacked-requires : tie.Need-unpacked-requires
-unpacked-requires c κs = search needs
-
-drop-link-requires : tie.Need-drop-link-requires
-drop-link-requires c κs = search needs
-
-packed-requires : tie.Need-packed-requires
-packed-requires c κs = search needs
-
-change-number-requires : tie.Need-change-number-requires
-change-number-requires c κs = search needs
-
 returns : tie.Need-returns
 returns c =
     becomes
     (c .before .before .before .drop-link .ensures ∙ ap dropOf (c .before .before .before .before .unpacked .ensures))
-    (c .change-number .ensures)
+    (c .verdict-number .ensures)
     (c .before .packed .ensures)
 
 pub bep-queue-drop-spec : {M : Type 1} → statement M
 bep-queue-drop-spec =
     tie.close
-    (tie.spec unpacked-requires drop-link-requires packed-requires change-number-requires returns)
+    (tie.spec (λ c κs. search needs) (λ c κs. search needs) (λ c κs. search needs) (λ c κs. search needs) returns)

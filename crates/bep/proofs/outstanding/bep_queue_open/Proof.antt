@@ -4,18 +4,9 @@ use borrow.Author.Needs.{needs}
 use Rattle.bep.proofs.outstanding.bep_queue_open.Statement.{statement}
 use Rattle.bep.proofs.outstanding.bep_queue_open.Tie as tie
 
-open-with-requires : tie.Need-open-with-requires
-open-with-requires c κs = search needs
-
-packed-requires : tie.Need-packed-requires
-packed-requires c κs = search needs
-
-change-number-requires : tie.Need-change-number-requires
-change-number-requires c κs = search needs
-
 returns : tie.Need-returns
-returns c = becomes (c .before .before .before .open-with .ensures) (c .change-number .ensures) (c .before .packed .ensures)
+returns c = becomes (c .before .before .before .open-with .ensures) (c .verdict-number .ensures) (c .before .packed .ensures)
 
 pub bep-queue-open-spec : {M : Type 1} → statement M
 bep-queue-open-spec =
-    tie.close (tie.spec open-with-requires packed-requires change-number-requires returns)
+    tie.close (tie.spec (λ c κs. search needs) (λ c κs. search needs) (λ c κs. search needs) returns)

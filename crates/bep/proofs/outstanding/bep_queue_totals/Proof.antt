@@ -5,22 +5,10 @@ use borrow.Author.Needs.{needs}
 use Rattle.bep.proofs.outstanding.bep_queue_totals.Statement.{statement}
 use Rattle.bep.proofs.outstanding.bep_queue_totals.Tie as tie
 
-unpacked-requires : tie.Need-unpacked-requires
-unpacked-requires c κs = search needs
-
-outstanding-requires : tie.Need-outstanding-requires
-outstanding-requires c κs = search needs
-
-cast-t5 : tie.Need-cast-t5
-cast-t5 c = search needs
-
-outstanding-bytes-requires : tie.Need-outstanding-bytes-requires
-outstanding-bytes-requires c κs = search needs
-
 returns : tie.Need-returns
 returns c = (refl, totals (c .before .before .before .unpacked .ensures) (c .before .before .outstanding .ensures) (c .before .outstanding-bytes .ensures))
 
 pub bep-queue-totals-spec : {M : Type 1} → statement M
 bep-queue-totals-spec =
     tie.close
-    (tie.spec unpacked-requires outstanding-requires cast-t5 outstanding-bytes-requires returns)
+    (tie.spec (λ c κs. search needs) (λ c κs. search needs) (λ c. search needs) (λ c κs. search needs) returns)

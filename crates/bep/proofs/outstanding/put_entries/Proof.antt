@@ -1,11 +1,11 @@
 -- `bep::outstanding::put_entries` meets its contract: one entry a turn.
-use Prim.Native.Nat.{_+_, _*_, _≤_, _-_}
+use Prim.Native.Nat.{_*_, _≤_, _-_}
 use mathlib.Core.Path.{_≡_, ap, _∙_}
 use native.Mathlib.Omega.{arith}
 use lib.ListN.{length}
 use lib.Seq.{paste, paste-zero}
 use borrow.Author.Needs.{needs}
-use Rattle.queue.proofs.OwnedArray.{unmapped}
+use Rattle.link.proofs.OwnedArray.{unmapped}
 use Rattle.bep.specs.Queues.{pairs}
 use Rattle.bep.proofs.PackLaws.{put-more}
 use Rattle.bep.proofs.outstanding.put_entries.Statement.{statement}

@@ -5,17 +5,8 @@ use borrow.Author.Needs.{needs}
 use Rattle.bep.proofs.read.bep_read.Statement.{statement}
 use Rattle.bep.proofs.read.bep_read.Tie as tie
 
-read-requires : tie.Need-read-requires
-read-requires c κs = search needs
-
-read-words-requires : tie.Need-read-words-requires
-read-words-requires c κs = search needs
-
-read-number-requires : tie.Need-read-number-requires
-read-number-requires c κs = search needs
-
 returns : tie.Need-returns
 returns c = (c .read-number .ensures ∙ ap readNumber (c .before .before .read .ensures), c .before .read-words .ensures ∙ ap readWords (c .before .before .read .ensures))
 
 pub bep-read-spec : {M : Type 1} → statement M
-bep-read-spec = tie.close (tie.spec read-requires read-words-requires read-number-requires returns)
+bep-read-spec = tie.close (tie.spec (λ c κs. search needs) (λ c κs. search needs) (λ c κs. search needs) returns)

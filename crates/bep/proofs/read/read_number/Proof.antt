@@ -22,14 +22,8 @@ accepted (M.IndexUpdate id x) h = refl
 accepted (M.Options id x) h = refl
 accepted (M.Refused r) h = absurd (miss (0 ∷ 1 ∷ 2 ∷ 3 ∷ 4 ∷ 5 ∷ 6 ∷ []) 7 tt h)
 
-enum-known-m : tie.Need-enum-known-m
-enum-known-m c = search needs
-
 returns : tie.Need-returns
 returns c = accepted (c .before .args .m) (c .match .keys2)
 
-returns-2 : tie.Need-returns-2
-returns-2 c = search needs
-
 pub read-number-spec : {M : Type 1} → statement M
-read-number-spec = tie.close (tie.spec enum-known-m returns returns-2)
+read-number-spec = tie.close (tie.spec (λ c. search needs) returns (λ c. search needs))

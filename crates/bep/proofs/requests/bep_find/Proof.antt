@@ -5,24 +5,6 @@ use borrow.Author.Needs.{needs}
 use Rattle.bep.proofs.requests.bep_find.Statement.{statement}
 use Rattle.bep.proofs.requests.bep_find.Tie as tie
 
-find-local-requires : tie.Need-find-local-requires
-find-local-requires c κs = search needs
-
-enum-known-record : tie.Need-enum-known-record
-enum-known-record c = search needs
-
-cast-t10 : tie.Need-cast-t10
-cast-t10 c = search needs
-
-cast-t11 : tie.Need-cast-t11
-cast-t11 c = search needs
-
-enum-told : tie.Need-enum-told
-enum-told c = search needs
-
-enum-known-r : tie.Need-enum-known-r
-enum-known-r c = search needs
-
 returns : tie.Need-returns
 returns c = let e = sym (c .before .before .«record» .given .1) ∙ c .before .before .before .before .find-local .ensures in (ap foundNumber e, ap foundWords e)
 
@@ -36,12 +18,12 @@ pub bep-find-spec : {M : Type 1} → statement M
 bep-find-spec =
     tie.close
     (tie.spec
-    find-local-requires
-    enum-known-record
-    cast-t10
-    cast-t11
-    enum-told
-    enum-known-r
+    (λ c κs. search needs)
+    (λ c. search needs)
+    (λ c. search needs)
+    (λ c. search needs)
+    (λ c. search needs)
+    (λ c. search needs)
     returns
     returns-2
     returns-3)

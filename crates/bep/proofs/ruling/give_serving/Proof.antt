@@ -1,32 +1,16 @@
 -- `bep::ruling::give_serving` meets its contract: by the variant that the ruling is.
-use mathlib.Core.Path.{sym, ap}
+use mathlib.Core.Path.{sym, ap, _∙_}
 use Rattle.bep.specs.Serving.{servingNumber, servingWords}
 use borrow.Author.Needs.{needs}
 use Rattle.bep.proofs.ruling.give_serving.Statement.{statement}
 use Rattle.bep.proofs.ruling.give_serving.Tie as tie
 
-enum-known-s : tie.Need-enum-known-s
-enum-known-s c = search needs
-
-cast-t11 : tie.Need-cast-t11
-cast-t11 c = search needs
-
-enum-known-s-2 : tie.Need-enum-known-s-2
-enum-known-s-2 c = search needs
-
-enum-known-s-3 : tie.Need-enum-known-s-3
-enum-known-s-3 c = search needs
-
 returns : tie.Need-returns
 returns c = let e = sym (c .before .before .s .given .1) in (ap servingNumber e, ap servingWords e)
 
 returns-2 : tie.Need-returns-2
-returns-2 c = let e = sym (c .before .before .s2 .given .1) in (ap servingNumber e, ap servingWords e)
-
-returns-3 : tie.Need-returns-3
-returns-3 c = let e = sym (c .before .before .s3 .given .1) in (ap servingNumber e, ap servingWords e)
+returns-2 c = let e = sym (c .before .before .before .s2 .given .1) in let g = c .give-reply .ensures in (g .0 ∙ ap servingNumber e, g .1 ∙ ap servingWords e)
 
 pub give-serving-spec : {M : Type 1} → statement M
 give-serving-spec =
-    tie.close
-    (tie.spec enum-known-s cast-t11 enum-known-s-2 enum-known-s-3 returns returns-2 returns-3)
+    tie.close (tie.spec (λ c. search needs) (λ c. search needs) (λ c. search needs) (λ c κs. search needs) returns returns-2)

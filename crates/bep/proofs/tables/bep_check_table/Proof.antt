@@ -5,9 +5,6 @@ use borrow.Author.Needs.{needs}
 use Rattle.bep.proofs.tables.bep_check_table.Statement.{statement}
 use Rattle.bep.proofs.tables.bep_check_table.Tie as tie
 
-is-good-requires : tie.Need-is-good-requires
-is-good-requires c κs = search needs
-
 returns : tie.Need-returns
 returns c = ap goodNumber (sym (c .if1 .taken) ∙ c .before .is-good .ensures)
 
@@ -15,4 +12,4 @@ returns-2 : tie.Need-returns-2
 returns-2 c = ap goodNumber (sym (c .if1 .left) ∙ c .before .is-good .ensures)
 
 pub bep-check-table-spec : {M : Type 1} → statement M
-bep-check-table-spec = tie.close (tie.spec is-good-requires returns returns-2)
+bep-check-table-spec = tie.close (tie.spec (λ c κs. search needs) returns returns-2)

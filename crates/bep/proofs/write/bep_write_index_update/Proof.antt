@@ -1,21 +1,12 @@
 -- `bep::write::bep_write_index_update` meets its contract: the number, the word and the buffer of what was written.
 use borrow.Author.Needs.{needs}
-use Rattle.bep.proofs.WriteLaws.{wrote}
+use Rattle.bep.proofs.FillingLaws.{gives}
 use Rattle.bep.proofs.write.bep_write_index_update.Statement.{statement}
 use Rattle.bep.proofs.write.bep_write_index_update.Tie as tie
 
-write-index-update-requires : tie.Need-write-index-update-requires
-write-index-update-requires c κs = search needs
-
-give-requires : tie.Need-give-requires
-give-requires c κs = search needs
-
-same-length : tie.Need-same-length
-same-length c = search needs
-
 returns : tie.Need-returns
-returns c = wrote (c .before .before .before .before .write-index-update .ensures) (c .give .ensures)
+returns c = gives (c .before .before .before .before .write-index-update .ensures) (c .give .ensures)
 
 pub bep-write-index-update-spec : {M : Type 1} → statement M
 bep-write-index-update-spec =
-    tie.close (tie.spec write-index-update-requires give-requires same-length returns)
+    tie.close (tie.spec (λ c κs. search needs) (λ c κs. search needs) (λ c. search needs) returns)

@@ -10,29 +10,11 @@ Inv-loop out n₀ n = Unit {0}
 abbrev μ-loop : tie.MeasureT-loop
 μ-loop out n₀ n = 68 - n
 
-build-requires : tie.Need-build-requires Inv-loop μ-loop
-build-requires c κs = search needs
-
 loop-holds : tie.Need-loop-holds Inv-loop μ-loop
 loop-holds c = tt
 
-cut-requires : tie.Need-cut-requires Inv-loop μ-loop
-cut-requires c κs = search needs
-
-add-n : tie.Need-add-n Inv-loop μ-loop
-add-n c = search needs
-
-loop-less : tie.Need-loop-less Inv-loop μ-loop
-loop-less c = search needs
-
 loop-again : tie.Need-loop-again Inv-loop μ-loop
 loop-again c = tt
-
-same-length : tie.Need-same-length Inv-loop μ-loop
-same-length c = search needs
-
-returns : tie.Need-returns Inv-loop μ-loop
-returns c = search needs
 
 pub cuts-spec : {M : Type 1} → statement M
 cuts-spec =
@@ -40,11 +22,11 @@ cuts-spec =
     (tie.spec
     Inv-loop
     μ-loop
-    build-requires
+    (λ c κs. search needs)
     loop-holds
-    cut-requires
-    add-n
-    loop-less
+    (λ c κs. search needs)
+    (λ c. search needs)
+    (λ c. search needs)
     loop-again
-    same-length
-    returns)
+    (λ c. search needs)
+    (λ c. search needs))

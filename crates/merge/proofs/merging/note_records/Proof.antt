@@ -8,7 +8,7 @@ use Rattle.table.proofs.PassLaws.{Counted, counted-step, counted-all}
 use Rattle.merge.specs.Answer.{mergedRecords}
 use Rattle.merge.proofs.StepLaws.{Took}
 use Rattle.merge.proofs.NotingLaws.{Noting, noting-all, noting-within, noting-more}
-use Rattle.merge.proofs.LoopLaws.{Left, rest, begun-noting, took, none-left, after}
+use Rattle.merge.proofs.LoopLaws.{Left, rest, starting-noting, took, none-left, after}
 use borrow.Author.Needs.{needs}
 use Rattle.merge.proofs.merging.note_records.Statement.{statement}
 use Rattle.merge.proofs.merging.note_records.Tie as tie
@@ -30,17 +30,8 @@ taken c = took (c .before .before .before .before .before .loop .inv .0) (c .bef
 loop-holds : tie.Need-loop-holds Inv-loop μ-loop
 loop-holds c =
     let s = c .before .before .before in
-    let q = begun-noting (now (s .args .a)) (now (s .args .b)) (λ i. c .before .before .shared-slice-known .given i .fits) (λ i. c .before .shared-slice-known2 .given i .fits) (s .pre .0) (s .pre .1) (now (s .args .notes)) (s .pre .2) in
+    let q = starting-noting (now (s .args .a)) (now (s .args .b)) (λ i. c .before .before .shared-slice-known .given i .fits) (λ i. c .before .shared-slice-known2 .given i .fits) (s .pre .0) (s .pre .1) (now (s .args .notes)) (s .pre .2) in
     (q .0, q .1, (omega arith, omega arith), q .2)
-
-next-at-requires : tie.Need-next-at-requires Inv-loop μ-loop
-next-at-requires c κs = search needs
-
-enum-known-step : tie.Need-enum-known-step Inv-loop μ-loop
-enum-known-step c = search needs
-
-enum-told : tie.Need-enum-told Inv-loop μ-loop
-enum-told c = search needs
 
 same-length : tie.Need-same-length Inv-loop μ-loop
 same-length c = c .before .before .before .loop .inv .3 .long ∙ sym (c .before .before .before .before .before .before .before .pre .2)
@@ -49,7 +40,7 @@ returns : tie.Need-returns Inv-loop μ-loop
 returns c =
     let l = c .before .before .before .loop .inv in
     let none = none-left (l .0) (c .before .before .next-at .ensures) (c .enum-told .given .1) in
-    (omega (arith, l .3 .inside, l .3 .long), noting-all (l .3) none (counted-all (l .1) none))
+    noting-all (l .3) none (counted-all (l .1) none)
 
 sub-bytes : tie.Need-sub-bytes Inv-loop μ-loop
 sub-bytes c = let t = taken c in omega (arith, t .sized)
@@ -65,9 +56,6 @@ add-count c =
     let t = taken c in
     let m = c .before .before .before .before .before .loop .inv in
     omega (arith, t .grows, t .left .inside, t .right .inside, m .2, m .0 .short-left, m .0 .short-right)
-
-note-requires : tie.Need-note-requires Inv-loop μ-loop
-note-requires c κs = search needs
 
 add-noted : tie.Need-add-noted Inv-loop μ-loop
 add-noted c =
@@ -97,15 +85,15 @@ note-records-spec =
     Inv-loop
     μ-loop
     loop-holds
-    next-at-requires
-    enum-known-step
-    enum-told
+    (λ c κs. search needs)
+    (λ c. search needs)
+    (λ c. search needs)
     same-length
     returns
     sub-bytes
     add-bytes
     add-count
-    note-requires
+    (λ c κs. search needs)
     add-noted
     loop-less
     loop-again)

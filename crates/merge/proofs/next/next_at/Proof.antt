@@ -6,81 +6,30 @@ use borrow.Author.Needs.{needs}
 use Rattle.merge.proofs.next.next_at.Statement.{statement}
 use Rattle.merge.proofs.next.next_at.Tie as tie
 
-outline-at-requires : tie.Need-outline-at-requires
-outline-at-requires c κs = search needs
-
-enum-told : tie.Need-enum-told
-enum-told c = search needs
-
-outline-at-requires-2 : tie.Need-outline-at-requires-2
-outline-at-requires-2 c κs = search needs
-
-enum-told-2 : tie.Need-enum-told-2
-enum-told-2 c = search needs
-
-enum-known-g : tie.Need-enum-known-g
-enum-known-g c = search needs
-
-from-right-requires : tie.Need-from-right-requires
-from-right-requires c κs = search needs
-
-enum-known-f : tie.Need-enum-known-f
-enum-known-f c = search needs
-
-outline-at-requires-3 : tie.Need-outline-at-requires-3
-outline-at-requires-3 c κs = search needs
-
-enum-told-3 : tie.Need-enum-told-3
-enum-told-3 c = search needs
-
-from-left-requires : tie.Need-from-left-requires
-from-left-requires c κs = search needs
-
-enum-known-g-2 : tie.Need-enum-known-g-2
-enum-known-g-2 c = search needs
-
-choose-requires : tie.Need-choose-requires
-choose-requires c κs = search needs
-
 returns : tie.Need-returns
-returns c =
-    let s = c .before .before .before .before .before .before .before .before .args in
-    next-by (now (s .a)) (s .i) (now (s .b)) (s .j) (c .before .before .before .before .before .outline-at .ensures) (c .before .before .before .enum-told .given .1) (c .before .before .outline-at2 .ensures) (c .enum-told2 .given .1) refl
+returns c = let s = c .before .before .before .before .before .args in next-by (now (s .a)) (s .i) (now (s .b)) (s .j) (c .before .before .side-at .ensures) (c .enum-told .given .1) refl
 
 returns-2 : tie.Need-returns-2
-returns-2 c =
-    let e = c .before .before .before .before .before in
-    let s = e .before .before .before .before .before .args in
-    next-by (now (s .a)) (s .i) (now (s .b)) (s .j) (e .before .before .outline-at .ensures) (e .enum-told .given .1) (c .before .before .before .before .outline-at2 .ensures) (c .before .before .g .given .1) (c .from-right .ensures)
+returns-2 c = let s = c .before .before .before .before .before .before .before .args in next-by (now (s .a)) (s .i) (now (s .b)) (s .j) (c .before .before .before .before .side-at .ensures) (c .before .before .x .given .1) (c .from-left .ensures)
 
 returns-3 : tie.Need-returns-3
-returns-3 c =
-    let e = c .before .before .before .before .before in
-    let s = e .before .before .before .before .before .args in
-    next-by (now (s .a)) (s .i) (now (s .b)) (s .j) (e .before .before .outline-at .ensures) (e .f .given .1) (c .before .before .before .outline-at3 .ensures) (c .before .enum-told3 .given .1) (c .from-left .ensures)
+returns-3 c = let s = c .before .before .before .before .before .before .before .args in next-by (now (s .a)) (s .i) (now (s .b)) (s .j) (c .before .before .before .before .side-at .ensures) (c .before .before .y .given .1) (c .from-right .ensures)
 
 returns-4 : tie.Need-returns-4
-returns-4 c =
-    let e = c .before .before .before .before .before .before in
-    let s = e .before .before .before .before .before .args in
-    next-by (now (s .a)) (s .i) (now (s .b)) (s .j) (e .before .before .outline-at .ensures) (e .f .given .1) (c .before .before .before .before .outline-at3 .ensures) (c .before .before .g2 .given .1) (c .choose .ensures)
+returns-4 c = let s = c .before .before .before .before .before .before .before .args in next-by (now (s .a)) (s .i) (now (s .b)) (s .j) (c .before .before .before .before .side-at .ensures) (c .before .before .f .given .1) (c .higher .ensures)
 
 pub next-at-spec : {M : Type 1} → statement M
 next-at-spec =
     tie.close
     (tie.spec
-    outline-at-requires
-    enum-told
-    outline-at-requires-2
-    enum-told-2
-    enum-known-g
-    from-right-requires
-    enum-known-f
-    outline-at-requires-3
-    enum-told-3
-    from-left-requires
-    enum-known-g-2
-    choose-requires
+    (λ c κs. search needs)
+    (λ c. search needs)
+    (λ c. search needs)
+    (λ c κs. search needs)
+    (λ c. search needs)
+    (λ c κs. search needs)
+    (λ c. search needs)
+    (λ c κs. search needs)
     returns
     returns-2
     returns-3

@@ -5,22 +5,10 @@ use borrow.Author.Needs.{needs}
 use Rattle.merge.proofs.notes.note.Statement.{statement}
 use Rattle.merge.proofs.notes.note.Tie as tie
 
-put-pair-requires : tie.Need-put-pair-requires
-put-pair-requires c κs = search needs
-
-same-length : tie.Need-same-length
-same-length c = search needs
-
 returns : tie.Need-returns
 returns c =
     let s = c .before .before .before .before .before .before .args in
     put-by (now (s .notes)) (s .at) (note-by (s .step) (c .before .before .before .before .if1 .taken)) (c .before .before .put-pair .ensures)
-
-put-pair-requires-2 : tie.Need-put-pair-requires-2
-put-pair-requires-2 c κs = search needs
-
-same-length-2 : tie.Need-same-length-2
-same-length-2 c = search needs
 
 returns-2 : tie.Need-returns-2
 returns-2 c =
@@ -30,4 +18,4 @@ returns-2 c =
 pub note-spec : {M : Type 1} → statement M
 note-spec =
     tie.close
-    (tie.spec put-pair-requires same-length returns put-pair-requires-2 same-length-2 returns-2)
+    (tie.spec (λ c κs. search needs) (λ c. search needs) returns (λ c κs. search needs) (λ c. search needs) returns-2)

@@ -4,7 +4,7 @@ use mathlib.Core.Path.{_≡_, refl, sym, _∙_}
 use native.Mathlib.Omega.{arith}
 use denote.Ref.{now}
 use lib.ListN.{length, drop, getD, length-drop}
-use Rattle.merge.specs.Notes.{noted, putNotes}
+use Rattle.merge.specs.Steps.Notes.{noted, putNotes}
 use Rattle.merge.proofs.NoteLaws.{put-within, notes-next, notes-none}
 use borrow.Author.Needs.{needs}
 use Rattle.merge.proofs.notes.put_notes.Statement.{statement}
@@ -27,26 +27,14 @@ further c =
 loop-holds : tie.Need-loop-holds Inv-loop μ-loop
 loop-holds c = (refl, omega arith, refl, omega arith)
 
-sub-loop : tie.Need-sub-loop Inv-loop μ-loop
-sub-loop c = search needs
-
-mul-put-note : tie.Need-mul-put-note Inv-loop μ-loop
-mul-put-note c = search needs
-
 shared-slice-read-put-note : tie.Need-shared-slice-read-put-note Inv-loop μ-loop
 shared-slice-read-put-note c = omega arith
 
 add-put-note : tie.Need-add-put-note Inv-loop μ-loop
 add-put-note c = omega arith
 
-mul-put-note-2 : tie.Need-mul-put-note-2 Inv-loop μ-loop
-mul-put-note-2 c = search needs
-
 shared-slice-read-put-note-2 : tie.Need-shared-slice-read-put-note-2 Inv-loop μ-loop
 shared-slice-read-put-note-2 c = omega arith
-
-put-note-requires : tie.Need-put-note-requires Inv-loop μ-loop
-put-note-requires c κs = search needs
 
 add-to : tie.Need-add-to Inv-loop μ-loop
 add-to c = omega (arith, further c)
@@ -84,13 +72,13 @@ put-notes-spec =
     Inv-loop
     μ-loop
     loop-holds
-    sub-loop
-    mul-put-note
+    (λ c. search needs)
+    (λ c. search needs)
     shared-slice-read-put-note
     add-put-note
-    mul-put-note-2
+    (λ c. search needs)
     shared-slice-read-put-note-2
-    put-note-requires
+    (λ c κs. search needs)
     add-to
     add-k
     loop-less

@@ -4,7 +4,7 @@ use mathlib.Core.Bool.{true}
 use borrow.Author.Tests.{not-true, not-false}
 use denote.Ref.{now}
 use Rattle.table.specs.Table.{isWithin}
-use Rattle.merge.proofs.PutLaws.{table-large, table-tight, table-room}
+use Rattle.merge.proofs.PutLaws.{put-large, put-short, put-filled}
 use borrow.Author.Needs.{needs}
 use Rattle.merge.proofs.notes.put_table.Statement.{statement}
 use Rattle.merge.proofs.notes.put_table.Tie as tie
@@ -13,49 +13,31 @@ use Rattle.merge.proofs.notes.put_table.Tie as tie
 within : (c : tie.Else1) → let s = c .before .before .before .before .before .before .args .size in isWithin (s .count) (s .bytes) ≡ true
 within c = sym (c .before .within-limits .ensures) ∙ not-false _ (c .if1 .left)
 
-within-limits-requires : tie.Need-within-limits-requires
-within-limits-requires c κs = search needs
-
-refused-requires : tie.Need-refused-requires
-refused-requires c κs = search needs
-
 returns : tie.Need-returns
-returns c =
+returns c fs m =
     let s = c .before .before .before .before .before .before .before .args in
-    table-large (now (s .a)) (now (s .b)) (now (s .notes)) (s .size .count) (s .size .bytes) (now (s .out)) (sym (c .before .before .within-limits .ensures) ∙ not-true _ (c .before .if1 .taken)) (c .refused .ensures)
-
-refused-requires-2 : tie.Need-refused-requires-2
-refused-requires-2 c κs = search needs
+    put-large (now (s .a)) (now (s .b)) (now (s .notes)) (s .size) (now (s .out)) fs m (sym (c .before .before .within-limits .ensures) ∙ not-true _ (c .before .if1 .taken)) (c .refused .ensures)
 
 returns-2 : tie.Need-returns-2
-returns-2 c =
+returns-2 c fs m =
     let s = c .before .before .before .before .before .before .before .before .before .args in
-    table-tight (now (s .a)) (now (s .b)) (now (s .notes)) (s .size .count) (s .size .bytes) (now (s .out)) (within (c .before .before .before)) (c .before .if2 .taken) (c .refused2 .ensures)
-
-put-word-requires : tie.Need-put-word-requires
-put-word-requires c κs = search needs
-
-put-notes-requires : tie.Need-put-notes-requires
-put-notes-requires c κs = search needs
-
-same-length : tie.Need-same-length
-same-length c = search needs
+    put-short (now (s .a)) (now (s .b)) (now (s .notes)) (s .size) (now (s .out)) fs m (within (c .before .before .before)) (c .before .if2 .taken) (c .refused2 .ensures)
 
 returns-3 : tie.Need-returns-3
-returns-3 c =
+returns-3 c fs m =
     let s = c .before .before .before .before .before .before .before .before .before .before .before .before .before .before .before .before .args in
-    table-room (now (s .a)) (now (s .b)) (now (s .notes)) (s .size .count) (s .size .bytes) (now (s .out)) (within (c .before .before .before .before .before .before .before .before .before .before)) (c .before .before .before .before .before .before .before .before .if2 .left) (c .before .before .before .before .before .before .put-word .ensures .1) (c .before .before .put-notes .ensures)
+    put-filled (now (s .a)) (now (s .b)) (now (s .notes)) (s .size) (now (s .out)) fs m (within (c .before .before .before .before .before .before .before .before .before .before)) (c .before .before .before .before .before .before .before .before .if2 .left) (c .before .before .before .before .before .before .put-word .ensures .1) (c .before .before .put-notes .ensures)
 
 pub put-table-spec : {M : Type 1} → statement M
 put-table-spec =
     tie.close
     (tie.spec
-    within-limits-requires
-    refused-requires
+    (λ c κs. search needs)
+    (λ c κs. search needs)
     returns
-    refused-requires-2
+    (λ c κs. search needs)
     returns-2
-    put-word-requires
-    put-notes-requires
-    same-length
+    (λ c κs. search needs)
+    (λ c κs. search needs)
+    (λ c. search needs)
     returns-3)

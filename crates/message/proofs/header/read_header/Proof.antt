@@ -50,40 +50,19 @@ type-large k n e p = simp (le-leb 1 n (omega arith), lt-leb n 7 (omega arith))
 type-read : (c : tie.Else3) → let k = c .before .before .before .before .before in Reads (checked 3 (λ h. isType (typeOf h)) versioned) (s k) 0 (taken (h k) (next k))
 type-read c = checked-passed (version-read (c .before .before .before)) (type-fits _ _ (c .before .before .type-of .ensures) (c .before .if2 .left) (c .if3 .left))
 
-read-word-requires : tie.Need-read-word-requires
-read-word-requires c κs = search needs
-
-enum-known-answer : tie.Need-enum-known-answer
-enum-known-answer c = search needs
-
-enum-told : tie.Need-enum-told
-enum-told c = search needs
-
-refusal-requires : tie.Need-refusal-requires
-refusal-requires c κs = search needs
-
 returns : tie.Need-returns
 returns c = answered wordAnswer (checked-refused (checked-refused (checked-refused
     (word-refused (c .before .before .before .read-word .ensures) (c .before .enum-told .given .1) (c .refusal .ensures)))))
 
-version-of-requires : tie.Need-version-of-requires
-version-of-requires c κs = search needs
-
 returns-2 : tie.Need-returns-2
 returns-2 c = answered wordAnswer (checked-refused (checked-refused (checked-failed (word-read (c .before .before))
     (ne-eqb _ _ (λ e. c .if1 .taken (c .before .version-of .ensures ∙ e))))))
-
-type-of-requires : tie.Need-type-of-requires
-type-of-requires c κs = search needs
 
 returns-3 : tie.Need-returns-3
 returns-3 c = answered wordAnswer (checked-refused (checked-failed (version-read (c .before .before)) (type-zero _ _ (c .before .type-of .ensures) (c .if2 .taken))))
 
 returns-4 : tie.Need-returns-4
 returns-4 c = answered wordAnswer (checked-refused (checked-failed (version-read (c .before .before .before)) (type-large _ _ (c .before .before .type-of .ensures) (c .if3 .taken))))
-
-reserved-of-requires : tie.Need-reserved-of-requires
-reserved-of-requires c κs = search needs
 
 returns-5 : tie.Need-returns-5
 returns-5 c = answered wordAnswer (checked-failed (type-read (c .before .before)) (ne-eqb _ _ (λ e. c .if4 .taken (c .before .reserved-of .ensures ∙ e))))
@@ -95,16 +74,16 @@ pub read-header-spec : {M : Type 1} → statement M
 read-header-spec =
     tie.close
     (tie.spec
-    read-word-requires
-    enum-known-answer
-    enum-told
-    refusal-requires
+    (λ c κs. search needs)
+    (λ c. search needs)
+    (λ c. search needs)
+    (λ c κs. search needs)
     returns
-    version-of-requires
+    (λ c κs. search needs)
     returns-2
-    type-of-requires
+    (λ c κs. search needs)
     returns-3
     returns-4
-    reserved-of-requires
+    (λ c κs. search needs)
     returns-5
     returns-6)

@@ -39,45 +39,9 @@ header-read c = subst (λ (n : ℕ). Reads header (s c) 0 (taken (h c) n)) (head
 kind-is : (c : tie.After-type-of) (n : ℕ) → c .type-of .result ≡ n → kindOf (typeOf (h (c .before .before))) ≡ kindOf n
 kind-is c n e = ap kindOf (sym (c .type-of .ensures) ∙ e)
 
-read-header-requires : tie.Need-read-header-requires
-read-header-requires c κs = search needs
-
-enum-known-head : tie.Need-enum-known-head
-enum-known-head c = search needs
-
-enum-told : tie.Need-enum-told
-enum-told c = search needs
-
-refusal-requires : tie.Need-refusal-requires
-refusal-requires c κs = search needs
-
 returns : tie.Need-returns
 returns c = answered messageAnswer (first-refused
     (word-refused (c .before .before .before .read-header .ensures) (c .before .enum-told .given .1) (c .refusal .ensures)))
-
-id-of-requires : tie.Need-id-of-requires
-id-of-requires c κs = search needs
-
-type-of-requires : tie.Need-type-of-requires
-type-of-requires c κs = search needs
-
-read-index-requires : tie.Need-read-index-requires
-read-index-requires c κs = search needs
-
-index-message-requires : tie.Need-index-message-requires
-index-message-requires c κs = search needs
-
-read-request-requires : tie.Need-read-request-requires
-read-request-requires c κs = search needs
-
-read-response-requires : tie.Need-read-response-requires
-read-response-requires c κs = search needs
-
-read-index-requires-2 : tie.Need-read-index-requires-2
-read-index-requires-2 c κs = search needs
-
-update-message-requires : tie.Need-update-message-requires
-update-message-requires c κs = search needs
 
 read-options-requires : tie.Need-read-options-requires
 read-options-requires c κs = header-word (c .before .before .before) .1
@@ -136,19 +100,19 @@ pub read-spec : {M : Type 1} → statement M
 read-spec =
     tie.close
     (tie.spec
-    read-header-requires
-    enum-known-head
-    enum-told
-    refusal-requires
+    (λ c κs. search needs)
+    (λ c. search needs)
+    (λ c. search needs)
+    (λ c κs. search needs)
     returns
-    id-of-requires
-    type-of-requires
-    read-index-requires
-    index-message-requires
-    read-request-requires
-    read-response-requires
-    read-index-requires-2
-    update-message-requires
+    (λ c κs. search needs)
+    (λ c κs. search needs)
+    (λ c κs. search needs)
+    (λ c κs. search needs)
+    (λ c κs. search needs)
+    (λ c κs. search needs)
+    (λ c κs. search needs)
+    (λ c κs. search needs)
     read-options-requires
     returns-2
     returns-3

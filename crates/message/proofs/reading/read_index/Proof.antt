@@ -53,18 +53,6 @@ same-span : {n x a b u v m y e : ℕ} → x ≡ n → a ≡ b → u ≡ v → y 
     → I.Taken (record { repository = span 8 n; files = span a u; count = m; end = e }) ≡ I.Taken (record { repository = span 8 x; files = span b v; count = y; end = e })
 same-span p q r t = rw (p, q, r, t) refl
 
-read-text-requires : tie.Need-read-text-requires
-read-text-requires c κs = search needs
-
-enum-known-repository : tie.Need-enum-known-repository
-enum-known-repository c = search needs
-
-enum-told : tie.Need-enum-told
-enum-told c = search needs
-
-refusal-requires : tie.Need-refusal-requires
-refusal-requires c κs = search needs
-
 returns : tie.Need-returns
 returns c = answered indexAnswer (first-refused
     (bytes-refused (c .before .before .before .read-text .ensures) (c .before .enum-told .given .1) (c .refusal .ensures)))
@@ -76,21 +64,6 @@ sub-read-files c =
 part-read-files-start : tie.Need-part-read-files-start
 part-read-files-start c =
     let w = within c in omega arith
-
-part-read-files-end : tie.Need-part-read-files-end
-part-read-files-end c = search needs
-
-read-files-requires : tie.Need-read-files-requires
-read-files-requires c κs = search needs
-
-enum-known-files : tie.Need-enum-known-files
-enum-known-files c = search needs
-
-enum-told-2 : tie.Need-enum-told-2
-enum-told-2 c = search needs
-
-refusal-requires-2 : tie.Need-refusal-requires-2
-refusal-requires-2 c κs = search needs
 
 add-t14 : tie.Need-add-t14
 add-t14 c =
@@ -116,18 +89,18 @@ pub read-index-spec : {M : Type 1} → statement M
 read-index-spec =
     tie.close
     (tie.spec
-    read-text-requires
-    enum-known-repository
-    enum-told
-    refusal-requires
+    (λ c κs. search needs)
+    (λ c. search needs)
+    (λ c. search needs)
+    (λ c κs. search needs)
     returns
     sub-read-files
     part-read-files-start
-    part-read-files-end
-    read-files-requires
-    enum-known-files
-    enum-told-2
-    refusal-requires-2
+    (λ c. search needs)
+    (λ c κs. search needs)
+    (λ c. search needs)
+    (λ c. search needs)
+    (λ c κs. search needs)
     add-t14
     returns-2
     add-t11

@@ -39,27 +39,6 @@ same-span : {id u v n m e : ℕ} → u ≡ v → m ≡ n
     → M.Options id (record { options = span 4 u; count = n; end = e }) ≡ M.Options id (record { options = span 4 v; count = m; end = e })
 same-span p q = rw (p, q) refl
 
-sub-read-options : tie.Need-sub-read-options
-sub-read-options c = search needs
-
-part-read-options-start : tie.Need-part-read-options-start
-part-read-options-start c = search needs
-
-part-read-options-end : tie.Need-part-read-options-end
-part-read-options-end c = search needs
-
-read-options-requires : tie.Need-read-options-requires
-read-options-requires c κs = search needs
-
-enum-known-options : tie.Need-enum-known-options
-enum-known-options c = search needs
-
-enum-told : tie.Need-enum-told
-enum-told c = search needs
-
-refusal-requires : tie.Need-refusal-requires
-refusal-requires c κs = search needs
-
 add-t12 : tie.Need-add-t12
 add-t12 c =
     let w = refused-within (c .before .before .before .before .before .before .before .pre) (array-there-refused (c .before)) in omega arith
@@ -81,13 +60,13 @@ pub read-options-spec : {M : Type 1} → statement M
 read-options-spec =
     tie.close
     (tie.spec
-    sub-read-options
-    part-read-options-start
-    part-read-options-end
-    read-options-requires
-    enum-known-options
-    enum-told
-    refusal-requires
+    (λ c. search needs)
+    (λ c. search needs)
+    (λ c. search needs)
+    (λ c κs. search needs)
+    (λ c. search needs)
+    (λ c. search needs)
+    (λ c κs. search needs)
     add-t12
     returns
     add-t9

@@ -10,7 +10,7 @@ use Rattle.xdr.specs.Reading.{taken}
 use Rattle.xdr.specs.Pad.{padded}
 use Rattle.xdr.specs.Fields.{hyper}
 use Rattle.xdr.proofs.Answered.{word-taken, word-refused, hyper-taken, hyper-refused, bytes-taken, bytes-refused}
-use Rattle.xdr.proofs.Steps.{Reads, answered, first-refused, both-read, passed, ends-word}
+use Rattle.xdr.proofs.Steps.{Reads, answered, first-refused, both-read, via-refused, via-taken, passed, ends-word}
 use Rattle.xdr.proofs.Strings.{string-ends}
 use Rattle.record.specs.Block.{size, hash}
 use Rattle.record.specs.File.{name}
@@ -44,15 +44,15 @@ name-read c = bytes-taken (c .before .before .before .read-name .ensures) (c .be
 offset-read : (c : tie.After-known-told3) → Reads hyper (s (to-repository (to-name c))) (to-name c .before .name .given .0 .1 .0) (taken (c .before .offset .given .0 .0) (c .before .offset .given .0 .1 .0))
 offset-read c = hyper-taken (c .before .before .before .read-hyper .ensures) (c .before .offset .given .1)
 
-size-read : (c : tie.After-known-told4) → Reads size (s (to-repository (to-name (to-offset c)))) (to-offset c .before .offset .given .0 .1 .0) (taken (c .before .size .given .0 .0) (c .before .size .given .0 .1 .0))
-size-read c = word-taken (c .before .before .before .read-size .ensures) (c .before .size .given .1)
+size-read : (c : tie.After-known-told4) → Reads size (s (to-repository (to-name (to-offset c)))) (to-offset c .before .offset .given .0 .1 .0) (taken (c .before .length .given .0 .0) (c .before .length .given .0 .1 .0))
+size-read c = word-taken (c .before .before .before .read-size .ensures) (c .before .length .given .1)
 
 -- where the name and the hash stand, by the lengths before them
 places : (c : tie.After-known-told4)
     → let r = repository-read (to-repository (to-name (to-offset c))) .0 in
     let n = name-read (to-name (to-offset c)) .0 in
     (to-repository (to-name (to-offset c)) .before .repository .given .0 .1 .0 ≡ 8 + padded (length r))
-    × (c .before .size .given .0 .1 .0 + 4 ≡ 8 + padded (length r) + 4 + padded (length n) + 16)
+    × (c .before .length .given .0 .1 .0 + 4 ≡ 8 + padded (length r) + 4 + padded (length n) + 16)
 places c =
     let r = string-ends (passed (repository-read (to-repository (to-name (to-offset c))) .1)) in
     let n = string-ends (passed (passed (name-read (to-name (to-offset c)) .1))) in
@@ -62,97 +62,37 @@ places c =
 
 -- an answer with the lengths of what was read
 same-span : {id r x a b n y o l p q h z e : ℕ} → x ≡ r → a ≡ b → y ≡ n → p ≡ q → z ≡ h
-    → M.Request id (record { repository = span 8 r; name = span a n; offset = o; length = l; hash = span p h; end = e })
-    ≡ M.Request id (record { repository = span 8 x; name = span b y; offset = o; length = l; hash = span q z; end = e })
+    → M.Request id (record { repository = span 8 r; name = span a n; offset = o; size = l; hash = span p h; end = e })
+    ≡ M.Request id (record { repository = span 8 x; name = span b y; offset = o; size = l; hash = span q z; end = e })
 same-span u v w t i = rw (u, v, w, t, i) refl
 
-read-text-requires : tie.Need-read-text-requires
-read-text-requires c κs = search needs
-
-enum-known-repository : tie.Need-enum-known-repository
-enum-known-repository c = search needs
-
-enum-told : tie.Need-enum-told
-enum-told c = search needs
-
-refusal-requires : tie.Need-refusal-requires
-refusal-requires c κs = search needs
-
 returns : tie.Need-returns
-returns c = answered (bodyAnswer isRequest (c .before .before .before .before .before .args .id)) (first-refused
-    (bytes-refused (c .before .before .before .read-text .ensures) (c .before .enum-told .given .1) (c .refusal .ensures)))
-
-read-name-requires : tie.Need-read-name-requires
-read-name-requires c κs = search needs
-
-enum-known-name : tie.Need-enum-known-name
-enum-known-name c = search needs
-
-enum-told-2 : tie.Need-enum-told-2
-enum-told-2 c = search needs
-
-refusal-requires-2 : tie.Need-refusal-requires-2
-refusal-requires-2 c κs = search needs
+returns c = answered (bodyAnswer isRequest (c .before .before .before .before .before .args .id)) (via-refused (first-refused
+    (bytes-refused (c .before .before .before .read-text .ensures) (c .before .enum-told .given .1) (c .refusal .ensures))))
 
 returns-2 : tie.Need-returns-2
 returns-2 c =
     let k = c .before .before .before .before in
-    answered (bodyAnswer isRequest (c .before .before .before .before .before .before .before .before .before .args .id)) (both-read (repository-read k .1) (first-refused
-    (bytes-refused (c .before .before .before .read-name .ensures) (c .before .enum-told2 .given .1) (c .refusal2 .ensures))))
-
-read-hyper-requires : tie.Need-read-hyper-requires
-read-hyper-requires c κs = search needs
-
-enum-known-offset : tie.Need-enum-known-offset
-enum-known-offset c = search needs
-
-enum-told-3 : tie.Need-enum-told-3
-enum-told-3 c = search needs
-
-refusal-requires-3 : tie.Need-refusal-requires-3
-refusal-requires-3 c κs = search needs
+    answered (bodyAnswer isRequest (c .before .before .before .before .before .before .before .before .before .args .id)) (via-refused (both-read (repository-read k .1) (first-refused
+    (bytes-refused (c .before .before .before .read-name .ensures) (c .before .enum-told2 .given .1) (c .refusal2 .ensures)))))
 
 returns-3 : tie.Need-returns-3
 returns-3 c =
     let k = c .before .before .before .before in
-    answered (bodyAnswer isRequest (c .before .before .before .before .before .before .before .before .before .before .before .before .before .args .id)) (both-read (repository-read (to-repository k) .1) (both-read (name-read k .1) (first-refused
-    (hyper-refused (c .before .before .before .read-hyper .ensures) (c .before .enum-told3 .given .1) (c .refusal3 .ensures)))))
-
-read-size-requires : tie.Need-read-size-requires
-read-size-requires c κs = search needs
-
-enum-known-size : tie.Need-enum-known-size
-enum-known-size c = search needs
-
-enum-told-4 : tie.Need-enum-told-4
-enum-told-4 c = search needs
-
-refusal-requires-4 : tie.Need-refusal-requires-4
-refusal-requires-4 c κs = search needs
+    answered (bodyAnswer isRequest (c .before .before .before .before .before .before .before .before .before .before .before .before .before .args .id)) (via-refused (both-read (repository-read (to-repository k) .1) (both-read (name-read k .1) (first-refused
+    (hyper-refused (c .before .before .before .read-hyper .ensures) (c .before .enum-told3 .given .1) (c .refusal3 .ensures))))))
 
 returns-4 : tie.Need-returns-4
 returns-4 c =
     let k = c .before .before .before .before in
-    answered (bodyAnswer isRequest (c .before .before .before .before .before .before .before .before .before .before .before .before .before .before .before .before .before .args .id)) (both-read (repository-read (to-repository (to-name k)) .1) (both-read (name-read (to-name k) .1) (both-read (offset-read k) (first-refused
-    (word-refused (c .before .before .before .read-size .ensures) (c .before .enum-told4 .given .1) (c .refusal4 .ensures))))))
-
-read-hash-requires : tie.Need-read-hash-requires
-read-hash-requires c κs = search needs
-
-enum-known-hash : tie.Need-enum-known-hash
-enum-known-hash c = search needs
-
-enum-told-5 : tie.Need-enum-told-5
-enum-told-5 c = search needs
-
-refusal-requires-5 : tie.Need-refusal-requires-5
-refusal-requires-5 c κs = search needs
+    answered (bodyAnswer isRequest (c .before .before .before .before .before .before .before .before .before .before .before .before .before .before .before .before .before .args .id)) (via-refused (both-read (repository-read (to-repository (to-name k)) .1) (both-read (name-read (to-name k) .1) (both-read (offset-read k) (first-refused
+    (word-refused (c .before .before .before .read-size .ensures) (c .before .enum-told4 .given .1) (c .refusal4 .ensures)))))))
 
 returns-5 : tie.Need-returns-5
 returns-5 c =
     let k = c .before .before .before .before in
-    answered (bodyAnswer isRequest (c .before .before .before .before .before .before .before .before .before .before .before .before .before .before .before .before .before .before .before .before .before .args .id)) (both-read (repository-read (to-repository (to-name (to-offset k))) .1) (both-read (name-read (to-name (to-offset k)) .1) (both-read (offset-read (to-offset k)) (both-read (size-read k)
-    (bytes-refused (c .before .before .before .read-hash .ensures) (c .before .enum-told5 .given .1) (c .refusal5 .ensures))))))
+    answered (bodyAnswer isRequest (c .before .before .before .before .before .before .before .before .before .before .before .before .before .before .before .before .before .before .before .before .before .args .id)) (via-refused (both-read (repository-read (to-repository (to-name (to-offset k))) .1) (both-read (name-read (to-name (to-offset k)) .1) (both-read (offset-read (to-offset k)) (both-read (size-read k)
+    (bytes-refused (c .before .before .before .read-hash .ensures) (c .before .enum-told5 .given .1) (c .refusal5 .ensures)))))))
 
 add-t25 : tie.Need-add-t25
 add-t25 c =
@@ -170,36 +110,36 @@ returns-6 c =
     let h = bytes-taken (c .before .before .before .read-hash .ensures) (c .before .hash .given .1) in
     let w = places k in
     same-span (r .2) (ap (λ (m : ℕ). m + 4) (w .0)) (n .2) (w .1) (h .2)
-    ∙ answered (bodyAnswer isRequest (c .before .before .before .before .before .before .before .before .before .before .before .before .before .before .before .before .before .before .before .before .before .args .id)) (both-read (r .1) (both-read (n .1) (both-read (offset-read (to-offset k)) (both-read (size-read k) (h .1)))))
+    ∙ answered (bodyAnswer isRequest (c .before .before .before .before .before .before .before .before .before .before .before .before .before .before .before .before .before .before .before .before .before .args .id)) (via-taken (both-read (r .1) (both-read (n .1) (both-read (offset-read (to-offset k)) (both-read (size-read k) (h .1))))))
 
 pub read-request-spec : {M : Type 1} → statement M
 read-request-spec =
     tie.close
     (tie.spec
-    read-text-requires
-    enum-known-repository
-    enum-told
-    refusal-requires
+    (λ c κs. search needs)
+    (λ c. search needs)
+    (λ c. search needs)
+    (λ c κs. search needs)
     returns
-    read-name-requires
-    enum-known-name
-    enum-told-2
-    refusal-requires-2
+    (λ c κs. search needs)
+    (λ c. search needs)
+    (λ c. search needs)
+    (λ c κs. search needs)
     returns-2
-    read-hyper-requires
-    enum-known-offset
-    enum-told-3
-    refusal-requires-3
+    (λ c κs. search needs)
+    (λ c. search needs)
+    (λ c. search needs)
+    (λ c κs. search needs)
     returns-3
-    read-size-requires
-    enum-known-size
-    enum-told-4
-    refusal-requires-4
+    (λ c κs. search needs)
+    (λ c. search needs)
+    (λ c. search needs)
+    (λ c κs. search needs)
     returns-4
-    read-hash-requires
-    enum-known-hash
-    enum-told-5
-    refusal-requires-5
+    (λ c κs. search needs)
+    (λ c. search needs)
+    (λ c. search needs)
+    (λ c κs. search needs)
     returns-5
     add-t25
     add-t27

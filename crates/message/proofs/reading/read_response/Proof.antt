@@ -10,18 +10,6 @@ use Rattle.message.specs.declared.answer.Message.the-variants as M
 use Rattle.message.proofs.reading.read_response.Statement.{statement}
 use Rattle.message.proofs.reading.read_response.Tie as tie
 
-read-bytes-requires : tie.Need-read-bytes-requires
-read-bytes-requires c κs = search needs
-
-enum-known-data : tie.Need-enum-known-data
-enum-known-data c = search needs
-
-enum-told : tie.Need-enum-told
-enum-told c = search needs
-
-refusal-requires : tie.Need-refusal-requires
-refusal-requires c κs = search needs
-
 returns : tie.Need-returns
 returns c = answered (bodyAnswer isResponse (c .before .before .before .before .before .args .id)) (bytes-refused (c .before .before .before .read-bytes .ensures) (c .before .enum-told .given .1) (c .refusal .ensures))
 
@@ -34,4 +22,4 @@ returns-2 c =
 pub read-response-spec : {M : Type 1} → statement M
 read-response-spec =
     tie.close
-    (tie.spec read-bytes-requires enum-known-data enum-told refusal-requires returns returns-2)
+    (tie.spec (λ c κs. search needs) (λ c. search needs) (λ c. search needs) (λ c κs. search needs) returns returns-2)

@@ -17,15 +17,6 @@ use Rattle.message_write.proofs.check.check_bytes.Tie as tie
 returns : tie.Need-returns
 returns c = answered bytesAnswer (told-refused (now (c .before .before .args .l)) (lt-leb _ _ (c .if1 .taken)))
 
-add-t4 : tie.Need-add-t4
-add-t4 c = search needs
-
-pad-after-requires : tie.Need-pad-after-requires
-pad-after-requires c κs = search needs
-
-add-t8 : tie.Need-add-t8
-add-t8 c = search needs
-
 returns-2 : tie.Need-returns-2
 returns-2 c =
     let l = now (c .before .before .before .args .l) in
@@ -33,4 +24,4 @@ returns-2 c =
     ap (B.Taken (length l)) size ∙ answered bytesAnswer (told-taken l (le-leb _ _ (c .before .if1 .left)))
 
 pub check-bytes-spec : {M : Type 1} → statement M
-check-bytes-spec = tie.close (tie.spec returns add-t4 pad-after-requires add-t8 returns-2)
+check-bytes-spec = tie.close (tie.spec returns (λ c. search needs) (λ c κs. search needs) (λ c. search needs) returns-2)

@@ -1,6 +1,6 @@
 -- `message_write::check::check_index` meets its contract: the repository stands right behind the header, and the files behind it.
 use Prim.Native.Nat.{ℕ, _+_, _≤_}
-use mathlib.Core.List.{List, [], _∷_, _++_}
+use mathlib.Core.List.{List}
 use mathlib.Core.Path.{_≡_, refl, _∙_}
 use native.Mathlib.Omega.{arith}
 use borrow.Author.Needs.{needs}
@@ -12,9 +12,8 @@ use Rattle.xdr.specs.Format.{bytes, encode}
 use Rattle.xdr.specs.Fields.{word, text}
 use Rattle.xdr.proofs.Answered.{bytes-taken, bytes-refused}
 use Rattle.xdr.proofs.Steps.{Reads, passed, first-refused, both-read, ends, refused-within}
-use Rattle.xdr.proofs.Told.{Wide, encoded-at}
 use Rattle.message_write.specs.Writing.{indexBytes}
-use Rattle.message_write.proofs.Behind.{behind, fits-body, last-at, string-refused, string-taken, behind-string}
+use Rattle.message_write.proofs.Behind.{behind, checks, last-at, string-refused, string-taken, behind-string, repository-there}
 use Rattle.record.specs.File.{File, files}
 use Rattle.record.proofs.Answered.{array-taken, array-refused}
 use Rattle.message.specs.Limits.{filesLimit}
@@ -33,10 +32,6 @@ repository-read c = bytes-taken (c .before .before .before .check-text .ensures)
 repository-size : (c : tie.After-known-told) → let l = now (c .before .before .before .before .before .before .args .repository) in (c .before .text .given .0 .1 .0 ≡ 4 + padded (length l)) × (length l ≤ 64)
 repository-size c = string-taken (now (c .before .before .before .before .before .before .args .repository)) (passed (repository-read c .1))
 
-repository-there : (l t : List ℕ) {r : Reading (List ℕ)} → Reads repository (encode (bytes word) l) 0 r → Reads repository (behind (encode (bytes word) l ++ t)) 4 (shifted 4 r)
-unfolding encode Wide
-repository-there l t h = encoded-at {F = repository} l (0 ∷ 0 ∷ 0 ∷ 0 ∷ []) t (omega arith) refl refl h
-
 -- the files, refused or read, by themselves and behind the repository
 files-refused : (c : tie.After-refusal2) → Reads (files filesLimit) (now (c .before .before .before .before .before .before .before .before .before .before .args .files)) 0 (refused (c .refusal2 .result .number) (c .refusal2 .result .place))
 files-refused c = array-refused (c .before .before .before .read-files .ensures) (c .before .enum-told2 .given .1) (c .refusal2 .ensures)
@@ -54,36 +49,12 @@ files-there c h =
     let l = now (a .repository) in
     last-at (behind (encode (bytes word) l)) (now (a .files)) refl (behind-string l _ (repository-size c .0)) h
 
-check-text-requires : tie.Need-check-text-requires
-check-text-requires c κs = search needs
-
-enum-known-text : tie.Need-enum-known-text
-enum-known-text c = search needs
-
-enum-told : tie.Need-enum-told
-enum-told c = search needs
-
-refusal-requires : tie.Need-refusal-requires
-refusal-requires c κs = search needs
-
 refused-at-requires : tie.Need-refused-at-requires
 refused-at-requires c κs =
     let w = string-refused (now (c .before .before .before .before .before .before .args .repository)) (repository-refused c) in omega (arith, c .before .before .before .before .before .before .good .0 .1)
 
 returns : tie.Need-returns
-returns c = c .refused-at .ensures ∙ fits-body (c .before .before .before .before .before .before .before .args .room) (first-refused (repository-there (now (c .before .before .before .before .before .before .before .args .repository)) (now (c .before .before .before .before .before .before .before .args .files)) (repository-refused (c .before))))
-
-read-files-requires : tie.Need-read-files-requires
-read-files-requires c κs = search needs
-
-enum-known-array : tie.Need-enum-known-array
-enum-known-array c = search needs
-
-enum-told-2 : tie.Need-enum-told-2
-enum-told-2 c = search needs
-
-refusal-requires-2 : tie.Need-refusal-requires-2
-refusal-requires-2 c κs = search needs
+returns c = c .refused-at .ensures ∙ checks (first-refused (repository-there (now (c .before .before .before .before .before .before .before .args .repository)) (now (c .before .before .before .before .before .before .before .args .files)) (repository-refused (c .before))))
 
 add-refused-at : tie.Need-add-refused-at
 add-refused-at c =
@@ -96,42 +67,38 @@ refused-at-requires-2 c κs =
 returns-2 : tie.Need-returns-2
 returns-2 c =
     let k = c .before .before .before .before .before in
-    c .refused-at2 .ensures ∙ fits-body (c .before .before .before .before .before .before .before .before .before .before .before .args .room) (both-read (repository-there (now (c .before .before .before .before .before .before .before .before .before .before .before .args .repository)) (now (c .before .before .before .before .before .before .before .before .before .before .before .args .files)) (repository-read k .1)) (files-there k (files-refused (c .before))))
+    c .refused-at2 .ensures ∙ checks (both-read (repository-there (now (c .before .before .before .before .before .before .before .before .before .before .before .args .repository)) (now (c .before .before .before .before .before .before .before .before .before .before .before .args .files)) (repository-read k .1)) (files-there k (files-refused (c .before))))
 
-add-fit : tie.Need-add-fit
-add-fit c =
+add-t10 : tie.Need-add-t10
+add-t10 c =
     let w = repository-size (c .before .before .before .before) in omega arith
 
-add-fit-2 : tie.Need-add-fit-2
-add-fit-2 c =
+add-t11 : tie.Need-add-t11
+add-t11 c =
     let w = repository-size (c .before .before .before .before) in let v = ends (omega arith) (files-read c .1) in omega (arith, c .before .before .before .before .before .before .before .before .before .before .good .1 .0 .1)
-
-fit-requires : tie.Need-fit-requires
-fit-requires c κs = search needs
 
 returns-3 : tie.Need-returns-3
 returns-3 c =
-    let k = c .before .before .before .before .before in
-    c .fit .ensures ∙ fits-body (c .before .before .before .before .before .before .before .before .before .before .before .args .room) (both-read (repository-there (now (c .before .before .before .before .before .before .before .before .before .before .before .args .repository)) (now (c .before .before .before .before .before .before .before .before .before .before .before .args .files)) (repository-read k .1)) (files-there k (files-read (c .before) .1)))
+    let k = c .before .before .before .before in
+    checks (both-read (repository-there (now (c .before .before .before .before .before .before .before .before .before .before .args .repository)) (now (c .before .before .before .before .before .before .before .before .before .before .args .files)) (repository-read k .1)) (files-there k (files-read c .1)))
 
 pub check-index-spec : {M : Type 1} → statement M
 check-index-spec =
     tie.close
     (tie.spec
-    check-text-requires
-    enum-known-text
-    enum-told
-    refusal-requires
+    (λ c κs. search needs)
+    (λ c. search needs)
+    (λ c. search needs)
+    (λ c κs. search needs)
     refused-at-requires
     returns
-    read-files-requires
-    enum-known-array
-    enum-told-2
-    refusal-requires-2
+    (λ c κs. search needs)
+    (λ c. search needs)
+    (λ c. search needs)
+    (λ c κs. search needs)
     add-refused-at
     refused-at-requires-2
     returns-2
-    add-fit
-    add-fit-2
-    fit-requires
+    add-t10
+    add-t11
     returns-3)

@@ -12,18 +12,6 @@ use Rattle.xdr.proofs.Steps.{answered, checked-refused, checked-failed, checked
 use Rattle.message_write.proofs.check.check_name.Statement.{statement}
 use Rattle.message_write.proofs.check.check_name.Tie as tie
 
-check-text-requires : tie.Need-check-text-requires
-check-text-requires c κs = search needs
-
-enum-known-answer : tie.Need-enum-known-answer
-enum-known-answer c = search needs
-
-enum-told : tie.Need-enum-told
-enum-told c = search needs
-
-refusal-requires : tie.Need-refusal-requires
-refusal-requires c κs = search needs
-
 returns : tie.Need-returns
 returns c = answered bytesAnswer (checked-refused (bytes-refused (c .before .before .before .check-text .ensures) (c .before .enum-told .given .1) (c .refusal .ensures)))
 
@@ -41,10 +29,10 @@ pub check-name-spec : {M : Type 1} → statement M
 check-name-spec =
     tie.close
     (tie.spec
-    check-text-requires
-    enum-known-answer
-    enum-told
-    refusal-requires
+    (λ c κs. search needs)
+    (λ c. search needs)
+    (λ c. search needs)
+    (λ c κs. search needs)
     returns
     returns-2
     returns-3)

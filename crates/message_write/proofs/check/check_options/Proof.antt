@@ -7,7 +7,7 @@ use denote.Ref.{now}
 use lib.ListN.{length}
 use Rattle.xdr.specs.Reading.{taken, refused}
 use Rattle.xdr.proofs.Steps.{Reads, ends, refused-within}
-use Rattle.message_write.proofs.Behind.{fits-body, last-at}
+use Rattle.message_write.proofs.Behind.{checks, last-at}
 use Rattle.record.specs.KeyValue.{KeyValue, options}
 use Rattle.record.proofs.Answered.{array-taken, array-refused}
 use Rattle.message.specs.Limits.{optionsLimit}
@@ -22,45 +22,29 @@ options-read : (c : tie.After-known-told)
     → (l : List KeyValue) × Reads (options optionsLimit) (now (c .before .before .before .before .before .args .options)) 0 (taken l (c .before .array .given .0 .1 .0)) × (length l ≡ c .before .array .given .0 .0)
 options-read c = array-taken (c .before .before .before .read-options .ensures) (c .before .array .given .1)
 
-read-options-requires : tie.Need-read-options-requires
-read-options-requires c κs = search needs
-
-enum-known-array : tie.Need-enum-known-array
-enum-known-array c = search needs
-
-enum-told : tie.Need-enum-told
-enum-told c = search needs
-
-refusal-requires : tie.Need-refusal-requires
-refusal-requires c κs = search needs
-
 refused-at-requires : tie.Need-refused-at-requires
 refused-at-requires c κs =
     let w = refused-within (omega arith) (options-refused c) in omega (arith, c .before .before .before .before .before .good .0 .1)
 
 returns : tie.Need-returns
-returns c = c .refused-at .ensures ∙ fits-body (c .before .before .before .before .before .before .args .room) (last-at (0 ∷ 0 ∷ 0 ∷ 0 ∷ []) (now (c .before .before .before .before .before .before .args .options)) refl refl (options-refused (c .before)))
+returns c = c .refused-at .ensures ∙ checks (last-at (0 ∷ 0 ∷ 0 ∷ 0 ∷ []) (now (c .before .before .before .before .before .before .args .options)) refl refl (options-refused (c .before)))
 
-add-fit : tie.Need-add-fit
-add-fit c =
+add-t5 : tie.Need-add-t5
+add-t5 c =
     let w = ends (omega arith) (options-read c .1) in omega (arith, c .before .before .before .before .before .good .0 .1)
 
-fit-requires : tie.Need-fit-requires
-fit-requires c κs = search needs
-
 returns-2 : tie.Need-returns-2
-returns-2 c = c .fit .ensures ∙ fits-body (c .before .before .before .before .before .before .args .room) (last-at (0 ∷ 0 ∷ 0 ∷ 0 ∷ []) (now (c .before .before .before .before .before .before .args .options)) refl refl (options-read (c .before) .1))
+returns-2 c = checks (last-at (0 ∷ 0 ∷ 0 ∷ 0 ∷ []) (now (c .before .before .before .before .before .args .options)) refl refl (options-read c .1))
 
 pub check-options-spec : {M : Type 1} → statement M
 check-options-spec =
     tie.close
     (tie.spec
-    read-options-requires
-    enum-known-array
-    enum-told
-    refusal-requires
+    (λ c κs. search needs)
+    (λ c. search needs)
+    (λ c. search needs)
+    (λ c κs. search needs)
     refused-at-requires
     returns
-    add-fit
-    fit-requires
+    add-t5
     returns-2)

@@ -1,6 +1,6 @@
 -- `message_write::check::check_request` meets its contract: each field stands behind those before it.
 use Prim.Native.Nat.{ℕ, _+_, _≤_}
-use mathlib.Core.List.{List, [], _∷_, _++_, append-assoc}
+use mathlib.Core.List.{List, _++_, append-assoc}
 use mathlib.Core.Path.{_≡_, refl, sym, _∙_}
 use native.Mathlib.Omega.{arith}
 use borrow.Author.Needs.{needs}
@@ -11,15 +11,13 @@ use Rattle.xdr.specs.Pad.{padded}
 use Rattle.xdr.specs.Format.{bytes, encode}
 use Rattle.xdr.specs.Fields.{word, hyper}
 use Rattle.xdr.proofs.Answered.{bytes-taken, bytes-refused}
-use Rattle.xdr.proofs.Steps.{Reads, passed, first-refused, both-read}
-use Rattle.xdr.proofs.Told.{Wide, encoded-at}
-use Rattle.message_write.proofs.Behind.{behind, fits-body, last-at, string-size, string-refused, string-taken, behind-string}
+use Rattle.xdr.proofs.Steps.{Reads, passed, first-refused, both-read, via-refused, via-taken, checked-failed, checked-passed}
+use Rattle.xdr.proofs.Told.{Wide, encoded-at, number-alone, told-same}
+use Rattle.message_write.proofs.Behind.{behind, checks, last-at, string-size, string-refused, string-taken, behind-string, repository-there}
 use borrow.Author.Tests.{not-true, not-false, eqb-true}
 use Rattle.record.specs.Block.{hash}
 use Rattle.record.specs.File.{name}
 use Rattle.xdr.proofs.EncodedSize.{number-size}
-use Rattle.xdr.proofs.Steps.{checked-failed, checked-passed}
-use Rattle.xdr.proofs.Told.{number-alone, told-same}
 use Rattle.message.specs.Message.{repository}
 use Rattle.message_write.specs.Writing.{requestBytes}
 use Rattle.message_write.proofs.check.check_request.Statement.{statement}
@@ -35,10 +33,6 @@ repository-read c = bytes-taken (c .before .before .before .check-text .ensures)
 
 repository-size : (c : tie.After-known-told) → let l = now (c .before .before .before .before .before .before .before .args .repository) in (c .before .first .given .0 .1 .0 ≡ 4 + padded (length l)) × (length l ≤ 64)
 repository-size c = string-taken (now (c .before .before .before .before .before .before .before .args .repository)) (passed (repository-read c .1))
-
-repository-there : (l t : List ℕ) {r : Reading (List ℕ)} → Reads repository (encode (bytes word) l) 0 r → Reads repository (behind (encode (bytes word) l ++ t)) 4 (shifted 4 r)
-unfolding encode Wide
-repository-there l t h = encoded-at {F = repository} l (0 ∷ 0 ∷ 0 ∷ 0 ∷ []) t (omega arith) refl refl h
 
 -- the name, refused or read, by itself and behind the repository
 name-refused : (c : tie.After-refusal2) → Reads name (encode (bytes word) (now (c .before .before .before .before .before .before .before .before .before .before .before .args .name))) 0 (refused (c .refusal2 .result .number) (c .refusal2 .result .place))
@@ -79,7 +73,7 @@ long-offset c =
 
 -- the whole message, with an offset
 abbrev whole : tie.After-known-told2 → ℕ → List ℕ
-whole c o = let a = c .before .before .before .before .before .before .before .before .before .before .before .args in behind (requestBytes (now (a .repository)) (now (a .name)) o (a .length) (now (a .hash)))
+whole c o = let a = c .before .before .before .before .before .before .before .before .before .before .before .args in behind (requestBytes (now (a .repository)) (now (a .name)) o (a .size) (now (a .hash)))
 
 abbrev the-hash : tie.After-known-told2 → List ℕ
 the-hash c = encode (bytes word) (now (c .before .before .before .before .before .before .before .before .before .before .before .args .hash))
@@ -87,23 +81,23 @@ the-hash c = encode (bytes word) (now (c .before .before .before .before .before
 offset-there : (c : tie.After-known-told2) (o : ℕ) → Reads hyper (whole c o) (offset-at c) (taken o (offset-at c + 8))
 unfolding Wide
 offset-there c o =
-    let l = encode word (c .before .before .before .before .before .before .before .before .before .before .before .args .length) in
+    let l = encode word (c .before .before .before .before .before .before .before .before .before .before .before .args .size) in
     encoded-at {F = hyper} o (to-offset c) (l ++ the-hash c) (omega arith)
     (sym (append-assoc (to-name (c .before .before .before .before)) (encode (bytes word) (now (c .before .before .before .before .before .before .before .before .before .before .before .args .name))) (encode hyper o ++ (l ++ the-hash c)))) (long-offset c) (number-alone 7 o)
 
-whole-is : (c : tie.After-known-told2) (o : ℕ) → whole c o ≡ (to-offset c ++ encode hyper o) ++ (encode word (c .before .before .before .before .before .before .before .before .before .before .before .args .length) ++ the-hash c)
+whole-is : (c : tie.After-known-told2) (o : ℕ) → whole c o ≡ (to-offset c ++ encode hyper o) ++ (encode word (c .before .before .before .before .before .before .before .before .before .before .before .args .size) ++ the-hash c)
 whole-is c o =
-    let l = encode word (c .before .before .before .before .before .before .before .before .before .before .before .args .length) in
+    let l = encode word (c .before .before .before .before .before .before .before .before .before .before .before .args .size) in
     sym (append-assoc (to-name (c .before .before .before .before)) (encode (bytes word) (now (c .before .before .before .before .before .before .before .before .before .before .before .args .name))) (encode hyper o ++ (l ++ the-hash c)))
     ∙ sym (append-assoc (to-offset c) (encode hyper o) (l ++ the-hash c))
 
 long-length : (c : tie.After-known-told2) (o : ℕ) → length (to-offset c ++ encode hyper o) ≡ offset-at c + 8
 long-length c o = length-append (to-offset c) (encode hyper o) ∙ omega (arith, long-offset c, number-size 8 o)
 
-length-there : (c : tie.After-known-told2) (o : ℕ) → Reads word (whole c o) (offset-at c + 8) (taken (c .before .before .before .before .before .before .before .before .before .before .before .args .length) (offset-at c + 8 + 4))
+length-there : (c : tie.After-known-told2) (o : ℕ) → Reads word (whole c o) (offset-at c + 8) (taken (c .before .before .before .before .before .before .before .before .before .before .before .args .size) (offset-at c + 8 + 4))
 unfolding Wide
 length-there c o =
-    encoded-at {F = word} (c .before .before .before .before .before .before .before .before .before .before .before .args .length) (to-offset c ++ encode hyper o) (the-hash c) (omega arith) (whole-is c o) (long-length c o) (number-alone 3 (c .before .before .before .before .before .before .before .before .before .before .before .args .length))
+    encoded-at {F = word} (c .before .before .before .before .before .before .before .before .before .before .before .args .size) (to-offset c ++ encode hyper o) (the-hash c) (omega arith) (whole-is c o) (long-length c o) (number-alone 3 (c .before .before .before .before .before .before .before .before .before .before .before .args .size))
 
 -- the hash, refused or read, by itself and behind all the rest
 hash-refused : (c : tie.After-refusal3) → Reads hash (encode (bytes word) (now (c .before .before .before .before .before .before .before .before .before .before .before .before .before .before .before .before .before .args .hash))) 0 (refused (c .refusal3 .result .number) (c .refusal3 .result .place))
@@ -116,21 +110,9 @@ hash-read c = bytes-taken (c .before .before .before .check-hash .ensures) (c .b
 hash-there : (c : tie.After-known-told2) (o : ℕ) {r : Reading (List ℕ)}
     → Reads hash (the-hash c) 0 r → Reads hash (whole c o) (offset-at c + 8 + 4) (shifted (offset-at c + 8 + 4) r)
 hash-there c o h =
-    let l = encode word (c .before .before .before .before .before .before .before .before .before .before .before .args .length) in
+    let l = encode word (c .before .before .before .before .before .before .before .before .before .before .before .args .size) in
     last-at ((to-offset c ++ encode hyper o) ++ l) (the-hash c) (whole-is c o ∙ sym (append-assoc (to-offset c ++ encode hyper o) l (the-hash c)))
-    (length-append (to-offset c ++ encode hyper o) l ∙ omega (arith, long-length c o, number-size 4 (c .before .before .before .before .before .before .before .before .before .before .before .args .length))) h
-
-check-text-requires : tie.Need-check-text-requires
-check-text-requires c κs = search needs
-
-enum-known-first : tie.Need-enum-known-first
-enum-known-first c = search needs
-
-enum-told : tie.Need-enum-told
-enum-told c = search needs
-
-refusal-requires : tie.Need-refusal-requires
-refusal-requires c κs = search needs
+    (length-append (to-offset c ++ encode hyper o) l ∙ omega (arith, long-length c o, number-size 4 (c .before .before .before .before .before .before .before .before .before .before .before .args .size))) h
 
 refused-at-requires : tie.Need-refused-at-requires
 refused-at-requires c κs =
@@ -139,23 +121,11 @@ refused-at-requires c κs =
 returns : tie.Need-returns
 returns c = λ o.
     let a = c .before .before .before .before .before .before .before .before .args in
-    c .refused-at .ensures ∙ fits-body (a .room) (first-refused (repository-there (now (a .repository)) _ (repository-refused (c .before))))
+    c .refused-at .ensures ∙ checks (via-refused (first-refused (repository-there (now (a .repository)) _ (repository-refused (c .before)))))
 
 add-name-at : tie.Need-add-name-at
 add-name-at c =
     let w = repository-size c in omega arith
-
-check-name-requires : tie.Need-check-name-requires
-check-name-requires c κs = search needs
-
-enum-known-second : tie.Need-enum-known-second
-enum-known-second c = search needs
-
-enum-told-2 : tie.Need-enum-told-2
-enum-told-2 c = search needs
-
-refusal-requires-2 : tie.Need-refusal-requires-2
-refusal-requires-2 c κs = search needs
 
 refused-at-requires-2 : tie.Need-refused-at-requires-2
 refused-at-requires-2 c κs =
@@ -165,7 +135,7 @@ returns-2 : tie.Need-returns-2
 returns-2 c = λ o.
     let a = c .before .before .before .before .before .before .before .before .before .before .before .before .args in
     let k = c .before .before .before .before .before in
-    c .refused-at2 .ensures ∙ fits-body (a .room) (both-read (repository-there (now (a .repository)) _ (repository-read k .1)) (first-refused (name-there k _ (name-refused (c .before)))))
+    c .refused-at2 .ensures ∙ checks (via-refused (both-read (repository-there (now (a .repository)) _ (repository-read k .1)) (first-refused (name-there k _ (name-refused (c .before))))))
 
 add-size-at : tie.Need-add-size-at
 add-size-at c =
@@ -175,31 +145,16 @@ add-size-at-2 : tie.Need-add-size-at-2
 add-size-at-2 c =
     let w = repository-size (c .before .before .before .before) in let v = name-size c in omega arith
 
-is-size-requires : tie.Need-is-size-requires
-is-size-requires c κs = search needs
-
 returns-3 : tie.Need-returns-3
 returns-3 c = λ o.
     let a = c .before .before .before .before .before .before .before .before .before .before .before .before .before .args in
     let k = c .before .before in
-    fits-body (a .room) (both-read (repository-there (now (a .repository)) _ (repository-read (k .before .before .before .before) .1)) (both-read (name-there (k .before .before .before .before) _ (name-read k .1)) (both-read (offset-there k o)
-    (first-refused (checked-failed (length-there k o) (sym (c .before .is-size .ensures) ∙ not-true _ (c .if1 .taken)))))))
+    checks (via-refused (both-read (repository-there (now (a .repository)) _ (repository-read (k .before .before .before .before) .1)) (both-read (name-there (k .before .before .before .before) _ (name-read k .1)) (both-read (offset-there k o)
+    (first-refused (checked-failed (length-there k o) (sym (c .before .is-size .ensures) ∙ not-true _ (c .if1 .taken))))))))
 
 add-hash-at : tie.Need-add-hash-at
 add-hash-at c =
     let w = repository-size (c .before .before .before .before .before .before) in let v = name-size (c .before .before) in omega arith
-
-check-hash-requires : tie.Need-check-hash-requires
-check-hash-requires c κs = search needs
-
-enum-known-third : tie.Need-enum-known-third
-enum-known-third c = search needs
-
-enum-told-3 : tie.Need-enum-told-3
-enum-told-3 c = search needs
-
-refusal-requires-3 : tie.Need-refusal-requires-3
-refusal-requires-3 c κs = search needs
 
 refused-at-requires-3 : tie.Need-refused-at-requires-3
 refused-at-requires-3 c κs =
@@ -209,51 +164,47 @@ returns-4 : tie.Need-returns-4
 returns-4 c = λ o.
     let a = c .before .before .before .before .before .before .before .before .before .before .before .before .before .before .before .before .before .before .args in
     let k = c .before .before .before .before .before .before .before in
-    c .refused-at3 .ensures ∙ fits-body (a .room) (both-read (repository-there (now (a .repository)) _ (repository-read (k .before .before .before .before) .1)) (both-read (name-there (k .before .before .before .before) _ (name-read k .1)) (both-read (offset-there k o)
-    (both-read (checked-passed (length-there k o) (sym (c .before .before .before .before .before .before .is-size .ensures) ∙ not-false _ (c .before .before .before .before .before .if1 .left))) (hash-there k o (hash-refused (c .before)))))))
+    c .refused-at3 .ensures ∙ checks (via-refused (both-read (repository-there (now (a .repository)) _ (repository-read (k .before .before .before .before) .1)) (both-read (name-there (k .before .before .before .before) _ (name-read k .1)) (both-read (offset-there k o)
+    (both-read (checked-passed (length-there k o) (sym (c .before .before .before .before .before .before .is-size .ensures) ∙ not-false _ (c .before .before .before .before .before .if1 .left))) (hash-there k o (hash-refused (c .before))))))))
 
-add-fit : tie.Need-add-fit
-add-fit c =
+add-t16 : tie.Need-add-t16
+add-t16 c =
     let w = repository-size (c .before .before .before .before .before .before .before .before .before .before) in let v = name-size (c .before .before .before .before .before .before) in let u = told-same (now (c .before .before .before .before .before .before .before .before .before .before .before .before .before .before .before .before .before .args .hash)) (hash-read c .1) in omega (arith, u .1, eqb-true (length (now (c .before .before .before .before .before .before .before .before .before .before .before .before .before .before .before .before .before .args .hash))) 32 (u .2))
-
-fit-requires : tie.Need-fit-requires
-fit-requires c κs = search needs
 
 returns-5 : tie.Need-returns-5
 returns-5 c = λ o.
-    let a = c .before .before .before .before .before .before .before .before .before .before .before .before .before .before .before .before .before .before .args in
-    let k = c .before .before .before .before .before .before .before in
-    c .fit .ensures ∙ fits-body (a .room) (both-read (repository-there (now (a .repository)) _ (repository-read (k .before .before .before .before) .1)) (both-read (name-there (k .before .before .before .before) _ (name-read k .1)) (both-read (offset-there k o)
-    (both-read (checked-passed (length-there k o) (sym (c .before .before .before .before .before .before .is-size .ensures) ∙ not-false _ (c .before .before .before .before .before .if1 .left))) (hash-there k o (hash-read (c .before) .1))))))
+    let a = c .before .before .before .before .before .before .before .before .before .before .before .before .before .before .before .before .before .args in
+    let k = c .before .before .before .before .before .before in
+    checks (via-taken (both-read (repository-there (now (a .repository)) _ (repository-read (k .before .before .before .before) .1)) (both-read (name-there (k .before .before .before .before) _ (name-read k .1)) (both-read (offset-there k o)
+    (both-read (checked-passed (length-there k o) (sym (c .before .before .before .before .before .is-size .ensures) ∙ not-false _ (c .before .before .before .before .if1 .left))) (hash-there k o (hash-read c .1)))))))
 
 pub check-request-spec : {M : Type 1} → statement M
 check-request-spec =
     tie.close
     (tie.spec
-    check-text-requires
-    enum-known-first
-    enum-told
-    refusal-requires
+    (λ c κs. search needs)
+    (λ c. search needs)
+    (λ c. search needs)
+    (λ c κs. search needs)
     refused-at-requires
     returns
     add-name-at
-    check-name-requires
-    enum-known-second
-    enum-told-2
-    refusal-requires-2
+    (λ c κs. search needs)
+    (λ c. search needs)
+    (λ c. search needs)
+    (λ c κs. search needs)
     refused-at-requires-2
     returns-2
     add-size-at
     add-size-at-2
-    is-size-requires
+    (λ c κs. search needs)
     returns-3
     add-hash-at
-    check-hash-requires
-    enum-known-third
-    enum-told-3
-    refusal-requires-3
+    (λ c κs. search needs)
+    (λ c. search needs)
+    (λ c. search needs)
+    (λ c κs. search needs)
     refused-at-requires-3
     returns-4
-    add-fit
-    fit-requires
+    add-t16
     returns-5)

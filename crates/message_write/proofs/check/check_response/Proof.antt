@@ -11,7 +11,7 @@ use Rattle.xdr.specs.Format.{bytes, encode}
 use Rattle.xdr.specs.Fields.{word, opaque}
 use Rattle.xdr.proofs.Answered.{bytes-taken, bytes-refused}
 use Rattle.xdr.proofs.Steps.{Reads}
-use Rattle.message_write.proofs.Behind.{fits-body, last-at, string-refused, string-taken}
+use Rattle.message_write.proofs.Behind.{checks, last-at, string-refused, string-taken}
 use Rattle.message.specs.Limits.{dataLimit}
 use Rattle.message_write.proofs.check.check_response.Statement.{statement}
 use Rattle.message_write.proofs.check.check_response.Tie as tie
@@ -24,45 +24,29 @@ data-read : (c : tie.After-known-told)
     → (l : List ℕ) × Reads (opaque dataLimit) (encode (bytes word) (now (c .before .before .before .before .before .args .«data»))) 0 (taken l (c .before .opaque .given .0 .1 .0)) × (length l ≡ c .before .opaque .given .0 .0)
 data-read c = bytes-taken (c .before .before .before .check-bytes .ensures) (c .before .opaque .given .1)
 
-check-bytes-requires : tie.Need-check-bytes-requires
-check-bytes-requires c κs = search needs
-
-enum-known-opaque : tie.Need-enum-known-opaque
-enum-known-opaque c = search needs
-
-enum-told : tie.Need-enum-told
-enum-told c = search needs
-
-refusal-requires : tie.Need-refusal-requires
-refusal-requires c κs = search needs
-
 refused-at-requires : tie.Need-refused-at-requires
 refused-at-requires c κs =
     let w = string-refused (now (c .before .before .before .before .before .args .«data»)) (data-refused c) in omega (arith, c .before .before .before .before .before .good .0 .1)
 
 returns : tie.Need-returns
-returns c = c .refused-at .ensures ∙ fits-body (c .before .before .before .before .before .before .args .room) (last-at (0 ∷ 0 ∷ 0 ∷ 0 ∷ []) (encode (bytes word) (now (c .before .before .before .before .before .before .args .«data»))) refl refl (data-refused (c .before)))
+returns c = c .refused-at .ensures ∙ checks (last-at (0 ∷ 0 ∷ 0 ∷ 0 ∷ []) (encode (bytes word) (now (c .before .before .before .before .before .before .args .«data»))) refl refl (data-refused (c .before)))
 
-add-fit : tie.Need-add-fit
-add-fit c =
+add-t5 : tie.Need-add-t5
+add-t5 c =
     let w = string-taken (now (c .before .before .before .before .before .args .«data»)) (data-read c .1) in omega arith
 
-fit-requires : tie.Need-fit-requires
-fit-requires c κs = search needs
-
 returns-2 : tie.Need-returns-2
-returns-2 c = c .fit .ensures ∙ fits-body (c .before .before .before .before .before .before .args .room) (last-at (0 ∷ 0 ∷ 0 ∷ 0 ∷ []) (encode (bytes word) (now (c .before .before .before .before .before .before .args .«data»))) refl refl (data-read (c .before) .1))
+returns-2 c = checks (last-at (0 ∷ 0 ∷ 0 ∷ 0 ∷ []) (encode (bytes word) (now (c .before .before .before .before .before .args .«data»))) refl refl (data-read c .1))
 
 pub check-response-spec : {M : Type 1} → statement M
 check-response-spec =
     tie.close
     (tie.spec
-    check-bytes-requires
-    enum-known-opaque
-    enum-told
-    refusal-requires
+    (λ c κs. search needs)
+    (λ c. search needs)
+    (λ c. search needs)
+    (λ c κs. search needs)
     refused-at-requires
     returns
-    add-fit
-    fit-requires
+    add-t5
     returns-2)

@@ -27,23 +27,8 @@ opaque-read c =
     let same : q .0 ≡ l = told-same l (q .1) .0 in
     (subst (λ (x : List ℕ). Reads (opaque (c .before .before .before .before .before .args .limit)) (encode (bytes word) l) 0 (taken x (c .before .answer .given .0 .1 .0))) same (q .1), sym (ap length same) ∙ q .2)
 
-check-bytes-requires : tie.Need-check-bytes-requires
-check-bytes-requires c κs = search needs
-
-enum-known-answer : tie.Need-enum-known-answer
-enum-known-answer c = search needs
-
-enum-told : tie.Need-enum-told
-enum-told c = search needs
-
-refusal-requires : tie.Need-refusal-requires
-refusal-requires c κs = search needs
-
 returns : tie.Need-returns
 returns c = answered bytesAnswer (checked-refused (bytes-refused (c .before .before .before .check-bytes .ensures) (c .before .enum-told .given .1) (c .refusal .ensures)))
-
-sound-up-to-requires : tie.Need-sound-up-to-requires
-sound-up-to-requires c κs = search needs
 
 returns-2 : tie.Need-returns-2
 returns-2 c =
@@ -60,11 +45,11 @@ pub check-text-spec : {M : Type 1} → statement M
 check-text-spec =
     tie.close
     (tie.spec
-    check-bytes-requires
-    enum-known-answer
-    enum-told
-    refusal-requires
+    (λ c κs. search needs)
+    (λ c. search needs)
+    (λ c. search needs)
+    (λ c κs. search needs)
     returns
-    sound-up-to-requires
+    (λ c κs. search needs)
     returns-2
     returns-3)

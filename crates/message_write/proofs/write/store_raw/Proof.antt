@@ -16,17 +16,8 @@ head-put c =
     let a = c .before .before .before .before .args in
     put-next (filled-none (now (a .out))) (encode word (a .head)) (number-size 4 (a .head)) (omega arith) (c .put-word .ensures .1)
 
-put-word-requires : tie.Need-put-word-requires
-put-word-requires c κs = search needs
-
-put-raw-requires : tie.Need-put-raw-requires
-put-raw-requires c κs = search needs
-
-same-length : tie.Need-same-length
-same-length c = search needs
-
 returns : tie.Need-returns
 returns c = put-next (head-put (c .before .before .before .before .before .before)) (now (c .before .before .before .before .before .before .before .before .before .before .args .b)) refl (omega arith) (c .before .before .put-raw .ensures .1) .fills
 
 pub store-raw-spec : {M : Type 1} → statement M
-store-raw-spec = tie.close (tie.spec put-word-requires put-raw-requires same-length returns)
+store-raw-spec = tie.close (tie.spec (λ c κs. search needs) (λ c κs. search needs) (λ c. search needs) returns)

@@ -11,7 +11,7 @@ use Rattle.xdr.specs.Fields.{word, hyper}
 use Rattle.xdr.specs.Buffer.{filled}
 use Rattle.xdr.proofs.EncodedSize.{number-size}
 use Rattle.xdr.proofs.BufferLaws.{FilledTo, filled-none, put-next, opaque-count, opaque-next}
-use Rattle.message_write.proofs.RequestLaws.{request-size, request-grouped}
+use Rattle.message_write.proofs.Behind.{request-size, request-grouped}
 use Rattle.message_write.proofs.write.store_request.Statement.{statement}
 use Rattle.message_write.proofs.write.store_request.Tie as tie
 
@@ -66,42 +66,21 @@ size-put c =
     let twelve : at + 8 + 4 ≡ at + 12 = omega arith in
     rw twelve at (put-next (offset-put (c .before .before .before .before)) (encode word (a .size)) (number-size 4 (a .size)) (omega (arith, repository-count (c .before .before .before .before .before .before .before .before .before .before .before .before), name-count (c .before .before .before .before .before .before .before .before), room (c .before .before .before .before .before .before .before .before .before .before .before .before .before .before .before .before .before .before .before .before .before .before))) (c .put-word2 .ensures .1))
 
-put-word-requires : tie.Need-put-word-requires
-put-word-requires c κs = search needs
-
-put-bytes-requires : tie.Need-put-bytes-requires
-put-bytes-requires c κs = search needs
-
 add-name-at : tie.Need-add-name-at
 add-name-at c =
     let w = repository-count (c .before .before) in omega (arith, room (c .before .before .before .before .before .before .before .before .before .before .before .before))
-
-put-bytes-requires-2 : tie.Need-put-bytes-requires-2
-put-bytes-requires-2 c κs = search needs
 
 add-offset-at : tie.Need-add-offset-at
 add-offset-at c =
     let w = repository-count (c .before .before .before .before .before .before) in let v = name-count (c .before .before) in omega (arith, room (c .before .before .before .before .before .before .before .before .before .before .before .before .before .before .before .before))
 
-put-hyper-requires : tie.Need-put-hyper-requires
-put-hyper-requires c κs = search needs
-
 add-put-word : tie.Need-add-put-word
 add-put-word c =
     let w = repository-count (c .before .before .before .before .before .before .before .before .before .before .before) in let v = name-count (c .before .before .before .before .before .before .before) in omega (arith, room (c .before .before .before .before .before .before .before .before .before .before .before .before .before .before .before .before .before .before .before .before .before))
 
-put-word-requires-2 : tie.Need-put-word-requires-2
-put-word-requires-2 c κs = search needs
-
 add-put-bytes : tie.Need-add-put-bytes
 add-put-bytes c =
     let w = repository-count (c .before .before .before .before .before .before .before .before .before .before .before .before .before .before .before) in let v = name-count (c .before .before .before .before .before .before .before .before .before .before .before) in omega (arith, room (c .before .before .before .before .before .before .before .before .before .before .before .before .before .before .before .before .before .before .before .before .before .before .before .before .before))
-
-put-bytes-requires-3 : tie.Need-put-bytes-requires-3
-put-bytes-requires-3 c κs = search needs
-
-same-length : tie.Need-same-length
-same-length c = search needs
 
 returns : tie.Need-returns
 returns c =
@@ -116,15 +95,15 @@ pub store-request-spec : {M : Type 1} → statement M
 store-request-spec =
     tie.close
     (tie.spec
-    put-word-requires
-    put-bytes-requires
+    (λ c κs. search needs)
+    (λ c κs. search needs)
     add-name-at
-    put-bytes-requires-2
+    (λ c κs. search needs)
     add-offset-at
-    put-hyper-requires
+    (λ c κs. search needs)
     add-put-word
-    put-word-requires-2
+    (λ c κs. search needs)
     add-put-bytes
-    put-bytes-requires-3
-    same-length
+    (λ c κs. search needs)
+    (λ c. search needs)
     returns)

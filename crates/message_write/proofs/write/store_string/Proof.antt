@@ -28,21 +28,9 @@ room c = omega (arith, string-size (now (c .before .before .before .before .befo
 string-count : (c : tie.After-put-bytes) → c .put-bytes .result ≡ length (encode (bytes word) (now (c .before .before .before .before .before .before .before .before .before .args .l)))
 string-count c = opaque-count (head-put (c .before .before .before .before)) (now (c .before .before .before .before .before .before .before .before .before .args .l)) (omega arith) (room c) (c .put-bytes .ensures .0)
 
-put-word-requires : tie.Need-put-word-requires
-put-word-requires c κs = search needs
-
-put-bytes-requires : tie.Need-put-bytes-requires
-put-bytes-requires c κs = search needs
-
 add-put-raw : tie.Need-add-put-raw
 add-put-raw c =
     let w = string-count (c .before .before .before) in omega (arith, string-size (now (c .before .before .before .before .before .before .before .before .before .before .before .before .args .l)))
-
-put-raw-requires : tie.Need-put-raw-requires
-put-raw-requires c κs = search needs
-
-same-length : tie.Need-same-length
-same-length c = search needs
 
 returns : tie.Need-returns
 returns c =
@@ -56,9 +44,9 @@ pub store-string-spec : {M : Type 1} → statement M
 store-string-spec =
     tie.close
     (tie.spec
-    put-word-requires
-    put-bytes-requires
+    (λ c κs. search needs)
+    (λ c κs. search needs)
     add-put-raw
-    put-raw-requires
-    same-length
+    (λ c κs. search needs)
+    (λ c. search needs)
     returns)

@@ -1,45 +1,67 @@
--- `message_write::write::write_request` meets its contract: the ID is too high, or the body was checked and put behind its header.
-use mathlib.Core.Path.{_∙_}
+-- `message_write::write::write_request` meets its contract: a Request that the check takes goes into the buffer whole.
+use Prim.Native.Nat.{ℕ, _+_, _≤_}
+use mathlib.Core.List.{List, _++_}
+use mathlib.Core.Path.{_≡_, refl, sym, ap, _∙_}
 use native.Mathlib.Omega.{arith}
 use borrow.Author.Needs.{needs}
 use denote.Ref.{now}
-use lib.ListN.{length}
+use lib.ListN.{length, length-append}
+use lib.Seq.{take-all}
+use Rattle.xdr.specs.Format.{encode}
+use Rattle.xdr.specs.Fields.{word}
+use Rattle.xdr.specs.Buffer.{filled}
+use Rattle.xdr.proofs.EncodedSize.{number-size}
+use Rattle.xdr.proofs.FillingLaws.{fills-same}
+use Rattle.message.specs.Message.{request}
 use Rattle.message_write.specs.Writing.{requestBytes}
-use Rattle.message_write.proofs.WritingLaws.{id-refused, body-written}
+use Rattle.message_write.proofs.WritingLaws.{Passed, admits, not-admitted, body-filled, by-body}
+use Rattle.message_write.proofs.BodyLaws.{request-parts}
 use Rattle.message_write.proofs.write.write_request.Statement.{statement}
 use Rattle.message_write.proofs.write.write_request.Tie as tie
 
-too-high-requires : tie.Need-too-high-requires
-too-high-requires c κs = search needs
+abbrev body : tie.Start → List ℕ
+body c = let a = c .args in requestBytes (now (a .repository)) (now (a .name)) (a .offset) (a .size) (now (a .hash))
+
+passed : (c : tie.After-enum-told) → let a = c .before .before .before .before .before .before .before .before .args in Passed request (a .id) (body (c .before .before .before .before .before .before .before .before)) (length (now (a .out))) (c .enum-told .given .0 .0)
+passed c =
+    let a = c .before .before .before .before .before .before .before .before .args in
+    admits request (a .id) 2 (body (c .before .before .before .before .before .before .before .before)) (length (now (a .out))) (c .before .before .admitted .ensures) (c .before .before .before .check-request .ensures (a .offset)) (c .enum-told .given .1)
+
+parts : (c : tie.After-enum-told)
+    → let a = c .before .before .before .before .before .before .before .before .args in
+    (length (now (a .repository)) ≤ 64) × (length (now (a .name)) ≤ 255) × (length (now (a .hash)) ≤ 32) × (c .enum-told .given .0 .0 ≡ 4 + length (body (c .before .before .before .before .before .before .before .before)))
+parts c = let a = c .before .before .before .before .before .before .before .before .args in request-parts (now (a .repository)) (now (a .name)) (a .offset) (a .size) (now (a .hash)) (passed c .reads)
 
 returns : tie.Need-returns
 returns c =
-    let a = c .before .before .before .before .before .before .args in
-    let q = id-refused (a .id) 2 (requestBytes (now (a .repository)) (now (a .name)) (a .offset) (a .size) (now (a .hash))) (now (a .out)) (length (now (a .out))) (c .before .if1 .taken) in
-    (c .too-high .ensures ∙ q .0, q .1)
+    let a = c .before .before .before .before .before .before .before .before .args in
+    fills-same (now (a .out)) (by-body (a .id) 2 (body (c .before .before .before .before .before .before .before .before)) (omega arith) (omega arith))
+    (not-admitted request (a .id) 2 (body (c .before .before .before .before .before .before .before .before)) (length (now (a .out))) (c .before .before .admitted .ensures) (c .before .before .before .check-request .ensures (a .offset)) (now (a .out)) refl (c .enum-told2 .given .1))
 
-header-of-requires : tie.Need-header-of-requires
-header-of-requires c κs = search needs
-
-put-request-requires : tie.Need-put-request-requires
-put-request-requires c κs = search needs
-
-same-length : tie.Need-same-length
-same-length c = search needs
+store-request-requires : tie.Need-store-request-requires
+store-request-requires c κs = let w = parts (c .before .before) in ((w .0, w .1, w .2), omega (arith, w .3, passed (c .before .before) .room))
 
 returns-2 : tie.Need-returns-2
 returns-2 c =
-    let k = c .before .before in
-    let a = c .before .before .before .before .before .before .before .before .before .before .args in
-    body-written (a .id) 2 (requestBytes (now (a .repository)) (now (a .name)) (a .offset) (a .size) (now (a .hash))) (now (a .out)) (search needs) (omega arith) (omega arith) (k .before .header-of .ensures) (k .put-request .ensures .0) (k .put-request .ensures .1)
+    let k = c .before .before .before .before .before in
+    let a = c .before .before .before .before .before .before .before .before .before .before .before .before .before .args in
+    let head = c .before .before .before .header-of .result in
+    let m = encode word head ++ body (c .before .before .before .before .before .before .before .before .before .before .before .before .before) in
+    fills-same (now (a .out)) (by-body (a .id) 2 (body (c .before .before .before .before .before .before .before .before .before .before .before .before .before)) (omega arith) (omega arith))
+    (body-filled (a .id) 2 (body (c .before .before .before .before .before .before .before .before .before .before .before .before .before)) (now (a .out)) (passed k) (omega arith) (c .before .before .before .header-of .ensures) (k .enum-told .given .1)
+    (c .before .before .store-request .ensures
+    ∙ ap (filled (now (a .out))) (sym (take-all (k .enum-told .given .0 .0) m (omega (arith, length-append (encode word head) (body (c .before .before .before .before .before .before .before .before .before .before .before .before .before)), number-size 4 head, parts k .3))))))
 
 pub write-request-spec : {M : Type 1} → statement M
 write-request-spec =
     tie.close
     (tie.spec
-    too-high-requires
+    (λ c κs. search needs)
+    (λ c κs. search needs)
+    (λ c. search needs)
+    (λ c. search needs)
     returns
-    header-of-requires
-    put-request-requires
-    same-length
+    (λ c κs. search needs)
+    store-request-requires
+    (λ c. search needs)
     returns-2)

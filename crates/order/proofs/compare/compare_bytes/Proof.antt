@@ -44,38 +44,11 @@ second-read c = hyper-taken (c .before .before .before .read-hyper2 .ensures) (c
 loop-holds : tie.Need-loop-holds Inv-loop μ-loop
 loop-holds c = (omega arith, omega arith, refl)
 
-read-hyper-requires : tie.Need-read-hyper-requires Inv-loop μ-loop
-read-hyper-requires c κs = search needs
-
-enum-known-x : tie.Need-enum-known-x Inv-loop μ-loop
-enum-known-x c = search needs
-
-enum-told : tie.Need-enum-told Inv-loop μ-loop
-enum-told c = search needs
-
-compare-rest-requires : tie.Need-compare-rest-requires Inv-loop μ-loop
-compare-rest-requires c κs = search needs
-
 returns : tie.Need-returns Inv-loop μ-loop
 returns c = c .compare-rest .ensures ∙ sym (c .before .before .before .before .loop .inv .2)
 
-read-hyper-requires-2 : tie.Need-read-hyper-requires-2 Inv-loop μ-loop
-read-hyper-requires-2 c κs = search needs
-
-enum-known-y : tie.Need-enum-known-y Inv-loop μ-loop
-enum-known-y c = search needs
-
-enum-told-2 : tie.Need-enum-told-2 Inv-loop μ-loop
-enum-told-2 c = search needs
-
-compare-rest-requires-2 : tie.Need-compare-rest-requires-2 Inv-loop μ-loop
-compare-rest-requires-2 c κs = search needs
-
 returns-2 : tie.Need-returns-2 Inv-loop μ-loop
 returns-2 c = c .compare-rest2 .ensures ∙ sym (c .before .before .before .before .before .before .before .before .loop .inv .2)
-
-compare-numbers-requires : tie.Need-compare-numbers-requires Inv-loop μ-loop
-compare-numbers-requires c κs = search needs
 
 returns-3 : tie.Need-returns-3 Inv-loop μ-loop
 returns-3 c =
@@ -111,17 +84,17 @@ compare-bytes-spec =
     Inv-loop
     μ-loop
     loop-holds
-    read-hyper-requires
-    enum-known-x
-    enum-told
-    compare-rest-requires
+    (λ c κs. search needs)
+    (λ c. search needs)
+    (λ c. search needs)
+    (λ c κs. search needs)
     returns
-    read-hyper-requires-2
-    enum-known-y
-    enum-told-2
-    compare-rest-requires-2
+    (λ c κs. search needs)
+    (λ c. search needs)
+    (λ c. search needs)
+    (λ c κs. search needs)
     returns-2
-    compare-numbers-requires
+    (λ c κs. search needs)
     returns-3
     loop-less
     loop-again)

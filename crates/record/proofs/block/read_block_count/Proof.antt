@@ -8,23 +8,8 @@ use borrow.Author.Needs.{needs}
 use Rattle.record.proofs.block.read_block_count.Statement.{statement}
 use Rattle.record.proofs.block.read_block_count.Tie as tie
 
-read-count-requires : tie.Need-read-count-requires
-read-count-requires c κs = search needs
-
-enum-known-answer : tie.Need-enum-known-answer
-enum-known-answer c = search needs
-
-enum-told : tie.Need-enum-told
-enum-told c = search needs
-
-refusal-requires : tie.Need-refusal-requires
-refusal-requires c κs = search needs
-
 returns : tie.Need-returns
 returns c = answered wordAnswer (checked-refused (word-refused (c .before .before .before .read-count .ensures) (c .before .enum-told .given .1) (c .refusal .ensures)))
-
-may-have-requires : tie.Need-may-have-requires
-may-have-requires c κs = search needs
 
 returns-2 : tie.Need-returns-2
 returns-2 c = answered wordAnswer (checked-failed (word-taken (c .before .before .before .before .before .read-count .ensures) (c .before .before .before .answer .given .1)) (sym (c .before .may-have .ensures) ∙ not-true _ (c .if1 .taken)))
@@ -36,11 +21,11 @@ pub read-block-count-spec : {M : Type 1} → statement M
 read-block-count-spec =
     tie.close
     (tie.spec
-    read-count-requires
-    enum-known-answer
-    enum-told
-    refusal-requires
+    (λ c κs. search needs)
+    (λ c. search needs)
+    (λ c. search needs)
+    (λ c κs. search needs)
     returns
-    may-have-requires
+    (λ c κs. search needs)
     returns-2
     returns-3)

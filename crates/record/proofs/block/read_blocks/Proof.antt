@@ -57,18 +57,6 @@ read-there c =
     let q = block-taken (part-of blockAnswer block (s (counted l)) (l .loop .next) (c .before .before .before .read-block .ensures)) (c .before .read .given .1) in
     (q .0, part-read (q .1))
 
-read-block-count-requires : tie.Need-read-block-count-requires Inv-loop μ-loop
-read-block-count-requires c κs = search needs
-
-enum-known-answer : tie.Need-enum-known-answer Inv-loop μ-loop
-enum-known-answer c = search needs
-
-enum-told : tie.Need-enum-told Inv-loop μ-loop
-enum-told c = search needs
-
-refusal-requires : tie.Need-refusal-requires Inv-loop μ-loop
-refusal-requires c κs = search needs
-
 returns : tie.Need-returns Inv-loop μ-loop
 returns c =
     answered arrayAnswer (count-refused
@@ -76,9 +64,6 @@ returns c =
 
 sound-blocks-requires : tie.Need-sound-blocks-requires Inv-loop μ-loop
 sound-blocks-requires c κs = ends (omega arith) (count-read c) .1
-
-cast-next : tie.Need-cast-next Inv-loop μ-loop
-cast-next c = search needs
 
 mul-next : tie.Need-mul-next Inv-loop μ-loop
 mul-next c = omega (arith, c .sound-blocks .ensures .1 .0)
@@ -90,27 +75,6 @@ loop-holds : tie.Need-loop-holds Inv-loop μ-loop
 loop-holds c =
     let k = c .before in
     (sound-progress (s k) (λ i. k .before .before .before .before .shared-slice-known .given i .fits) (k .before .answer .given .0 .1 .0) (c .sound-blocks .result) (c .sound-blocks .ensures .1), c .sound-blocks .ensures .0)
-
-sub-read-block : tie.Need-sub-read-block Inv-loop μ-loop
-sub-read-block c = search needs
-
-part-read-block-start : tie.Need-part-read-block-start Inv-loop μ-loop
-part-read-block-start c = search needs
-
-part-read-block-end : tie.Need-part-read-block-end Inv-loop μ-loop
-part-read-block-end c = search needs
-
-read-block-requires : tie.Need-read-block-requires Inv-loop μ-loop
-read-block-requires c κs = search needs
-
-enum-known-read : tie.Need-enum-known-read Inv-loop μ-loop
-enum-known-read c = search needs
-
-enum-told-2 : tie.Need-enum-told-2 Inv-loop μ-loop
-enum-told-2 c = search needs
-
-refusal-requires-2 : tie.Need-refusal-requires-2 Inv-loop μ-loop
-refusal-requires-2 c κs = search needs
 
 add-t19 : tie.Need-add-t19 Inv-loop μ-loop
 add-t19 c =
@@ -130,12 +94,6 @@ add-next-2 c =
     let w = ends (p .room) (read-there c .1) in
     omega arith
 
-add-i : tie.Need-add-i Inv-loop μ-loop
-add-i c = search needs
-
-loop-less : tie.Need-loop-less Inv-loop μ-loop
-loop-less c = search needs
-
 loop-again : tie.Need-loop-again Inv-loop μ-loop
 loop-again c = (progress-more (c .before .before .before .before .before .before .loop .inv .0) (read-there c .1), omega arith)
 
@@ -148,27 +106,27 @@ read-blocks-spec =
     (tie.spec
     Inv-loop
     μ-loop
-    read-block-count-requires
-    enum-known-answer
-    enum-told
-    refusal-requires
+    (λ c κs. search needs)
+    (λ c. search needs)
+    (λ c. search needs)
+    (λ c κs. search needs)
     returns
     sound-blocks-requires
-    cast-next
+    (λ c. search needs)
     mul-next
     add-next
     loop-holds
-    sub-read-block
-    part-read-block-start
-    part-read-block-end
-    read-block-requires
-    enum-known-read
-    enum-told-2
-    refusal-requires-2
+    (λ c. search needs)
+    (λ c. search needs)
+    (λ c. search needs)
+    (λ c κs. search needs)
+    (λ c. search needs)
+    (λ c. search needs)
+    (λ c κs. search needs)
     add-t19
     returns-2
     add-next-2
-    add-i
-    loop-less
+    (λ c. search needs)
+    (λ c. search needs)
     loop-again
     returns-3)

@@ -26,18 +26,6 @@ thirty-two : (c : tie.Else1) → Reads word (now (c .before .before .before .bef
 thirty-two c =
     word-taken (c .before .before .before .before .read-word .ensures) (c .before .before .answer .given .1 ∙ ap (λ (n : ℕ). W.Taken n (c .before .before .answer .given .0 .1 .0)) (c .if1 .left))
 
-read-word-requires : tie.Need-read-word-requires
-read-word-requires c κs = search needs
-
-enum-known-answer : tie.Need-enum-known-answer
-enum-known-answer c = search needs
-
-enum-told : tie.Need-enum-told
-enum-told c = search needs
-
-refusal-requires : tie.Need-refusal-requires
-refusal-requires c κs = search needs
-
 returns : tie.Need-returns
 returns c =
     let w = word-refused (c .before .before .before .read-word .ensures) (c .before .enum-told .given .1) (c .refusal .ensures) in
@@ -52,9 +40,6 @@ sub-if2 c = ends-word (length-word (c .before)) .1
 returns-3 : tie.Need-returns-3
 returns-3 c = answered bytesAnswer (cut-off (checked-passed (thirty-two (c .before)) refl) (c .if2 .taken))
 
-add-t9 : tie.Need-add-t9
-add-t9 c = search needs
-
 returns-4 : tie.Need-returns-4
 returns-4 c =
     let m = c .before .before .before .answer .given .0 .1 .0 in
@@ -66,13 +51,13 @@ pub read-hash-spec : {M : Type 1} → statement M
 read-hash-spec =
     tie.close
     (tie.spec
-    read-word-requires
-    enum-known-answer
-    enum-told
-    refusal-requires
+    (λ c κs. search needs)
+    (λ c. search needs)
+    (λ c. search needs)
+    (λ c κs. search needs)
     returns
     returns-2
     sub-if2
     returns-3
-    add-t9
+    (λ c. search needs)
     returns-4)

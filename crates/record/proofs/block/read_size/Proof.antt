@@ -8,23 +8,8 @@ use borrow.Author.Needs.{needs}
 use Rattle.record.proofs.block.read_size.Statement.{statement}
 use Rattle.record.proofs.block.read_size.Tie as tie
 
-read-word-requires : tie.Need-read-word-requires
-read-word-requires c κs = search needs
-
-enum-known-answer : tie.Need-enum-known-answer
-enum-known-answer c = search needs
-
-enum-told : tie.Need-enum-told
-enum-told c = search needs
-
-refusal-requires : tie.Need-refusal-requires
-refusal-requires c κs = search needs
-
 returns : tie.Need-returns
 returns c = answered wordAnswer (checked-refused (word-refused (c .before .before .before .read-word .ensures) (c .before .enum-told .given .1) (c .refusal .ensures)))
-
-is-size-requires : tie.Need-is-size-requires
-is-size-requires c κs = search needs
 
 returns-2 : tie.Need-returns-2
 returns-2 c = answered wordAnswer (checked-failed (word-taken (c .before .before .before .before .before .read-word .ensures) (c .before .before .before .answer .given .1)) (sym (c .before .is-size .ensures) ∙ not-true _ (c .if1 .taken)))
@@ -36,11 +21,11 @@ pub read-size-spec : {M : Type 1} → statement M
 read-size-spec =
     tie.close
     (tie.spec
-    read-word-requires
-    enum-known-answer
-    enum-told
-    refusal-requires
+    (λ c κs. search needs)
+    (λ c. search needs)
+    (λ c. search needs)
+    (λ c κs. search needs)
     returns
-    is-size-requires
+    (λ c κs. search needs)
     returns-2
     returns-3)

@@ -1,17 +1,17 @@
 -- `record::block::sound_blocks` meets its contract. The loop's invariant: so many blocks are in order, and end where the next begins.
-use Prim.Native.Nat.{ℕ, _+_, _*_, _-_, _≤_, _<_}
+use Prim.Native.Nat.{ℕ, _+_, _*_, _-_, _≤_}
 use mathlib.Core.List.{List}
-use mathlib.Core.Path.{_≡_, sym, ap, subst, _∙_}
+use mathlib.Core.Path.{_≡_, subst, _∙_}
 use native.Mathlib.Omega.{arith}
 use borrow.Author.Needs.{needs}
 use borrow.Author.Tests.{not-false}
 use denote.Ref.{now}
-use lib.ListN.{length, take, drop}
+use lib.ListN.{drop}
 use Rattle.xdr.specs.Number.{bigEndian}
 use Rattle.xdr.proofs.Answered.{hyper-taken}
 use Rattle.xdr.proofs.NumberLaws.{number-first}
 use Rattle.xdr.proofs.Parts.{number-value}
-use Rattle.record.specs.Block.{IsHead, SoundBlocks}
+use Rattle.record.specs.Steps.{IsHead, SoundBlocks}
 use Rattle.record.proofs.HeadLaws.{sound-none, sound-more}
 use Rattle.record.proofs.block.sound_blocks.Statement.{statement}
 use Rattle.record.proofs.block.sound_blocks.Tie as tie
@@ -38,50 +38,17 @@ head c =
     subst (λ (p : ℕ). IsHead (bigEndian 8 (drop p (s l)))) (l .loop .inv .1)
     (subst IsHead (n ∙ whole) (c .before .is-head .ensures (not-false _ (c .if2 .left))))
 
-sub-if1 : tie.Need-sub-if1 Inv-loop μ-loop
-sub-if1 c = search needs
-
 returns : tie.Need-returns Inv-loop μ-loop
 returns c = (search needs, sound-none (now (c .before .before .args .s)) (c .before .before .args .first) (c .before .before .pre))
 
 loop-holds : tie.Need-loop-holds Inv-loop μ-loop
 loop-holds c = (search needs, omega arith, sound-none (now (c .before .before .args .s)) (c .before .before .args .first) (search needs))
 
-add-end : tie.Need-add-end Inv-loop μ-loop
-add-end c = search needs
-
-sub-read-hyper : tie.Need-sub-read-hyper Inv-loop μ-loop
-sub-read-hyper c = search needs
-
-part-read-hyper-start : tie.Need-part-read-hyper-start Inv-loop μ-loop
-part-read-hyper-start c = search needs
-
-part-read-hyper-end : tie.Need-part-read-hyper-end Inv-loop μ-loop
-part-read-hyper-end c = search needs
-
-read-hyper-requires : tie.Need-read-hyper-requires Inv-loop μ-loop
-read-hyper-requires c κs = search needs
-
-enum-known-head : tie.Need-enum-known-head Inv-loop μ-loop
-enum-known-head c = search needs
-
-enum-told : tie.Need-enum-told Inv-loop μ-loop
-enum-told c = search needs
-
 returns-2 : tie.Need-returns-2 Inv-loop μ-loop
 returns-2 c = let i = c .before .before .before .before .before .loop .inv in (i .0, i .2)
 
-is-head-requires : tie.Need-is-head-requires Inv-loop μ-loop
-is-head-requires c κs = search needs
-
 returns-3 : tie.Need-returns-3 Inv-loop μ-loop
 returns-3 c = let i = c .before .before .before .before .before .before .before .before .loop .inv in (i .0, i .2)
-
-add-i : tie.Need-add-i Inv-loop μ-loop
-add-i c = search needs
-
-loop-less : tie.Need-loop-less Inv-loop μ-loop
-loop-less c = search needs
 
 loop-again : tie.Need-loop-again Inv-loop μ-loop
 loop-again c =
@@ -97,20 +64,20 @@ sound-blocks-spec =
     (tie.spec
     Inv-loop
     μ-loop
-    sub-if1
+    (λ c. search needs)
     returns
     loop-holds
-    add-end
-    sub-read-hyper
-    part-read-hyper-start
-    part-read-hyper-end
-    read-hyper-requires
-    enum-known-head
-    enum-told
+    (λ c. search needs)
+    (λ c. search needs)
+    (λ c. search needs)
+    (λ c. search needs)
+    (λ c κs. search needs)
+    (λ c. search needs)
+    (λ c. search needs)
     returns-2
-    is-head-requires
+    (λ c κs. search needs)
     returns-3
-    add-i
-    loop-less
+    (λ c. search needs)
+    (λ c. search needs)
     loop-again
     returns-4)

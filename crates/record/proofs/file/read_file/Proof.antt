@@ -97,34 +97,10 @@ same-span : {n x f m v b y p q next : ℕ} → x ≡ n → y ≡ b → p ≡ q
     ≡ F.Taken (record { «name_length» = x; flags = f; modified = m; version = v; blocks = y; first = q; next = next })
 same-span d e f = rw (d, e, f) refl
 
-read-name-requires : tie.Need-read-name-requires
-read-name-requires c κs = search needs
-
-enum-known-name : tie.Need-enum-known-name
-enum-known-name c = search needs
-
-enum-told : tie.Need-enum-told
-enum-told c = search needs
-
-refusal-requires : tie.Need-refusal-requires
-refusal-requires c κs = search needs
-
 returns : tie.Need-returns
 returns c =
     answered fileAnswer (via-refused (first-refused
     (bytes-refused (c .before .before .before .read-name .ensures) (c .before .enum-told .given .1) (c .refusal .ensures))))
-
-read-flags-requires : tie.Need-read-flags-requires
-read-flags-requires c κs = search needs
-
-enum-known-flags : tie.Need-enum-known-flags
-enum-known-flags c = search needs
-
-enum-told-2 : tie.Need-enum-told-2
-enum-told-2 c = search needs
-
-refusal-requires-2 : tie.Need-refusal-requires-2
-refusal-requires-2 c κs = search needs
 
 returns-2 : tie.Need-returns-2
 returns-2 c =
@@ -132,35 +108,11 @@ returns-2 c =
     answered fileAnswer (via-refused (both-read (name-read k .1) (first-refused
     (word-refused (c .before .before .before .read-flags .ensures) (c .before .enum-told2 .given .1) (c .refusal2 .ensures)))))
 
-read-hyper-requires : tie.Need-read-hyper-requires
-read-hyper-requires c κs = search needs
-
-enum-known-modified : tie.Need-enum-known-modified
-enum-known-modified c = search needs
-
-enum-told-3 : tie.Need-enum-told-3
-enum-told-3 c = search needs
-
-refusal-requires-3 : tie.Need-refusal-requires-3
-refusal-requires-3 c κs = search needs
-
 returns-3 : tie.Need-returns-3
 returns-3 c =
     let k = c .before .before .before .before in
     answered fileAnswer (via-refused (both-read (name-read (to-name k) .1) (both-read (flags-read k) (first-refused
     (hyper-refused (c .before .before .before .read-hyper .ensures) (c .before .enum-told3 .given .1) (c .refusal3 .ensures))))))
-
-read-word-requires : tie.Need-read-word-requires
-read-word-requires c κs = search needs
-
-enum-known-version : tie.Need-enum-known-version
-enum-known-version c = search needs
-
-enum-told-4 : tie.Need-enum-told-4
-enum-told-4 c = search needs
-
-refusal-requires-4 : tie.Need-refusal-requires-4
-refusal-requires-4 c κs = search needs
 
 returns-4 : tie.Need-returns-4
 returns-4 c =
@@ -173,24 +125,6 @@ sub-read-blocks c = ends-word (version-read c) .1
 
 part-read-blocks-start : tie.Need-part-read-blocks-start
 part-read-blocks-start c = ends-word (version-read c) .1
-
-part-read-blocks-end : tie.Need-part-read-blocks-end
-part-read-blocks-end c = search needs
-
-is-deleted-requires : tie.Need-is-deleted-requires
-is-deleted-requires c κs = search needs
-
-read-blocks-requires : tie.Need-read-blocks-requires
-read-blocks-requires c κs = search needs
-
-enum-known-blocks : tie.Need-enum-known-blocks
-enum-known-blocks c = search needs
-
-enum-told-5 : tie.Need-enum-told-5
-enum-told-5 c = search needs
-
-refusal-requires-5 : tie.Need-refusal-requires-5
-refusal-requires-5 c κs = search needs
 
 add-t27 : tie.Need-add-t27
 add-t27 c =
@@ -229,34 +163,34 @@ pub read-file-spec : {M : Type 1} → statement M
 read-file-spec =
     tie.close
     (tie.spec
-    read-name-requires
-    enum-known-name
-    enum-told
-    refusal-requires
+    (λ c κs. search needs)
+    (λ c. search needs)
+    (λ c. search needs)
+    (λ c κs. search needs)
     returns
-    read-flags-requires
-    enum-known-flags
-    enum-told-2
-    refusal-requires-2
+    (λ c κs. search needs)
+    (λ c. search needs)
+    (λ c. search needs)
+    (λ c κs. search needs)
     returns-2
-    read-hyper-requires
-    enum-known-modified
-    enum-told-3
-    refusal-requires-3
+    (λ c κs. search needs)
+    (λ c. search needs)
+    (λ c. search needs)
+    (λ c κs. search needs)
     returns-3
-    read-word-requires
-    enum-known-version
-    enum-told-4
-    refusal-requires-4
+    (λ c κs. search needs)
+    (λ c. search needs)
+    (λ c. search needs)
+    (λ c κs. search needs)
     returns-4
     sub-read-blocks
     part-read-blocks-start
-    part-read-blocks-end
-    is-deleted-requires
-    read-blocks-requires
-    enum-known-blocks
-    enum-told-5
-    refusal-requires-5
+    (λ c. search needs)
+    (λ c κs. search needs)
+    (λ c κs. search needs)
+    (λ c. search needs)
+    (λ c. search needs)
+    (λ c κs. search needs)
     add-t27
     returns-5
     add-t23

@@ -12,18 +12,6 @@ use borrow.Author.Needs.{needs}
 use Rattle.record.proofs.file.read_name.Statement.{statement}
 use Rattle.record.proofs.file.read_name.Tie as tie
 
-read-text-requires : tie.Need-read-text-requires
-read-text-requires c κs = search needs
-
-enum-known-answer : tie.Need-enum-known-answer
-enum-known-answer c = search needs
-
-enum-told : tie.Need-enum-told
-enum-told c = search needs
-
-refusal-requires : tie.Need-refusal-requires
-refusal-requires c κs = search needs
-
 returns : tie.Need-returns
 returns c = answered bytesAnswer (checked-refused (bytes-refused (c .before .before .before .read-text .ensures) (c .before .enum-told .given .1) (c .refusal .ensures)))
 
@@ -42,10 +30,10 @@ pub read-name-spec : {M : Type 1} → statement M
 read-name-spec =
     tie.close
     (tie.spec
-    read-text-requires
-    enum-known-answer
-    enum-told
-    refusal-requires
+    (λ c κs. search needs)
+    (λ c. search needs)
+    (λ c. search needs)
+    (λ c κs. search needs)
     returns
     returns-2
     returns-3)

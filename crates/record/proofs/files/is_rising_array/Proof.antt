@@ -2,19 +2,10 @@
 use mathlib.Core.Path.{refl, sym, ap, _∙_}
 use denote.Ref.{now}
 use lib.ListN.{length}
-use Rattle.record.specs.Rising.{endsAt}
+use Rattle.record.specs.Steps.{endsAt}
 use borrow.Author.Needs.{needs}
 use Rattle.record.proofs.files.is_rising_array.Statement.{statement}
 use Rattle.record.proofs.files.is_rising_array.Tie as tie
-
-read-run-requires : tie.Need-read-run-requires
-read-run-requires c κs = search needs
-
-enum-known-next : tie.Need-enum-known-next
-enum-known-next c = search needs
-
-enum-told : tie.Need-enum-told
-enum-told c = search needs
 
 returns : tie.Need-returns
 returns c = let r = c .before .before .before in sym (ap (endsAt (length (now (r .before .before .args .s)))) (c .before .next .given .1)) ∙ r .read-run .ensures .1 refl
@@ -24,4 +15,4 @@ returns-2 c = let r = c .before .before in sym (ap (endsAt (length (now (r .befo
 
 pub is-rising-array-spec : {M : Type 1} → statement M
 is-rising-array-spec =
-    tie.close (tie.spec read-run-requires enum-known-next enum-told returns returns-2)
+    tie.close (tie.spec (λ c κs. search needs) (λ c. search needs) (λ c. search needs) returns returns-2)

@@ -4,11 +4,8 @@ use borrow.Author.Needs.{needs}
 use Rattle.record.proofs.files.read_files.Statement.{statement}
 use Rattle.record.proofs.files.read_files.Tie as tie
 
-read-run-requires : tie.Need-read-run-requires
-read-run-requires c κs = search needs
-
 returns : tie.Need-returns
 returns c = c .read-run .ensures .0 refl
 
 pub read-files-spec : {M : Type 1} → statement M
-read-files-spec = tie.close (tie.spec read-run-requires returns)
+read-files-spec = tie.close (tie.spec (λ c κs. search needs) returns)

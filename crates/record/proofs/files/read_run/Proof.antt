@@ -2,8 +2,8 @@
 -- where it was found.
 use Prim.Native.Nat.{ℕ, _+_, _-_, _≤_, _<_}
 use mathlib.Core.List.{List}
-use mathlib.Core.Path.{_≡_, sym, ap, _∙_}
-use mathlib.Core.Bool.{Bool, true}
+use mathlib.Core.Path.{sym, ap, _∙_}
+use mathlib.Core.Bool.{Bool}
 use mathlib.Core.Logic.{⊎-elim}
 use native.Mathlib.Omega.{arith}
 use borrow.Author.Needs.{needs}
@@ -14,7 +14,7 @@ use Rattle.xdr.specs.Reading.{taken, refused}
 use Rattle.xdr.specs.Fields.{upTo}
 use Rattle.xdr.proofs.Answered.{word-taken, word-refused}
 use Rattle.xdr.proofs.Steps.{Reads, ends, refused-within}
-use Rattle.order.specs.Order.{isLess, compareLists, part}
+use Rattle.order.specs.Order.{isLess}
 use Rattle.record.specs.File.{file}
 use Rattle.record.proofs.CheckLaws.{not-both, NextFile, next-file, next-refused, Checked, checked-none, checked-more, count-answers, file-answers, broken-answers, all-answers}
 use Rattle.record.proofs.files.read_run.Statement.{statement}
@@ -59,18 +59,6 @@ refused-there c =
 bound : (c : tie.After-known-told Inv-loop μ-loop) → length (s c) < 18446744073709551616
 bound c = omega (arith, c .before .before .before .before .before .good .0 .0)
 
-read-count-requires : tie.Need-read-count-requires Inv-loop μ-loop
-read-count-requires c κs = search needs
-
-enum-known-answer : tie.Need-enum-known-answer Inv-loop μ-loop
-enum-known-answer c = search needs
-
-enum-told : tie.Need-enum-told Inv-loop μ-loop
-enum-told c = search needs
-
-refusal-requires : tie.Need-refusal-requires Inv-loop μ-loop
-refusal-requires c κs = search needs
-
 returns : tie.Need-returns Inv-loop μ-loop
 returns c = let a = c .before .before .before .before .before .args in count-answers (a .rising) (a .limit) (word-refused (c .before .before .before .read-count .ensures) (c .before .enum-told .given .1) (c .refusal .ensures))
 
@@ -85,18 +73,6 @@ part-read-file-start c = omega (arith, c .before .loop .inv .0 .room)
 
 part-read-file-end : tie.Need-part-read-file-end Inv-loop μ-loop
 part-read-file-end c = omega (arith, c .before .loop .inv .0 .room)
-
-read-file-requires : tie.Need-read-file-requires Inv-loop μ-loop
-read-file-requires c κs = search needs
-
-enum-known-read : tie.Need-enum-known-read Inv-loop μ-loop
-enum-known-read c = search needs
-
-enum-told-2 : tie.Need-enum-told-2 Inv-loop μ-loop
-enum-told-2 c = search needs
-
-refusal-requires-2 : tie.Need-refusal-requires-2 Inv-loop μ-loop
-refusal-requires-2 c κs = search needs
 
 add-t23 : tie.Need-add-t23 Inv-loop μ-loop
 add-t23 c =
@@ -132,12 +108,6 @@ part-compare-bytes-start-2 c = let n = record-there (c .before .before .before) 
 part-compare-bytes-end-2 : tie.Need-part-compare-bytes-end-2 Inv-loop μ-loop
 part-compare-bytes-end-2 c = let n = record-there (c .before .before .before) .name in omega (arith, n .ordered, n .inside)
 
-compare-bytes-requires : tie.Need-compare-bytes-requires Inv-loop μ-loop
-compare-bytes-requires c κs = search needs
-
-is-less-requires : tie.Need-is-less-requires Inv-loop μ-loop
-is-less-requires c κs = search needs
-
 returns-3 : tie.Need-returns-3 Inv-loop μ-loop
 returns-3 c =
     let r = c .before .before .before .before .before .before .before in
@@ -151,12 +121,6 @@ add-next c =
     let r = c .before .before .before in
     let w = ends (at-loop r .loop .inv .0 .room) (record-there r .reads) in
     omega (arith, w .1, bound (at-loop r .before))
-
-add-i : tie.Need-add-i Inv-loop μ-loop
-add-i c = search needs
-
-loop-less : tie.Need-loop-less Inv-loop μ-loop
-loop-less c = search needs
 
 loop-again : tie.Need-loop-again Inv-loop μ-loop
 loop-again c =
@@ -174,19 +138,19 @@ read-run-spec =
     (tie.spec
     Inv-loop
     μ-loop
-    read-count-requires
-    enum-known-answer
-    enum-told
-    refusal-requires
+    (λ c κs. search needs)
+    (λ c. search needs)
+    (λ c. search needs)
+    (λ c κs. search needs)
     returns
     loop-holds
     sub-read-file
     part-read-file-start
     part-read-file-end
-    read-file-requires
-    enum-known-read
-    enum-told-2
-    refusal-requires-2
+    (λ c κs. search needs)
+    (λ c. search needs)
+    (λ c. search needs)
+    (λ c κs. search needs)
     add-t23
     returns-2
     add-name
@@ -197,11 +161,11 @@ read-run-spec =
     sub-compare-bytes-2
     part-compare-bytes-start-2
     part-compare-bytes-end-2
-    compare-bytes-requires
-    is-less-requires
+    (λ c κs. search needs)
+    (λ c κs. search needs)
     returns-3
     add-next
-    add-i
-    loop-less
+    (λ c. search needs)
+    (λ c. search needs)
     loop-again
     returns-4)

@@ -53,18 +53,6 @@ read-there c =
     let q = option-taken (part-of optionAnswer keyValue (s (counted l)) (l .loop .next) (c .before .before .before .read-option .ensures)) (c .before .read .given .1) in
     (q .0, part-read (q .1))
 
-read-count-requires : tie.Need-read-count-requires Inv-loop μ-loop
-read-count-requires c κs = search needs
-
-enum-known-answer : tie.Need-enum-known-answer Inv-loop μ-loop
-enum-known-answer c = search needs
-
-enum-told : tie.Need-enum-told Inv-loop μ-loop
-enum-told c = search needs
-
-refusal-requires : tie.Need-refusal-requires Inv-loop μ-loop
-refusal-requires c κs = search needs
-
 returns : tie.Need-returns Inv-loop μ-loop
 returns c =
     answered arrayAnswer (count-refused
@@ -72,27 +60,6 @@ returns c =
 
 loop-holds : tie.Need-loop-holds Inv-loop μ-loop
 loop-holds c = (progress-none (ends (omega arith) (count-read c) .1), omega arith)
-
-sub-read-option : tie.Need-sub-read-option Inv-loop μ-loop
-sub-read-option c = search needs
-
-part-read-option-start : tie.Need-part-read-option-start Inv-loop μ-loop
-part-read-option-start c = search needs
-
-part-read-option-end : tie.Need-part-read-option-end Inv-loop μ-loop
-part-read-option-end c = search needs
-
-read-option-requires : tie.Need-read-option-requires Inv-loop μ-loop
-read-option-requires c κs = search needs
-
-enum-known-read : tie.Need-enum-known-read Inv-loop μ-loop
-enum-known-read c = search needs
-
-enum-told-2 : tie.Need-enum-told-2 Inv-loop μ-loop
-enum-told-2 c = search needs
-
-refusal-requires-2 : tie.Need-refusal-requires-2 Inv-loop μ-loop
-refusal-requires-2 c κs = search needs
 
 add-t17 : tie.Need-add-t17 Inv-loop μ-loop
 add-t17 c =
@@ -112,12 +79,6 @@ add-next c =
     let w = ends (p .room) (read-there (c .before) .1) in
     omega (arith, w .1)
 
-add-i : tie.Need-add-i Inv-loop μ-loop
-add-i c = search needs
-
-loop-less : tie.Need-loop-less Inv-loop μ-loop
-loop-less c = search needs
-
 loop-again : tie.Need-loop-again Inv-loop μ-loop
 loop-again c = (progress-more (c .before .before .before .before .before .before .before .loop .inv .0) (read-there (c .before) .1), omega arith)
 
@@ -130,23 +91,23 @@ read-options-spec =
     (tie.spec
     Inv-loop
     μ-loop
-    read-count-requires
-    enum-known-answer
-    enum-told
-    refusal-requires
+    (λ c κs. search needs)
+    (λ c. search needs)
+    (λ c. search needs)
+    (λ c κs. search needs)
     returns
     loop-holds
-    sub-read-option
-    part-read-option-start
-    part-read-option-end
-    read-option-requires
-    enum-known-read
-    enum-told-2
-    refusal-requires-2
+    (λ c. search needs)
+    (λ c. search needs)
+    (λ c. search needs)
+    (λ c κs. search needs)
+    (λ c. search needs)
+    (λ c. search needs)
+    (λ c κs. search needs)
     add-t17
     returns-2
     add-next
-    add-i
-    loop-less
+    (λ c. search needs)
+    (λ c. search needs)
     loop-again
     returns-3)

@@ -22,28 +22,10 @@ value-there : (c : tie.After-known-told2)
     → StringThere (now (start (to-key c) .args .s)) (to-key c .before .key-length .given .0 .1 .0) (c .before .value-length .given .0 .0) (c .before .value-length .given .0 .1 .0)
 value-there c = string-there _ _ (sym (c .before .value-length .given .1) ∙ c .before .before .before .string-at2 .ensures)
 
-string-at-requires : tie.Need-string-at-requires
-string-at-requires c κs = search needs
-
-enum-known-key-length : tie.Need-enum-known-key-length
-enum-known-key-length c = search needs
-
-enum-told : tie.Need-enum-told
-enum-told c = search needs
-
 returns : tie.Need-returns
 returns c =
     let a = c .before .before .before .before .args in
     option-cut (now (a .s)) (a .at) (string-missing _ _ (sym (c .enum-told .given .1) ∙ c .before .before .string-at .ensures))
-
-string-at-requires-2 : tie.Need-string-at-requires-2
-string-at-requires-2 c κs = search needs
-
-enum-known-value-length : tie.Need-enum-known-value-length
-enum-known-value-length c = search needs
-
-enum-told-2 : tie.Need-enum-told-2
-enum-told-2 c = search needs
 
 returns-2 : tie.Need-returns-2
 returns-2 c =
@@ -62,13 +44,13 @@ pub option-at-spec : {M : Type 1} → statement M
 option-at-spec =
     tie.close
     (tie.spec
-    string-at-requires
-    enum-known-key-length
-    enum-told
+    (λ c κs. search needs)
+    (λ c. search needs)
+    (λ c. search needs)
     returns
-    string-at-requires-2
-    enum-known-value-length
-    enum-told-2
+    (λ c κs. search needs)
+    (λ c. search needs)
+    (λ c. search needs)
     returns-2
     add-t9
     add-t10

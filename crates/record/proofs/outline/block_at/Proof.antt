@@ -19,31 +19,10 @@ returns c =
     let a = c .before .before .args in
     block-short (now (a .s)) (a .first) (a .i) (omega arith)
 
-mul-before : tie.Need-mul-before
-mul-before c = search needs
-
-sub-if2 : tie.Need-sub-if2
-sub-if2 c = search needs
-
-add-if2 : tie.Need-add-if2
-add-if2 c = search needs
-
 returns-2 : tie.Need-returns-2
 returns-2 c =
     let a = c .before .before .before .args in
     block-short (now (a .s)) (a .first) (a .i) (omega arith)
-
-add-at : tie.Need-add-at
-add-at c = search needs
-
-read-word-requires : tie.Need-read-word-requires
-read-word-requires c κs = search needs
-
-enum-known-size : tie.Need-enum-known-size
-enum-known-size c = search needs
-
-enum-told : tie.Need-enum-told
-enum-told c = search needs
 
 returns-3 : tie.Need-returns-3
 returns-3 c =
@@ -65,14 +44,14 @@ block-at-spec =
     tie.close
     (tie.spec
     returns
-    mul-before
-    sub-if2
-    add-if2
+    (λ c. search needs)
+    (λ c. search needs)
+    (λ c. search needs)
     returns-2
-    add-at
-    read-word-requires
-    enum-known-size
-    enum-told
+    (λ c. search needs)
+    (λ c κs. search needs)
+    (λ c. search needs)
+    (λ c. search needs)
     returns-3
     add-t8
     returns-4)

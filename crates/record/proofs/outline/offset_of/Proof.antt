@@ -17,18 +17,6 @@ Inv-loop s first i sum₀ j₀ sum j = (sum ≡ offsetOf s first j) × (j ≤ i)
 abbrev μ-loop : tie.MeasureT-loop
 μ-loop s first i sum₀ j₀ sum j = i - j
 
-loop-holds : tie.Need-loop-holds Inv-loop μ-loop
-loop-holds c = search needs
-
-block-at-requires : tie.Need-block-at-requires Inv-loop μ-loop
-block-at-requires c κs = search needs
-
-enum-known-size : tie.Need-enum-known-size Inv-loop μ-loop
-enum-known-size c = search needs
-
-enum-told : tie.Need-enum-told Inv-loop μ-loop
-enum-told c = search needs
-
 returns : tie.Need-returns Inv-loop μ-loop
 returns c =
     let a = c .before .before .before .before .before .before .args in
@@ -37,17 +25,8 @@ returns c =
     let whole : l .j + (a .i - l .j) ≡ a .i = omega arith in
     l .inv .0 ∙ sym (offset-stays (now (a .s)) (a .first) (l .j) (a .i - l .j) none) ∙ ap (offsetOf (now (a .s)) (a .first)) whole
 
-cast-sum : tie.Need-cast-sum Inv-loop μ-loop
-cast-sum c = search needs
-
 add-sum : tie.Need-add-sum Inv-loop μ-loop
 add-sum c = omega (arith, c .before .before .before .before .before .loop .inv .2)
-
-add-j : tie.Need-add-j Inv-loop μ-loop
-add-j c = search needs
-
-loop-less : tie.Need-loop-less Inv-loop μ-loop
-loop-less c = search needs
 
 loop-again : tie.Need-loop-again Inv-loop μ-loop
 loop-again c =
@@ -69,14 +48,14 @@ offset-of-spec =
     (tie.spec
     Inv-loop
     μ-loop
-    loop-holds
-    block-at-requires
-    enum-known-size
-    enum-told
+    (λ c. search needs)
+    (λ c κs. search needs)
+    (λ c. search needs)
+    (λ c. search needs)
     returns
-    cast-sum
+    (λ c. search needs)
     add-sum
-    add-j
-    loop-less
+    (λ c. search needs)
+    (λ c. search needs)
     loop-again
     returns-2)

@@ -1,6 +1,6 @@
 -- `record::outline::outline_at` meets its contract: each return is one of the laws of an outline.
 use Prim.Native.Nat.{ℕ, _+_}
-use mathlib.Core.Path.{_≡_, refl, sym, ap, _∙_}
+use mathlib.Core.Path.{refl, sym, ap, _∙_}
 use native.Mathlib.Omega.{arith}
 use denote.Ref.{now}
 use Rattle.xdr.specs.Pad.{padded}
@@ -18,15 +18,6 @@ start c = c .before .before .before .before .before
 name-there : (c : tie.After-known-told) → StringThere (now (start c .args .s)) (start c .args .at) (c .before .n .given .0 .0) (c .before .n .given .0 .1 .0)
 name-there c = string-there _ _ (sym (c .before .n .given .1) ∙ c .before .before .before .string-at .ensures)
 
-string-at-requires : tie.Need-string-at-requires
-string-at-requires c κs = search needs
-
-enum-known-n : tie.Need-enum-known-n
-enum-known-n c = search needs
-
-enum-told : tie.Need-enum-told
-enum-told c = search needs
-
 returns : tie.Need-returns
 returns c =
     let a = c .before .before .before .before .args in
@@ -37,9 +28,6 @@ add-name c = let k = name-there c in omega (arith, k .ends, k .room)
 
 add-outline-from : tie.Need-add-outline-from
 add-outline-from c = let k = name-there c in omega (arith, k .is, k .ends, k .room)
-
-outline-from-requires : tie.Need-outline-from-requires
-outline-from-requires c κs = search needs
 
 returns-2 : tie.Need-returns-2
 returns-2 c =
@@ -54,11 +42,11 @@ pub outline-at-spec : {M : Type 1} → statement M
 outline-at-spec =
     tie.close
     (tie.spec
-    string-at-requires
-    enum-known-n
-    enum-told
+    (λ c κs. search needs)
+    (λ c. search needs)
+    (λ c. search needs)
     returns
     add-name
     add-outline-from
-    outline-from-requires
+    (λ c κs. search needs)
     returns-2)

@@ -41,29 +41,11 @@ fields-there : (c : tie.After-known-told4)
     Fixed (now (start f .args .s)) (start f .args .rest) (f .before .flags .given .0 .0) (m .before .modified .given .0 .0) (v .before .version .given .0 .0) (c .before .blocks2 .given .0 .0) (c .before .blocks2 .given .0 .1 .0)
 fields-there c = fixed (flags-there (to-flags (to-modified (to-version c)))) (modified-there (to-modified (to-version c))) (version-there (to-version c)) (blocks-there c)
 
-read-word-requires : tie.Need-read-word-requires
-read-word-requires c κs = search needs
-
-enum-known-flags : tie.Need-enum-known-flags
-enum-known-flags c = search needs
-
-enum-told : tie.Need-enum-told
-enum-told c = search needs
-
 returns : tie.Need-returns
 returns c =
     let a = c .before .before .before .before .args in
     let h = word-missing (c .before .before .read-word .ensures) (c .enum-told .given .1) .cut in
     fields-cut (now (a .s)) (a .name) (a .stop) (a .rest) (omega (arith, h))
-
-read-hyper-requires : tie.Need-read-hyper-requires
-read-hyper-requires c κs = search needs
-
-enum-known-modified : tie.Need-enum-known-modified
-enum-known-modified c = search needs
-
-enum-told-2 : tie.Need-enum-told-2
-enum-told-2 c = search needs
 
 returns-2 : tie.Need-returns-2
 returns-2 c =
@@ -72,15 +54,6 @@ returns-2 c =
     let h = hyper-missing (c .before .before .read-hyper .ensures) (c .enum-told2 .given .1) .cut in
     fields-cut (now (a .s)) (a .name) (a .stop) (a .rest) (omega (arith, h, flags-there k .ends))
 
-read-word-requires-2 : tie.Need-read-word-requires-2
-read-word-requires-2 c κs = search needs
-
-enum-known-version : tie.Need-enum-known-version
-enum-known-version c = search needs
-
-enum-told-3 : tie.Need-enum-told-3
-enum-told-3 c = search needs
-
 returns-3 : tie.Need-returns-3
 returns-3 c =
     let k = c .before .before .before in
@@ -88,27 +61,12 @@ returns-3 c =
     let h = word-missing (c .before .before .read-word2 .ensures) (c .enum-told3 .given .1) .cut in
     fields-cut (now (a .s)) (a .name) (a .stop) (a .rest) (omega (arith, h, flags-there (to-flags k) .ends, modified-there k .ends))
 
-read-word-requires-3 : tie.Need-read-word-requires-3
-read-word-requires-3 c κs = search needs
-
-enum-known-blocks : tie.Need-enum-known-blocks
-enum-known-blocks c = search needs
-
-enum-told-4 : tie.Need-enum-told-4
-enum-told-4 c = search needs
-
 returns-4 : tie.Need-returns-4
 returns-4 c =
     let k = c .before .before .before in
     let a = start (to-flags (to-modified k)) .args in
     let h = word-missing (c .before .before .read-word3 .ensures) (c .enum-told4 .given .1) .cut in
     fields-cut (now (a .s)) (a .name) (a .stop) (a .rest) (omega (arith, h, flags-there (to-flags (to-modified k)) .ends, modified-there (to-modified k) .ends, version-there k .ends))
-
-cast-size : tie.Need-cast-size
-cast-size c = search needs
-
-mul-size : tie.Need-mul-size
-mul-size c = search needs
 
 sub-if1 : tie.Need-sub-if1
 sub-if1 c = blocks-there c .room
@@ -132,24 +90,24 @@ pub outline-from-spec : {M : Type 1} → statement M
 outline-from-spec =
     tie.close
     (tie.spec
-    read-word-requires
-    enum-known-flags
-    enum-told
+    (λ c κs. search needs)
+    (λ c. search needs)
+    (λ c. search needs)
     returns
-    read-hyper-requires
-    enum-known-modified
-    enum-told-2
+    (λ c κs. search needs)
+    (λ c. search needs)
+    (λ c. search needs)
     returns-2
-    read-word-requires-2
-    enum-known-version
-    enum-told-3
+    (λ c κs. search needs)
+    (λ c. search needs)
+    (λ c. search needs)
     returns-3
-    read-word-requires-3
-    enum-known-blocks
-    enum-told-4
+    (λ c κs. search needs)
+    (λ c. search needs)
+    (λ c. search needs)
     returns-4
-    cast-size
-    mul-size
+    (λ c. search needs)
+    (λ c. search needs)
     sub-if1
     returns-5
     add-t18

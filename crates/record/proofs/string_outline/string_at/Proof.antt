@@ -16,29 +16,11 @@ start c = c .before .before .before .before .before
 length-there : (c : tie.After-known-told) → There 4 wordAt (now (start c .args .s)) (start c .args .at) (c .before .len .given .0 .0) (c .before .len .given .0 .1 .0)
 length-there c = word-there (c .before .before .before .read-word .ensures) (c .before .len .given .1)
 
-read-word-requires : tie.Need-read-word-requires
-read-word-requires c κs = search needs
-
-enum-known-len : tie.Need-enum-known-len
-enum-known-len c = search needs
-
-enum-told : tie.Need-enum-told
-enum-told c = search needs
-
 returns : tie.Need-returns
 returns c =
     let a = c .before .before .before .before .args in
     let h = word-missing (c .before .before .read-word .ensures) (c .enum-told .given .1) .cut in
     string-short (now (a .s)) (a .at) (wordAt (now (a .s)) (a .at)) refl (omega (arith, h))
-
-cast-n : tie.Need-cast-n
-cast-n c = search needs
-
-add-size : tie.Need-add-size
-add-size c = search needs
-
-mul-size : tie.Need-mul-size
-mul-size c = search needs
 
 sub-if1 : tie.Need-sub-if1
 sub-if1 c = length-there c .room
@@ -48,9 +30,6 @@ returns-2 c =
     let a = start (c .before) .args in
     let l = length-there (c .before) in
     string-short (now (a .s)) (a .at) (c .before .before .len .given .0 .0) (l .is) (omega (arith, l .ends, l .room))
-
-add-t8 : tie.Need-add-t8
-add-t8 c = search needs
 
 returns-3 : tie.Need-returns-3
 returns-3 c =
@@ -62,14 +41,14 @@ pub string-at-spec : {M : Type 1} → statement M
 string-at-spec =
     tie.close
     (tie.spec
-    read-word-requires
-    enum-known-len
-    enum-told
+    (λ c κs. search needs)
+    (λ c. search needs)
+    (λ c. search needs)
     returns
-    cast-n
-    add-size
-    mul-size
+    (λ c. search needs)
+    (λ c. search needs)
+    (λ c. search needs)
     sub-if1
     returns-2
-    add-t8
+    (λ c. search needs)
     returns-3)

@@ -6,26 +6,8 @@ use borrow.Author.Needs.{needs}
 use Rattle.serve.proofs.ruling.is_ours.Statement.{statement}
 use Rattle.serve.proofs.ruling.is_ours.Tie as tie
 
-bytes-of-requires : tie.Need-bytes-of-requires
-bytes-of-requires c κs = search needs
-
-compare-bytes-requires : tie.Need-compare-bytes-requires
-compare-bytes-requires c κs = search needs
-
-is-equal-requires : tie.Need-is-equal-requires
-is-equal-requires c κs = search needs
-
 returns : tie.Need-returns
 returns c = let s = c .before .before .before .before .before .before .before .before .before .before .args in not-ours (now (s .table)) (now (s .repository)) (now (s .message)) (s .x) (c .before .before .before .bytes-of .ensures) (c .before .before .compare-bytes .ensures) (c .before .is-equal .ensures) (not-true _ (c .if1 .taken))
-
-bytes-of-requires-2 : tie.Need-bytes-of-requires-2
-bytes-of-requires-2 c κs = search needs
-
-bytes-of-requires-3 : tie.Need-bytes-of-requires-3
-bytes-of-requires-3 c κs = search needs
-
-lists-requires : tie.Need-lists-requires
-lists-requires c κs = search needs
 
 returns-2 : tie.Need-returns-2
 returns-2 c = let s = c .before .before .before .before .before .before .before .before .before .before .before .before .before .args in ours-by (now (s .table)) (now (s .repository)) (now (s .message)) (s .x) (c .before .before .before .before .before .before .bytes-of .ensures) (c .before .before .before .before .before .compare-bytes .ensures) (c .before .before .before .before .is-equal .ensures) (not-false _ (c .before .before .before .if1 .left)) (c .before .before .bytes-of2 .ensures) (c .before .bytes-of3 .ensures) (c .lists .ensures)
@@ -34,11 +16,11 @@ pub is-ours-spec : {M : Type 1} → statement M
 is-ours-spec =
     tie.close
     (tie.spec
-    bytes-of-requires
-    compare-bytes-requires
-    is-equal-requires
+    (λ c κs. search needs)
+    (λ c κs. search needs)
+    (λ c κs. search needs)
     returns
-    bytes-of-requires-2
-    bytes-of-requires-3
-    lists-requires
+    (λ c κs. search needs)
+    (λ c κs. search needs)
+    (λ c κs. search needs)
     returns-2)

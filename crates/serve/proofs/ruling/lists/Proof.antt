@@ -17,29 +17,8 @@ abbrev μ-loop : tie.MeasureT-loop
 loop-holds : tie.Need-loop-holds Inv-loop μ-loop
 loop-holds c = let s = c .before .before .before in look-starts (now (s .args .table)) (now (s .args .name)) (λ i. c .before .before .shared-slice-known .given i .fits) (s .pre)
 
-outline-at-requires : tie.Need-outline-at-requires Inv-loop μ-loop
-outline-at-requires c κs = search needs
-
-enum-known-f : tie.Need-enum-known-f Inv-loop μ-loop
-enum-known-f c = search needs
-
-enum-told : tie.Need-enum-told Inv-loop μ-loop
-enum-told c = search needs
-
 returns : tie.Need-returns Inv-loop μ-loop
 returns c = let s = c .before .before .before .before .before .before .before .args in look-ends (c .before .before .before .loop .inv) (c .before .before .outline-at .ensures) (s .offset) (blockWith (s .size) (now (s .hash))) (c .enum-told .given .1)
-
-part-requires : tie.Need-part-requires Inv-loop μ-loop
-part-requires c κs = search needs
-
-compare-bytes-requires : tie.Need-compare-bytes-requires Inv-loop μ-loop
-compare-bytes-requires c κs = search needs
-
-is-equal-requires : tie.Need-is-equal-requires Inv-loop μ-loop
-is-equal-requires c κs = search needs
-
-lists-at-requires : tie.Need-lists-at-requires Inv-loop μ-loop
-lists-at-requires c κs = search needs
 
 returns-2 : tie.Need-returns-2 Inv-loop μ-loop
 returns-2 c = let s = c .before .before .before .before .before .before .before .before .before .before .before .before .before .args in look-found (c .before .before .before .before .before .before .before .before .before .loop .inv) (c .before .before .before .before .before .before .before .before .outline-at .ensures) (c .before .before .before .before .before .before .f .given .1) (c .before .before .before .before .part .ensures) (c .before .before .before .compare-bytes .ensures) (c .before .before .is-equal .ensures) (s .offset) (blockWith (s .size) (now (s .hash))) (c .before .if1 .taken) (c .lists-at .ensures)
@@ -57,14 +36,14 @@ lists-spec =
     Inv-loop
     μ-loop
     loop-holds
-    outline-at-requires
-    enum-known-f
-    enum-told
+    (λ c κs. search needs)
+    (λ c. search needs)
+    (λ c. search needs)
     returns
-    part-requires
-    compare-bytes-requires
-    is-equal-requires
-    lists-at-requires
+    (λ c κs. search needs)
+    (λ c κs. search needs)
+    (λ c κs. search needs)
+    (λ c κs. search needs)
     returns-2
     loop-less
     loop-again)

@@ -9,11 +9,8 @@ use Rattle.table.proofs.good.is_good.Tie as tie
 returns : tie.Need-returns
 returns c = sym (good-long (now (c .before .before .args .table)) (c .if1 .taken))
 
-is-rising-array-requires : tie.Need-is-rising-array-requires
-is-rising-array-requires c κs = search needs
-
 returns-2 : tie.Need-returns-2
 returns-2 c = c .is-rising-array .ensures ∙ sym (good-rising (now (c .before .before .before .args .table)) (c .before .if1 .left))
 
 pub is-good-spec : {M : Type 1} → statement M
-is-good-spec = tie.close (tie.spec returns is-rising-array-requires returns-2)
+is-good-spec = tie.close (tie.spec returns (λ c κs. search needs) returns-2)

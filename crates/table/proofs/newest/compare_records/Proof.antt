@@ -52,29 +52,11 @@ module _ {xs ys : List ℕ} {r : Order} where
       Compared xs ys r → Compared (bit (isDeleted (a .f .flags)) ∷ xs) (bit (isDeleted (a .g .flags)) ∷ ys) r
   past-deleted c k = passes (deleted-compared (c .before .before)) (sym (c .before .is-equal4 .ensures) ∙ not-false _ (c .if4 .left)) k
 
-compare-modified-requires : tie.Need-compare-modified-requires
-compare-modified-requires c κs = search needs
-
-is-equal-requires : tie.Need-is-equal-requires
-is-equal-requires c κs = search needs
-
 returns : tie.Need-returns
 returns c =
     let a = c .before .before .before .before .before .args in
     compared-at (now (a .s)) (a .f) (now (a .t)) (a .g)
     (decides (c .before .before .compare-modified .ensures) (sym (c .before .is-equal .ensures) ∙ not-true _ (c .if1 .taken)))
-
-cast-compare-numbers : tie.Need-cast-compare-numbers
-cast-compare-numbers c = search needs
-
-cast-compare-numbers-2 : tie.Need-cast-compare-numbers-2
-cast-compare-numbers-2 c = search needs
-
-compare-numbers-requires : tie.Need-compare-numbers-requires
-compare-numbers-requires c κs = search needs
-
-is-equal-requires-2 : tie.Need-is-equal-requires-2
-is-equal-requires-2 c κs = search needs
 
 returns-2 : tie.Need-returns-2
 returns-2 c =
@@ -82,18 +64,6 @@ returns-2 c =
     let a = c1 .before .before .before .before .before .args in
     compared-at (now (a .s)) (a .f) (now (a .t)) (a .g)
     (past-modified c1 (decides (c .before .before .compare-numbers .ensures) (sym (c .before .is-equal2 .ensures) ∙ not-true _ (c .if2 .taken))))
-
-is-invalid-requires : tie.Need-is-invalid-requires
-is-invalid-requires c κs = search needs
-
-is-invalid-requires-2 : tie.Need-is-invalid-requires-2
-is-invalid-requires-2 c κs = search needs
-
-compare-bits-requires : tie.Need-compare-bits-requires
-compare-bits-requires c κs = search needs
-
-is-equal-requires-3 : tie.Need-is-equal-requires-3
-is-equal-requires-3 c κs = search needs
 
 returns-3 : tie.Need-returns-3
 returns-3 c =
@@ -103,18 +73,6 @@ returns-3 c =
     compared-at (now (a .s)) (a .f) (now (a .t)) (a .g)
     (past-modified c1 (past-version c2 (decides (valid-compared (c .before .before)) (sym (c .before .is-equal3 .ensures) ∙ not-true _ (c .if3 .taken)))))
 
-is-deleted-requires : tie.Need-is-deleted-requires
-is-deleted-requires c κs = search needs
-
-is-deleted-requires-2 : tie.Need-is-deleted-requires-2
-is-deleted-requires-2 c κs = search needs
-
-compare-bits-requires-2 : tie.Need-compare-bits-requires-2
-compare-bits-requires-2 c κs = search needs
-
-is-equal-requires-4 : tie.Need-is-equal-requires-4
-is-equal-requires-4 c κs = search needs
-
 returns-4 : tie.Need-returns-4
 returns-4 c =
     let c3 = c .before .before .before .before .before in
@@ -123,15 +81,6 @@ returns-4 c =
     let a = c1 .before .before .before .before .before .args in
     compared-at (now (a .s)) (a .f) (now (a .t)) (a .g)
     (past-modified c1 (past-version c2 (past-valid c3 (decides (deleted-compared (c .before .before)) (sym (c .before .is-equal4 .ensures) ∙ not-true _ (c .if4 .taken))))))
-
-part-requires : tie.Need-part-requires
-part-requires c κs = search needs
-
-part-requires-2 : tie.Need-part-requires-2
-part-requires-2 c κs = search needs
-
-compare-long-requires : tie.Need-compare-long-requires
-compare-long-requires c κs = search needs
 
 returns-5 : tie.Need-returns-5
 returns-5 c =
@@ -147,25 +96,25 @@ pub compare-records-spec : {M : Type 1} → statement M
 compare-records-spec =
     tie.close
     (tie.spec
-    compare-modified-requires
-    is-equal-requires
+    (λ c κs. search needs)
+    (λ c κs. search needs)
     returns
-    cast-compare-numbers
-    cast-compare-numbers-2
-    compare-numbers-requires
-    is-equal-requires-2
+    (λ c. search needs)
+    (λ c. search needs)
+    (λ c κs. search needs)
+    (λ c κs. search needs)
     returns-2
-    is-invalid-requires
-    is-invalid-requires-2
-    compare-bits-requires
-    is-equal-requires-3
+    (λ c κs. search needs)
+    (λ c κs. search needs)
+    (λ c κs. search needs)
+    (λ c κs. search needs)
     returns-3
-    is-deleted-requires
-    is-deleted-requires-2
-    compare-bits-requires-2
-    is-equal-requires-4
+    (λ c κs. search needs)
+    (λ c κs. search needs)
+    (λ c κs. search needs)
+    (λ c κs. search needs)
     returns-4
-    part-requires
-    part-requires-2
-    compare-long-requires
+    (λ c κs. search needs)
+    (λ c κs. search needs)
+    (λ c κs. search needs)
     returns-5)

@@ -2,18 +2,8 @@
 use denote.Ref.{now}
 use Rattle.want.proofs.ListingLaws.{size-there, size-missing}
 use borrow.Author.Needs.{needs}
-use borrow.Author.Needs.{needs}
 use Rattle.want.proofs.block.block_size.Statement.{statement}
 use Rattle.want.proofs.block.block_size.Tie as tie
-
-block-at-requires : tie.Need-block-at-requires
-block-at-requires c κs = search needs
-
-enum-known-size : tie.Need-enum-known-size
-enum-known-size c = search needs
-
-enum-told : tie.Need-enum-told
-enum-told c = search needs
 
 returns : tie.Need-returns
 returns c = let s = c .before .before .before .before in size-missing (now (s .args .s)) (s .args .first) (s .args .j) (s .pre) (c .before .before .block-at .ensures) (c .enum-told .given .1)
@@ -23,4 +13,4 @@ returns-2 c = let s = c .before .before .before .before .before in size-there (n
 
 pub block-size-spec : {M : Type 1} → statement M
 block-size-spec =
-    tie.close (tie.spec block-at-requires enum-known-size enum-told returns returns-2)
+    tie.close (tie.spec (λ c κs. search needs) (λ c. search needs) (λ c. search needs) returns returns-2)

@@ -29,9 +29,6 @@ returns-2 c = look-finds (c .before .before .before .before .loop .inv) (c .befo
 block-size-requires : tie.Need-block-size-requires Inv-loop μ-loop
 block-size-requires c κs = omega (arith, c .before .before .before .loop-test .taken, c .before .before .before .before .before .before .before .pre)
 
-cast-from : tie.Need-cast-from Inv-loop μ-loop
-cast-from c = search needs
-
 add-from : tie.Need-add-from Inv-loop μ-loop
 add-from c = omega (arith, c .before .before .before .before .before .loop .inv .small, c .before .before .before .before .loop-test .taken)
 
@@ -58,7 +55,7 @@ has-there-spec =
     is-there-requires
     returns-2
     block-size-requires
-    cast-from
+    (λ c. search needs)
     add-from
     add-j
     loop-less

@@ -7,22 +7,13 @@ use borrow.Author.Needs.{needs}
 use Rattle.want.proofs.block.is_block.Statement.{statement}
 use Rattle.want.proofs.block.is_block.Tie as tie
 
-block-hash-requires : tie.Need-block-hash-requires
-block-hash-requires c κs = search needs
-
 ends-alike-requires : tie.Need-ends-alike-requires
 ends-alike-requires c κs = let s = c .before .before .before in hash-long (now (s .args .s)) (blockPlace (s .args .first) (s .args .j)) (c .block-hash .ensures) (s .pre)
 
 returns : tie.Need-returns
 returns c = let s = c .before .before .before .before .before in hash-differs (now (s .args .s)) (blockPlace (s .args .first) (s .args .j)) (c .before .before .block-hash .ensures) (s .args .size) (now (s .args .hash)) (differ-end _ _ (hash-long (now (s .args .s)) (blockPlace (s .args .first) (s .args .j)) (c .before .before .block-hash .ensures) (s .pre)) (c .before .ends-alike .ensures) (not-true _ (c .if1 .taken)))
 
-same-block-requires : tie.Need-same-block-requires
-same-block-requires c κs = search needs
-
-returns-2 : tie.Need-returns-2
-returns-2 c = search needs
-
 pub is-block-spec : {M : Type 1} → statement M
 is-block-spec =
     tie.close
-    (tie.spec block-hash-requires ends-alike-requires returns same-block-requires returns-2)
+    (tie.spec (λ c κs. search needs) ends-alike-requires returns (λ c κs. search needs) (λ c. search needs))

@@ -4,17 +4,11 @@ use borrow.Author.Needs.{needs}
 use Rattle.want.proofs.block.is_current.Statement.{statement}
 use Rattle.want.proofs.block.is_current.Tie as tie
 
-is-invalid-requires : tie.Need-is-invalid-requires
-is-invalid-requires c κs = search needs
-
 returns : tie.Need-returns
 returns c = rw (sym (c .before .is-invalid .ensures) ∙ c .if1 .taken) refl
-
-is-deleted-requires : tie.Need-is-deleted-requires
-is-deleted-requires c κs = search needs
 
 returns-2 : tie.Need-returns-2
 returns-2 c = rw (sym (c .before .before .is-invalid .ensures) ∙ c .before .if1 .left, c .is-deleted .ensures) refl
 
 pub is-current-spec : {M : Type 1} → statement M
-is-current-spec = tie.close (tie.spec is-invalid-requires returns is-deleted-requires returns-2)
+is-current-spec = tie.close (tie.spec (λ c κs. search needs) returns (λ c κs. search needs) returns-2)

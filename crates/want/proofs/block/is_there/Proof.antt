@@ -8,11 +8,8 @@ use Rattle.want.proofs.block.is_there.Tie as tie
 returns : tie.Need-returns
 returns c = rw (ne-eqb _ _ (c .if1 .taken)) refl
 
-same-block-requires : tie.Need-same-block-requires
-same-block-requires c κs = search needs
-
 returns-2 : tie.Need-returns-2
 returns-2 c = rw (eq-eqb _ _ (c .before .if1 .left)) (c .same-block .ensures)
 
 pub is-there-spec : {M : Type 1} → statement M
-is-there-spec = tie.close (tie.spec returns same-block-requires returns-2)
+is-there-spec = tie.close (tie.spec returns (λ c κs. search needs) returns-2)

@@ -4,9 +4,6 @@ use borrow.Author.Needs.{needs}
 use Rattle.want.proofs.block.listed.Statement.{statement}
 use Rattle.want.proofs.block.listed.Tie as tie
 
-is-current-requires : tie.Need-is-current-requires
-is-current-requires c κs = search needs
-
 returns : tie.Need-returns
 returns c = rw (sym (c .before .is-current .ensures) ∙ c .if1 .taken) refl
 
@@ -14,4 +11,4 @@ returns-2 : tie.Need-returns-2
 returns-2 c = rw (sym (c .before .is-current .ensures) ∙ c .if1 .left) refl
 
 pub listed-spec : {M : Type 1} → statement M
-listed-spec = tie.close (tie.spec is-current-requires returns returns-2)
+listed-spec = tie.close (tie.spec (λ c κs. search needs) returns returns-2)

@@ -8,17 +8,8 @@ use borrow.Author.Needs.{needs}
 use Rattle.want.proofs.block.same_block.Statement.{statement}
 use Rattle.want.proofs.block.same_block.Tie as tie
 
-block-hash-requires : tie.Need-block-hash-requires
-block-hash-requires c κs = search needs
-
-same-bytes-requires : tie.Need-same-bytes-requires
-same-bytes-requires c κs = search needs
-
 returns : tie.Need-returns
 returns c = let s = c .before .before .before .before .before in hash-differs (now (s .args .s)) (blockPlace (s .args .first) (s .args .j)) (c .before .before .block-hash .ensures) (s .args .size) (now (s .args .hash)) (sym (not-true _ (c .if1 .taken)) ∙ c .before .same-bytes .ensures)
-
-block-size-requires : tie.Need-block-size-requires
-block-size-requires c κs = search needs
 
 returns-2 : tie.Need-returns-2
 returns-2 c = let s = c .before .before .before .before .before .before in hash-same (now (s .args .s)) (blockPlace (s .args .first) (s .args .j)) (c .before .before .before .block-hash .ensures) (s .args .size) (now (s .args .hash)) (sym (not-false _ (c .before .if1 .left)) ∙ c .before .before .same-bytes .ensures) (c .block-size .ensures)
@@ -27,8 +18,8 @@ pub same-block-spec : {M : Type 1} → statement M
 same-block-spec =
     tie.close
     (tie.spec
-    block-hash-requires
-    same-bytes-requires
+    (λ c κs. search needs)
+    (λ c κs. search needs)
     returns
-    block-size-requires
+    (λ c κs. search needs)
     returns-2)

@@ -1,37 +1,22 @@
 -- `want::list::all_good` meets its contract.
 use mathlib.Core.Path.{refl, sym, _∙_}
 use borrow.Author.Tests.{not-true, not-false}
-use Rattle.want.proofs.OutcomeLaws.{and-true}
+use Rattle.record.proofs.RisingLaws.{and-true}
 use borrow.Author.Needs.{needs}
 use Rattle.want.proofs.list.all_good.Statement.{statement}
 use Rattle.want.proofs.list.all_good.Tie as tie
 
-is-good-requires : tie.Need-is-good-requires
-is-good-requires c κs = search needs
-
 returns : tie.Need-returns
 returns c = rw (sym (c .before .is-good .ensures) ∙ not-true _ (c .if1 .taken)) refl
-
-is-good-requires-2 : tie.Need-is-good-requires-2
-is-good-requires-2 c κs = search needs
 
 returns-2 : tie.Need-returns-2
 returns-2 c = rw (sym (c .before .before .before .is-good .ensures) ∙ not-false _ (c .before .before .if1 .left), sym (c .before .is-good2 .ensures) ∙ not-true _ (c .if2 .taken)) refl
 
-is-good-requires-3 : tie.Need-is-good-requires-3
-is-good-requires-3 c κs = search needs
-
 returns-3 : tie.Need-returns-3
 returns-3 c = rw (sym (c .before .before .before .before .before .is-good .ensures) ∙ not-false _ (c .before .before .before .before .if1 .left), sym (c .before .before .before .is-good2 .ensures) ∙ not-false _ (c .before .before .if2 .left), sym (c .before .is-good3 .ensures) ∙ not-true _ (c .if3 .taken)) refl
 
-is-good-requires-4 : tie.Need-is-good-requires-4
-is-good-requires-4 c κs = search needs
-
 returns-4 : tie.Need-returns-4
 returns-4 c = rw (sym (c .before .before .before .before .before .before .before .is-good .ensures) ∙ not-false _ (c .before .before .before .before .before .before .if1 .left), sym (c .before .before .before .before .before .is-good2 .ensures) ∙ not-false _ (c .before .before .before .before .if2 .left), sym (c .before .before .before .is-good3 .ensures) ∙ not-false _ (c .before .before .if3 .left), sym (c .before .is-good4 .ensures) ∙ not-true _ (c .if4 .taken)) refl
-
-is-good-requires-5 : tie.Need-is-good-requires-5
-is-good-requires-5 c κs = search needs
 
 returns-5 : tie.Need-returns-5
 returns-5 c = rw (sym (c .before .before .before .before .before .before .before .before .is-good .ensures) ∙ not-false _ (c .before .before .before .before .before .before .before .if1 .left), sym (c .before .before .before .before .before .before .is-good2 .ensures) ∙ not-false _ (c .before .before .before .before .before .if2 .left), sym (c .before .before .before .before .is-good3 .ensures) ∙ not-false _ (c .before .before .before .if3 .left), sym (c .before .before .is-good4 .ensures) ∙ not-false _ (c .before .if4 .left)) (c .is-good5 .ensures ∙ sym (and-true _))
@@ -40,13 +25,13 @@ pub all-good-spec : {M : Type 1} → statement M
 all-good-spec =
     tie.close
     (tie.spec
-    is-good-requires
+    (λ c κs. search needs)
     returns
-    is-good-requires-2
+    (λ c κs. search needs)
     returns-2
-    is-good-requires-3
+    (λ c κs. search needs)
     returns-3
-    is-good-requires-4
+    (λ c κs. search needs)
     returns-4
-    is-good-requires-5
+    (λ c κs. search needs)
     returns-5)

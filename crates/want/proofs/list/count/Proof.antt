@@ -20,9 +20,6 @@ abbrev μ-loop : tie.MeasureT-loop
 loop-holds : tie.Need-loop-holds Inv-loop μ-loop
 loop-holds c = counted-starts (map now (c .args .t1)) (c .pre)
 
-lowest-requires : tie.Need-lowest-requires Inv-loop μ-loop
-lowest-requires c κs = search needs
-
 mul-t : tie.Need-mul-t Inv-loop μ-loop
 mul-t c = omega (arith, lowest-small (c .before .loop .inv .so-far .walk) (c .lowest .ensures))
 
@@ -35,35 +32,17 @@ mul-outline-at c = omega (arith, lowest-small (c .before .before .loop .inv .so-
 array-read-outline-at : tie.Need-array-read-outline-at Inv-loop μ-loop
 array-read-outline-at c = lowest-small (c .before .before .loop .inv .so-far .walk) (c .before .lowest .ensures)
 
-outline-at-requires : tie.Need-outline-at-requires Inv-loop μ-loop
-outline-at-requires c κs = search needs
-
-enum-known-f : tie.Need-enum-known-f Inv-loop μ-loop
-enum-known-f c = search needs
-
-enum-told : tie.Need-enum-told Inv-loop μ-loop
-enum-told c = search needs
-
 returns : tie.Need-returns Inv-loop μ-loop
 returns c = counted-all (c .before .before .before .before .before .loop .inv) (c .before .before .before .before .lowest .ensures) (element now (c .before .before .before .before .before .before .args .t1) _ _ refl) (c .before .before .outline-at .ensures) (c .enum-told .given .1) (c .before .before .before .before .before .before .pre)
 
 array-copy-out-count-blocks : tie.Need-array-copy-out-count-blocks Inv-loop μ-loop
 array-copy-out-count-blocks c = omega arith
 
-listed-requires : tie.Need-listed-requires Inv-loop μ-loop
-listed-requires c κs = search needs
-
 count-blocks-requires : tie.Need-count-blocks-requires Inv-loop μ-loop
 count-blocks-requires c κs = (local-good now (c .before .before .before .before .before .before .before .before .before .args .t1) _ refl (c .before .before .before .before .before .before .before .before .before .pre), omega (arith, turn-within (c .before .before .before .before .before .before .before .before .loop .inv .so-far .walk) (turn (c .before .before .before .before .before .before .before .before .loop .inv .so-far .walk) (c .before .before .before .before .before .before .before .lowest .ensures) (element now (c .before .before .before .before .before .before .before .before .before .args .t1) _ _ refl) (c .before .before .before .before .before .outline-at .ensures) (c .before .before .before .f .given .1)), c .listed .ensures))
 
 add-n : tie.Need-add-n Inv-loop μ-loop
 add-n c = omega (arith, c .before .before .before .before .before .before .before .before .before .loop .inv .counted, c .before .before .before .before .before .before .before .before .before .loop .inv .so-far .few, total-small (c .before .before .before .before .before .before .before .before .before .before .pre) (c .before .before .before .before .before .before .before .before .before .loop .inv .so-far .walk), counted-few (c .before .before .before .before .before .before .before .before .before .loop .inv) (c .before .before .before .before .before .before .before .before .before .before .pre) (turn (c .before .before .before .before .before .before .before .before .before .loop .inv .so-far .walk) (c .before .before .before .before .before .before .before .before .lowest .ensures) (element now (c .before .before .before .before .before .before .before .before .before .before .args .t1) _ _ refl) (c .before .before .before .before .before .before .outline-at .ensures) (c .before .before .before .before .f .given .1)) (element now (c .before .before .before .before .before .before .before .before .before .before .args .t1) 0 _ refl) (c .before .listed .ensures) (c .count-blocks .ensures), c .before .listed .ok)
-
-part-requires : tie.Need-part-requires Inv-loop μ-loop
-part-requires c κs = search needs
-
-advanced-requires : tie.Need-advanced-requires Inv-loop μ-loop
-advanced-requires c κs = search needs
 
 loop-less : tie.Need-loop-less Inv-loop μ-loop
 loop-less c = counted-less (c .before .before .before .before .before .before .before .before .before .before .before .loop .inv) (c .before .before .before .before .before .before .before .before .before .before .before .before .pre) (turn (c .before .before .before .before .before .before .before .before .before .before .before .loop .inv .so-far .walk) (c .before .before .before .before .before .before .before .before .before .before .lowest .ensures) (element now (c .before .before .before .before .before .before .before .before .before .before .before .before .args .t1) _ _ refl) (c .before .before .before .before .before .before .before .before .outline-at .ensures) (c .before .before .before .before .before .before .f .given .1)) (element now (c .before .before .before .before .before .before .before .before .before .before .before .before .args .t1) 0 _ refl) (c .before .before .before .listed .ensures) (c .before .before .count-blocks .ensures) _ (c .before .part .ensures) (c .advanced .ensures)
@@ -78,20 +57,20 @@ count-spec =
     Inv-loop
     μ-loop
     loop-holds
-    lowest-requires
+    (λ c κs. search needs)
     mul-t
     array-copy-out-t
     mul-outline-at
     array-read-outline-at
-    outline-at-requires
-    enum-known-f
-    enum-told
+    (λ c κs. search needs)
+    (λ c. search needs)
+    (λ c. search needs)
     returns
     array-copy-out-count-blocks
-    listed-requires
+    (λ c κs. search needs)
     count-blocks-requires
     add-n
-    part-requires
-    advanced-requires
+    (λ c κs. search needs)
+    (λ c κs. search needs)
     loop-less
     loop-again)

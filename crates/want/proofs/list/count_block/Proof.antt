@@ -7,15 +7,6 @@ use borrow.Author.Needs.{needs}
 use Rattle.want.proofs.list.count_block.Statement.{statement}
 use Rattle.want.proofs.list.count_block.Tie as tie
 
-block-size-requires : tie.Need-block-size-requires
-block-size-requires c κs = search needs
-
-block-hash-requires : tie.Need-block-hash-requires
-block-hash-requires c κs = search needs
-
-is-held-requires : tie.Need-is-held-requires
-is-held-requires c κs = search needs
-
 returns : tie.Need-returns
 returns c = let s = c .before .before .before .before .before .before .args in rw (sym (held-first (now (s .t)) (blockPlace (s .first) (s .j)) (c .before .before .before .block-size .ensures) (c .before .before .block-hash .ensures) (c .before .is-held .ensures) refl) ∙ c .if1 .taken) refl
 
@@ -24,4 +15,4 @@ returns-2 c = let s = c .before .before .before .before .before .before .args in
 
 pub count-block-spec : {M : Type 1} → statement M
 count-block-spec =
-    tie.close (tie.spec block-size-requires block-hash-requires is-held-requires returns returns-2)
+    tie.close (tie.spec (λ c κs. search needs) (λ c κs. search needs) (λ c κs. search needs) returns returns-2)

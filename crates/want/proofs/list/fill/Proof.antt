@@ -21,9 +21,6 @@ abbrev μ-loop : tie.MeasureT-loop
 loop-holds : tie.Need-loop-holds Inv-loop μ-loop
 loop-holds c = let s = c .before in filled-starts (map now (s .args .t1)) (now (s .args .out)) (s .pre .0)
 
-lowest-requires : tie.Need-lowest-requires Inv-loop μ-loop
-lowest-requires c κs = search needs
-
 mul-t : tie.Need-mul-t Inv-loop μ-loop
 mul-t c = omega (arith, lowest-small (c .before .loop .inv .so-far .walk) (c .lowest .ensures))
 
@@ -36,32 +33,14 @@ mul-outline-at c = omega (arith, lowest-small (c .before .before .loop .inv .so-
 array-read-outline-at : tie.Need-array-read-outline-at Inv-loop μ-loop
 array-read-outline-at c = lowest-small (c .before .before .loop .inv .so-far .walk) (c .before .lowest .ensures)
 
-outline-at-requires : tie.Need-outline-at-requires Inv-loop μ-loop
-outline-at-requires c κs = search needs
-
-enum-known-f : tie.Need-enum-known-f Inv-loop μ-loop
-enum-known-f c = search needs
-
-enum-told : tie.Need-enum-told Inv-loop μ-loop
-enum-told c = search needs
-
 same-length : tie.Need-same-length Inv-loop μ-loop
 same-length c = filled-same (c .before .before .before .before .before .loop .inv) (c .before .before .before .before .before .before .before .pre .1)
 
 returns : tie.Need-returns Inv-loop μ-loop
 returns c = filled-all (c .before .before .before .before .before .loop .inv) (c .before .before .before .before .lowest .ensures) (element now (c .before .before .before .before .before .before .before .args .t1) _ _ refl) (c .before .before .outline-at .ensures) (c .enum-told .given .1)
 
-part-requires : tie.Need-part-requires Inv-loop μ-loop
-part-requires c κs = search needs
-
-listed-requires : tie.Need-listed-requires Inv-loop μ-loop
-listed-requires c κs = search needs
-
 fill-blocks-requires : tie.Need-fill-blocks-requires Inv-loop μ-loop
 fill-blocks-requires c κs = ((c .before .before .before .before .before .before .before .before .before .before .before .pre .0) .good 0 (omega arith), (omega (arith, turn-within (c .before .before .before .before .before .before .before .before .before .loop .inv .so-far .walk) (turn (c .before .before .before .before .before .before .before .before .before .loop .inv .so-far .walk) (c .before .before .before .before .before .before .before .before .lowest .ensures) (element now (c .before .before .before .before .before .before .before .before .before .before .before .args .t1) _ _ refl) (c .before .before .before .before .before .before .outline-at .ensures) (c .before .before .before .before .f .given .1)), c .before .listed .ensures), filled-fits (c .before .before .before .before .before .before .before .before .before .loop .inv) (c .before .before .before .before .before .before .before .before .before .before .before .pre .1) (c .before .before .before .before .before .before .before .before .before .before .before .pre .0) (turn (c .before .before .before .before .before .before .before .before .before .loop .inv .so-far .walk) (c .before .before .before .before .before .before .before .before .lowest .ensures) (element now (c .before .before .before .before .before .before .before .before .before .before .before .args .t1) _ _ refl) (c .before .before .before .before .before .before .outline-at .ensures) (c .before .before .before .before .f .given .1)) (c .before .before .part .ensures) (c .before .listed .ensures)))
-
-advanced-requires : tie.Need-advanced-requires Inv-loop μ-loop
-advanced-requires c κs = search needs
 
 add-file : tie.Need-add-file Inv-loop μ-loop
 add-file c = omega (arith, c .before .before .before .before .before .before .before .before .before .before .before .before .before .loop .inv .so-far .few, total-small (c .before .before .before .before .before .before .before .before .before .before .before .before .before .before .before .pre .0) (c .before .before .before .before .before .before .before .before .before .before .before .before .before .loop .inv .so-far .walk))
@@ -79,20 +58,20 @@ fill-spec =
     Inv-loop
     μ-loop
     loop-holds
-    lowest-requires
+    (λ c κs. search needs)
     mul-t
     array-copy-out-t
     mul-outline-at
     array-read-outline-at
-    outline-at-requires
-    enum-known-f
-    enum-told
+    (λ c κs. search needs)
+    (λ c. search needs)
+    (λ c. search needs)
     same-length
     returns
-    part-requires
-    listed-requires
+    (λ c κs. search needs)
+    (λ c κs. search needs)
     fill-blocks-requires
-    advanced-requires
+    (λ c κs. search needs)
     add-file
     loop-less
     loop-again)

@@ -4,22 +4,13 @@ use mathlib.Core.Path.{refl}
 use denote.Ref.{now}
 use Rattle.record.specs.Outline.{blockPlace}
 use Rattle.table.specs.Table.{records}
-use Rattle.want.specs.Blocks.{blockHere}
-use Rattle.want.specs.Places.{tableAt, peerAt}
+use Rattle.want.specs.Steps.Blocks.{blockHere}
+use Rattle.want.specs.Steps.Places.{tableAt, peerAt}
 use Rattle.want.proofs.PlaceLaws.{element}
 use Rattle.want.proofs.EntryLaws.{good-first, held-first, wanted-same, block-held, room-wanted, block-wanted}
 use borrow.Author.Needs.{needs}
 use Rattle.want.proofs.list.fill_block.Statement.{statement}
 use Rattle.want.proofs.list.fill_block.Tie as tie
-
-block-size-requires : tie.Need-block-size-requires
-block-size-requires c κs = search needs
-
-block-hash-requires : tie.Need-block-hash-requires
-block-hash-requires c κs = search needs
-
-array-copy-out-is-held : tie.Need-array-copy-out-is-held
-array-copy-out-is-held c = search needs
 
 is-held-requires : tie.Need-is-held-requires
 is-held-requires c κs = let s = c .before .before .before .before .before .before in good-first now (s .args .t1) _ refl (s .pre .0)
@@ -27,14 +18,8 @@ is-held-requires c κs = let s = c .before .before .before .before .before .befo
 returns : tie.Need-returns
 returns c = let s = c .before .before .before .before .before .before .before .before .args in block-held (records (tableAt (map now (s .t1)) 0)) (peerAt (map now (s .t1)) (s .places) (now (s .name)) 1 4) (s .file) (s .j) (s .offset) (blockHere (now (s .t)) (blockPlace (s .first) (s .j))) (now (s .out)) (s .at) (held-first (now (s .t)) (blockPlace (s .first) (s .j)) (c .before .before .before .before .block-size .ensures) (c .before .before .before .block-hash .ensures) (c .before .is-held .ensures) (element now (s .t1) 0 _ refl)) (c .if1 .taken)
 
-peer-of-requires : tie.Need-peer-of-requires
-peer-of-requires c κs = search needs
-
 put-wanted-requires : tie.Need-put-wanted-requires
 put-wanted-requires c κs = let s = c .before .before .before .before .before .before .before .before .before .before .args in room-wanted (records (tableAt (map now (s .t1)) 0)) (peerAt (map now (s .t1)) (s .places) (now (s .name)) 1 4) (s .file) (s .j) (s .offset) (blockHere (now (s .t)) (blockPlace (s .first) (s .j))) (now (s .out)) (s .at) (held-first (now (s .t)) (blockPlace (s .first) (s .j)) (c .before .before .before .before .before .before .block-size .ensures) (c .before .before .before .before .before .block-hash .ensures) (c .before .before .before .is-held .ensures) (element now (s .t1) 0 _ refl)) (c .before .before .if1 .left) (c .before .before .before .before .before .before .before .before .before .before .pre .1 .1)
-
-same-length : tie.Need-same-length
-same-length c = search needs
 
 returns-2 : tie.Need-returns-2
 returns-2 c = let s = c .before .before .before .before .before .before .before .before .before .before .before .before .before .args in block-wanted (records (tableAt (map now (s .t1)) 0)) (peerAt (map now (s .t1)) (s .places) (now (s .name)) 1 4) (s .file) (s .j) (s .offset) (blockHere (now (s .t)) (blockPlace (s .first) (s .j))) (now (s .out)) (s .at) _ (held-first (now (s .t)) (blockPlace (s .first) (s .j)) (c .before .before .before .before .before .before .before .before .before .block-size .ensures) (c .before .before .before .before .before .before .before .before .block-hash .ensures) (c .before .before .before .before .before .before .is-held .ensures) (element now (s .t1) 0 _ refl)) (c .before .before .before .before .before .if1 .left) (wanted-same (now (s .t)) (blockPlace (s .first) (s .j)) (c .before .before .before .before .before .before .before .before .before .block-size .ensures) (c .before .before .before .before .before .before .before .before .block-hash .ensures) (s .file) (s .j) (s .offset) (peerAt (map now (s .t1)) (s .places) (now (s .name)) 1 4) (c .before .before .before .before .peer-of .ensures)) (c .before .before .put-wanted .ensures)
@@ -43,12 +28,12 @@ pub fill-block-spec : {M : Type 1} → statement M
 fill-block-spec =
     tie.close
     (tie.spec
-    block-size-requires
-    block-hash-requires
-    array-copy-out-is-held
+    (λ c κs. search needs)
+    (λ c κs. search needs)
+    (λ c. search needs)
     is-held-requires
     returns
-    peer-of-requires
+    (λ c κs. search needs)
     put-wanted-requires
-    same-length
+    (λ c. search needs)
     returns-2)

@@ -26,9 +26,6 @@ add-next c = let s = c .before .before .before .before .before .before .before .
 block-size-requires : tie.Need-block-size-requires Inv-loop μ-loop
 block-size-requires c κs = omega (arith, c .before .before .before .before .loop-test .taken, c .before .before .before .before .before .before .before .before .before .pre .1 .0)
 
-cast-offset : tie.Need-cast-offset Inv-loop μ-loop
-cast-offset c = search needs
-
 add-offset : tie.Need-add-offset Inv-loop μ-loop
 add-offset c = omega (arith, c .before .before .before .before .before .before .loop .inv .small, c .before .before .before .before .before .loop-test .taken)
 
@@ -57,7 +54,7 @@ fill-blocks-spec =
     fill-block-requires
     add-next
     block-size-requires
-    cast-offset
+    (λ c. search needs)
     add-offset
     add-j
     loop-less

@@ -4,35 +4,14 @@ use mathlib.Core.Path.{ap, _∙_}
 use native.Mathlib.Omega.{arith}
 use denote.Ref.{now}
 use Rattle.want.specs.Listing.{hasThere, blockWith}
-use Rattle.want.specs.Blocks.{blocksFrom}
+use Rattle.want.specs.Steps.Blocks.{blocksFrom}
 use Rattle.want.proofs.ThereLaws.{outline-inside, lists-none, lists-by}
 use borrow.Author.Needs.{needs}
 use Rattle.want.proofs.places.lists_at.Statement.{statement}
 use Rattle.want.proofs.places.lists_at.Tie as tie
 
-outline-at-requires : tie.Need-outline-at-requires
-outline-at-requires c κs = search needs
-
-enum-known-f : tie.Need-enum-known-f
-enum-known-f c = search needs
-
-enum-told : tie.Need-enum-told
-enum-told c = search needs
-
 returns : tie.Need-returns
 returns c = let s = c .before .before .before .before .before .before .args in lists-none (now (s .name)) (now (s .t)) (s .at) (c .before .before .outline-at .ensures) (s .offset) (blockWith (s .size) (now (s .hash))) (c .enum-told .given .1)
-
-part-requires : tie.Need-part-requires
-part-requires c κs = search needs
-
-compare-bytes-requires : tie.Need-compare-bytes-requires
-compare-bytes-requires c κs = search needs
-
-is-equal-requires : tie.Need-is-equal-requires
-is-equal-requires c κs = search needs
-
-listed-requires : tie.Need-listed-requires
-listed-requires c κs = search needs
 
 has-there-requires : tie.Need-has-there-requires
 has-there-requires c κs = let s = c .before .before .before .before .before .before .before .before .before .before .before .before .args in let k = c .listed .ensures in let h = outline-inside (now (s .t)) (s .at) (c .before .before .before .before .before .before .f .given .0 .0) (c .before .before .before .before .before .before .before .before .outline-at .ensures) (c .before .before .before .before .before .before .f .given .1) in omega arith
@@ -47,14 +26,14 @@ pub lists-at-spec : {M : Type 1} → statement M
 lists-at-spec =
     tie.close
     (tie.spec
-    outline-at-requires
-    enum-known-f
-    enum-told
+    (λ c κs. search needs)
+    (λ c. search needs)
+    (λ c. search needs)
     returns
-    part-requires
-    compare-bytes-requires
-    is-equal-requires
-    listed-requires
+    (λ c κs. search needs)
+    (λ c κs. search needs)
+    (λ c κs. search needs)
+    (λ c κs. search needs)
     has-there-requires
     returns-2
     returns-3)

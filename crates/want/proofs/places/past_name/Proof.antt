@@ -5,26 +5,8 @@ use borrow.Author.Needs.{needs}
 use Rattle.want.proofs.places.past_name.Statement.{statement}
 use Rattle.want.proofs.places.past_name.Tie as tie
 
-outline-at-requires : tie.Need-outline-at-requires
-outline-at-requires c κs = search needs
-
-enum-known-f : tie.Need-enum-known-f
-enum-known-f c = search needs
-
-enum-told : tie.Need-enum-told
-enum-told c = search needs
-
 returns : tie.Need-returns
 returns c = let s = c .before .before .before .before .before .args in past-none (now (s .name)) (now (s .t)) (s .at) (c .before .before .outline-at .ensures) (c .enum-told .given .1)
-
-part-requires : tie.Need-part-requires
-part-requires c κs = search needs
-
-compare-bytes-requires : tie.Need-compare-bytes-requires
-compare-bytes-requires c κs = search needs
-
-is-equal-requires : tie.Need-is-equal-requires
-is-equal-requires c κs = search needs
 
 returns-2 : tie.Need-returns-2
 returns-2 c =
@@ -42,12 +24,12 @@ pub past-name-spec : {M : Type 1} → statement M
 past-name-spec =
     tie.close
     (tie.spec
-    outline-at-requires
-    enum-known-f
-    enum-told
+    (λ c κs. search needs)
+    (λ c. search needs)
+    (λ c. search needs)
     returns
-    part-requires
-    compare-bytes-requires
-    is-equal-requires
+    (λ c κs. search needs)
+    (λ c κs. search needs)
+    (λ c κs. search needs)
     returns-2
     returns-3)

@@ -31,9 +31,6 @@ mul-lists-at-2 c = omega (arith, c .before .loop-test .taken)
 array-read-lists-at : tie.Need-array-read-lists-at Inv-loop μ-loop
 array-read-lists-at c = c .before .loop-test .taken
 
-lists-at-requires : tie.Need-lists-at-requires Inv-loop μ-loop
-lists-at-requires c κs = search needs
-
 cast-result : tie.Need-cast-result Inv-loop μ-loop
 cast-result c = omega (arith, c .before .before .before .loop-test .taken)
 
@@ -63,7 +60,7 @@ peer-of-spec =
     array-copy-out-lists-at
     mul-lists-at-2
     array-read-lists-at
-    lists-at-requires
+    (λ c κs. search needs)
     cast-result
     returns
     add-k

@@ -7,18 +7,6 @@ use borrow.Author.Needs.{needs}
 use Rattle.want.proofs.search.is_held.Statement.{statement}
 use Rattle.want.proofs.search.is_held.Tie as tie
 
-search-requires : tie.Need-search-requires
-search-requires c κs = search needs
-
-enum-told : tie.Need-enum-told
-enum-told c = search needs
-
-enum-told-2 : tie.Need-enum-told-2
-enum-told-2 c = search needs
-
-enum-told-3 : tie.Need-enum-told-3
-enum-told-3 c = search needs
-
 returns : tie.Need-returns
 returns c = let s = c .before .before .before .before .before .args in held-by (records (now (s .table))) (blockWith (s .size) (now (s .hash))) (c .enum-told .given .1) (c .before .before .search .ensures)
 
@@ -31,4 +19,4 @@ returns-3 c = let s = c .before .before .before .before .before .args in held-by
 pub is-held-spec : {M : Type 1} → statement M
 is-held-spec =
     tie.close
-    (tie.spec search-requires enum-told enum-told-2 enum-told-3 returns returns-2 returns-3)
+    (tie.spec (λ c κs. search needs) (λ c. search needs) (λ c. search needs) (λ c. search needs) returns returns-2 returns-3)

@@ -24,20 +24,8 @@ abbrev μ-records : tie.MeasureT-records
 records-holds : tie.Need-records-holds Inv-loop μ-loop Inv-records μ-records
 records-holds c = let s = c .before .before in search-starts (now (s .args .table)) (blockWith (s .args .size) (now (s .args .hash))) (λ i. c .before .shared-slice-known .given i .fits) (s .pre)
 
-outline-at-requires : tie.Need-outline-at-requires Inv-loop μ-loop Inv-records μ-records
-outline-at-requires c κs = search needs
-
-enum-known-f : tie.Need-enum-known-f Inv-loop μ-loop Inv-records μ-records
-enum-known-f c = search needs
-
-enum-told : tie.Need-enum-told Inv-loop μ-loop Inv-records μ-records
-enum-told c = search needs
-
 returns : tie.Need-returns Inv-loop μ-loop Inv-records μ-records
 returns c = search-ends (c .before .before .before .records .inv) (c .before .before .outline-at .ensures) (c .enum-told .given .1)
-
-listed-requires : tie.Need-listed-requires Inv-loop μ-loop Inv-records μ-records
-listed-requires c κs = search needs
 
 loop-holds : tie.Need-loop-holds Inv-loop μ-loop Inv-records μ-records
 loop-holds c = search-opens (c .before .before .before .before .before .records .inv) (c .before .before .before .before .outline-at .ensures) (c .before .before .f .given .1) (c .listed .ensures)
@@ -75,11 +63,11 @@ search-spec =
     Inv-records
     μ-records
     records-holds
-    outline-at-requires
-    enum-known-f
-    enum-told
+    (λ c κs. search needs)
+    (λ c. search needs)
+    (λ c. search needs)
     returns
-    listed-requires
+    (λ c κs. search needs)
     loop-holds
     is-block-requires
     add-j

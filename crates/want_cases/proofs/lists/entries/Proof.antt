@@ -1,7 +1,5 @@
 -- `want_cases::lists::entries` is safe and ends.
 use Prim.Native.Nat.{_-_}
-use mathlib.Core.Path.{_≡_}
-use Prim.Native.Nat.{_≤_}
 use borrow.Author.Needs.{needs}
 use Rattle.want_cases.proofs.lists.entries.Statement.{statement}
 use Rattle.want_cases.proofs.lists.entries.Tie as tie
@@ -12,33 +10,15 @@ Inv-loop s i₀ i-end i = Unit {0}
 abbrev μ-loop : tie.MeasureT-loop
 μ-loop s i₀ i-end i = i-end - i
 
-loop-holds : tie.Need-loop-holds Inv-loop μ-loop
-loop-holds c = search needs
-
-numbered-requires : tie.Need-numbered-requires Inv-loop μ-loop
-numbered-requires c κs = search needs
-
-add-i : tie.Need-add-i Inv-loop μ-loop
-add-i c = search needs
-
-loop-less : tie.Need-loop-less Inv-loop μ-loop
-loop-less c = search needs
-
-loop-again : tie.Need-loop-again Inv-loop μ-loop
-loop-again c = search needs
-
-returns : tie.Need-returns Inv-loop μ-loop
-returns c = search needs
-
 pub entries-spec : {M : Type 1} → statement M
 entries-spec =
     tie.close
     (tie.spec
     Inv-loop
     μ-loop
-    loop-holds
-    numbered-requires
-    add-i
-    loop-less
-    loop-again
-    returns)
+    (λ c. search needs)
+    (λ c κs. search needs)
+    (λ c. search needs)
+    (λ c. search needs)
+    (λ c. search needs)
+    (λ c. search needs))

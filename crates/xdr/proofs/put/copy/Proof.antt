@@ -20,27 +20,6 @@ abbrev μ-loop : tie.MeasureT-loop
 loop-holds : tie.Need-loop-holds Inv-loop μ-loop
 loop-holds c = (search needs, refl, refl)
 
-chunk-end-requires : tie.Need-chunk-end-requires Inv-loop μ-loop
-chunk-end-requires c κs = search needs
-
-sub-copy-chunk : tie.Need-sub-copy-chunk Inv-loop μ-loop
-sub-copy-chunk c = search needs
-
-part-copy-chunk-start : tie.Need-part-copy-chunk-start Inv-loop μ-loop
-part-copy-chunk-start c = search needs
-
-part-copy-chunk-end : tie.Need-part-copy-chunk-end Inv-loop μ-loop
-part-copy-chunk-end c = search needs
-
-sub-copy-chunk-2 : tie.Need-sub-copy-chunk-2 Inv-loop μ-loop
-sub-copy-chunk-2 c = search needs
-
-part-copy-chunk-start-2 : tie.Need-part-copy-chunk-start-2 Inv-loop μ-loop
-part-copy-chunk-start-2 c = search needs
-
-part-copy-chunk-end-2 : tie.Need-part-copy-chunk-end-2 Inv-loop μ-loop
-part-copy-chunk-end-2 c = search needs
-
 copy-chunk-requires : tie.Need-copy-chunk-requires Inv-loop μ-loop
 copy-chunk-requires c κs =
     let h = c .before .before .before .before .loop in
@@ -48,9 +27,6 @@ copy-chunk-requires c κs =
     let part = length-take-le (c .before .before .chunk-end .result - h .at) (drop (h .at) src) (simp length-drop (omega arith)) in
     let room = length-take-le (length (h .out) - h .at) (drop (h .at) (h .out)) (simp length-drop (omega arith)) in
     (omega (arith, part, room), omega (arith, part))
-
-loop-less : tie.Need-loop-less Inv-loop μ-loop
-loop-less c = search needs
 
 loop-again : tie.Need-loop-again Inv-loop μ-loop
 loop-again c =
@@ -65,9 +41,6 @@ loop-again c =
     (length-take-le (h .at) src (search needs)) (omega (arith, part)) (omega arith) (h .inv .1) (c .before .before .copy-chunk .ensures)
     ∙ ap (filled out) (sym (take-add (h .at) (end - h .at) src) ∙ ap (λ (n : ℕ). take n src) whole) in
     (search needs, next, ap length next ∙ length-filled out (take end src) (omega (arith, length-take end src)))
-
-same-length : tie.Need-same-length Inv-loop μ-loop
-same-length c = search needs
 
 returns : tie.Need-returns Inv-loop μ-loop
 returns c =
@@ -84,15 +57,15 @@ copy-spec =
     Inv-loop
     μ-loop
     loop-holds
-    chunk-end-requires
-    sub-copy-chunk
-    part-copy-chunk-start
-    part-copy-chunk-end
-    sub-copy-chunk-2
-    part-copy-chunk-start-2
-    part-copy-chunk-end-2
+    (λ c κs. search needs)
+    (λ c. search needs)
+    (λ c. search needs)
+    (λ c. search needs)
+    (λ c. search needs)
+    (λ c. search needs)
+    (λ c. search needs)
     copy-chunk-requires
-    loop-less
+    (λ c. search needs)
     loop-again
-    same-length
+    (λ c. search needs)
     returns)

@@ -14,23 +14,11 @@ held-is c =
     let src = now (c .before .before .before .before .before .before .before .args .src) in
     ap (take (length src)) (c .before .before .before .copy-bytes .ensures) ∙ take-append-seam src _
 
-slice-aggregate-copy-bytes : tie.Need-slice-aggregate-copy-bytes
-slice-aggregate-copy-bytes c = search needs
-
-copy-bytes-requires : tie.Need-copy-bytes-requires
-copy-bytes-requires c κs = search needs
-
-array-share-prefix-held : tie.Need-array-share-prefix-held
-array-share-prefix-held c = search needs
-
 slice-aggregate-copy-bytes-2 : tie.Need-slice-aggregate-copy-bytes-2
 slice-aggregate-copy-bytes-2 c = ap length (sym (held-is c))
 
 copy-bytes-requires-2 : tie.Need-copy-bytes-requires-2
 copy-bytes-requires-2 c κs = rw (held-is c) (search needs)
-
-same-length : tie.Need-same-length
-same-length c = search needs
 
 returns : tie.Need-returns
 returns c = c .before .before .copy-bytes2 .ensures ∙ ap (filled (now (c .before .before .before .before .before .before .before .before .before .before .args .out))) (held-is (c .before .before .before))
@@ -39,10 +27,10 @@ pub copy-chunk-spec : {M : Type 1} → statement M
 copy-chunk-spec =
     tie.close
     (tie.spec
-    slice-aggregate-copy-bytes
-    copy-bytes-requires
-    array-share-prefix-held
+    (λ c. search needs)
+    (λ c κs. search needs)
+    (λ c. search needs)
     slice-aggregate-copy-bytes-2
     copy-bytes-requires-2
-    same-length
+    (λ c. search needs)
     returns)

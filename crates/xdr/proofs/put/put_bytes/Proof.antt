@@ -26,42 +26,15 @@ size l = bytes-size word l ∙ ap (λ (n : ℕ). n + padded (length l)) (number-
 returns : tie.Need-returns
 returns c = rw (beyond (now (c .before .before .before .args .src)) (c .if1 .taken)) (put-nothing (now (c .before .before .before .args .out)) (c .before .before .before .args .at))
 
-add-size : tie.Need-add-size
-add-size c = search needs
-
-pad-after-requires : tie.Need-pad-after-requires
-pad-after-requires c κs = search needs
-
-add-size-2 : tie.Need-add-size-2
-add-size-2 c = search needs
-
 returns-2 : tie.Need-returns-2
 returns-2 c =
     let src = now (c .before .before .before .before .before .args .src) in
     rw (opaque-bytes src (search needs)) (put-refused _ _ (encode (bytes word) src) (omega (arith, size src, c .before .pad-after .ensures)))
 
-sub-if3 : tie.Need-sub-if3
-sub-if3 c = search needs
-
 returns-3 : tie.Need-returns-3
 returns-3 c =
     let src = now (c .before .before .before .before .before .before .args .src) in
     rw (opaque-bytes src (search needs)) (put-refused _ _ (encode (bytes word) src) (omega (arith, size src, c .before .before .pad-after .ensures)))
-
-sub-store-bytes : tie.Need-sub-store-bytes
-sub-store-bytes c = search needs
-
-part-store-bytes-start : tie.Need-part-store-bytes-start
-part-store-bytes-start c = search needs
-
-part-store-bytes-end : tie.Need-part-store-bytes-end
-part-store-bytes-end c = search needs
-
-store-bytes-requires : tie.Need-store-bytes-requires
-store-bytes-requires c κs = search needs
-
-same-length : tie.Need-same-length
-same-length c = search needs
 
 returns-4 : tie.Need-returns-4
 returns-4 c =
@@ -76,15 +49,15 @@ put-bytes-spec =
     tie.close
     (tie.spec
     returns
-    add-size
-    pad-after-requires
-    add-size-2
+    (λ c. search needs)
+    (λ c κs. search needs)
+    (λ c. search needs)
     returns-2
-    sub-if3
+    (λ c. search needs)
     returns-3
-    sub-store-bytes
-    part-store-bytes-start
-    part-store-bytes-end
-    store-bytes-requires
-    same-length
+    (λ c. search needs)
+    (λ c. search needs)
+    (λ c. search needs)
+    (λ c κs. search needs)
+    (λ c. search needs)
     returns-4)

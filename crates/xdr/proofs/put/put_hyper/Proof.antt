@@ -13,26 +13,8 @@ use Rattle.xdr.proofs.put.put_hyper.Tie as tie
 returns : tie.Need-returns
 returns c = put-refused _ _ (encode hyper (c .before .before .args .n)) (omega (arith, number-size 8 (c .before .before .args .n)))
 
-sub-if2 : tie.Need-sub-if2
-sub-if2 c = search needs
-
 returns-2 : tie.Need-returns-2
 returns-2 c = put-refused _ _ (encode hyper (c .before .before .before .args .n)) (omega (arith, number-size 8 (c .before .before .before .args .n)))
-
-sub-store-hyper : tie.Need-sub-store-hyper
-sub-store-hyper c = search needs
-
-part-store-hyper-start : tie.Need-part-store-hyper-start
-part-store-hyper-start c = search needs
-
-part-store-hyper-end : tie.Need-part-store-hyper-end
-part-store-hyper-end c = search needs
-
-store-hyper-requires : tie.Need-store-hyper-requires
-store-hyper-requires c κs = search needs
-
-same-length : tie.Need-same-length
-same-length c = search needs
 
 returns-3 : tie.Need-returns-3
 returns-3 c =
@@ -45,11 +27,11 @@ put-hyper-spec =
     tie.close
     (tie.spec
     returns
-    sub-if2
+    (λ c. search needs)
     returns-2
-    sub-store-hyper
-    part-store-hyper-start
-    part-store-hyper-end
-    store-hyper-requires
-    same-length
+    (λ c. search needs)
+    (λ c. search needs)
+    (λ c. search needs)
+    (λ c κs. search needs)
+    (λ c. search needs)
     returns-3)

@@ -13,26 +13,8 @@ use Rattle.xdr.proofs.put.put_word.Tie as tie
 returns : tie.Need-returns
 returns c = put-refused _ _ (encode word (c .before .before .args .w)) (omega (arith, number-size 4 (c .before .before .args .w)))
 
-sub-if2 : tie.Need-sub-if2
-sub-if2 c = search needs
-
 returns-2 : tie.Need-returns-2
 returns-2 c = put-refused _ _ (encode word (c .before .before .before .args .w)) (omega (arith, number-size 4 (c .before .before .before .args .w)))
-
-sub-store-word : tie.Need-sub-store-word
-sub-store-word c = search needs
-
-part-store-word-start : tie.Need-part-store-word-start
-part-store-word-start c = search needs
-
-part-store-word-end : tie.Need-part-store-word-end
-part-store-word-end c = search needs
-
-store-word-requires : tie.Need-store-word-requires
-store-word-requires c κs = search needs
-
-same-length : tie.Need-same-length
-same-length c = search needs
 
 returns-3 : tie.Need-returns-3
 returns-3 c =
@@ -45,11 +27,11 @@ put-word-spec =
     tie.close
     (tie.spec
     returns
-    sub-if2
+    (λ c. search needs)
     returns-2
-    sub-store-word
-    part-store-word-start
-    part-store-word-end
-    store-word-requires
-    same-length
+    (λ c. search needs)
+    (λ c. search needs)
+    (λ c. search needs)
+    (λ c κs. search needs)
+    (λ c. search needs)
     returns-3)

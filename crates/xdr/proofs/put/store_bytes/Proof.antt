@@ -30,48 +30,6 @@ with-contents c =
     filled-behind (now (c .before .before .before .before .before .before .before .before .before .before .before .args .out)) o (encode word (length src)) src (c .before .before .copy .last .0) 4 (length o - 4)
     (number-size 4 (length src)) (omega arith) (omega arith) (c .before .before .before .before .before .before .store-word .ensures) (c .before .before .copy .ensures)
 
-add-end : tie.Need-add-end
-add-end c = search needs
-
-pad-after-requires : tie.Need-pad-after-requires
-pad-after-requires c κs = search needs
-
-add-past : tie.Need-add-past
-add-past c = search needs
-
-cast-store-word : tie.Need-cast-store-word
-cast-store-word c = search needs
-
-store-word-requires : tie.Need-store-word-requires
-store-word-requires c κs = search needs
-
-sub-copy : tie.Need-sub-copy
-sub-copy c = search needs
-
-part-copy-start : tie.Need-part-copy-start
-part-copy-start c = search needs
-
-part-copy-end : tie.Need-part-copy-end
-part-copy-end c = search needs
-
-copy-requires : tie.Need-copy-requires
-copy-requires c κs = search needs
-
-sub-clear : tie.Need-sub-clear
-sub-clear c = search needs
-
-part-clear-start : tie.Need-part-clear-start
-part-clear-start c = search needs
-
-part-clear-end : tie.Need-part-clear-end
-part-clear-end c = search needs
-
-clear-requires : tie.Need-clear-requires
-clear-requires c κs = search needs
-
-same-length : tie.Need-same-length
-same-length c = search needs
-
 returns : tie.Need-returns
 unfolding encode
 returns c =
@@ -96,18 +54,18 @@ pub store-bytes-spec : {M : Type 1} → statement M
 store-bytes-spec =
     tie.close
     (tie.spec
-    add-end
-    pad-after-requires
-    add-past
-    cast-store-word
-    store-word-requires
-    sub-copy
-    part-copy-start
-    part-copy-end
-    copy-requires
-    sub-clear
-    part-clear-start
-    part-clear-end
-    clear-requires
-    same-length
+    (λ c. search needs)
+    (λ c κs. search needs)
+    (λ c. search needs)
+    (λ c. search needs)
+    (λ c κs. search needs)
+    (λ c. search needs)
+    (λ c. search needs)
+    (λ c. search needs)
+    (λ c κs. search needs)
+    (λ c. search needs)
+    (λ c. search needs)
+    (λ c. search needs)
+    (λ c κs. search needs)
+    (λ c. search needs)
     returns)

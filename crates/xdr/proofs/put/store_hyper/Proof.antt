@@ -14,30 +14,6 @@ use Rattle.xdr.proofs.BufferLaws.{filled-behind}
 use Rattle.xdr.proofs.put.store_hyper.Statement.{statement}
 use Rattle.xdr.proofs.put.store_hyper.Tie as tie
 
-cast-store-word : tie.Need-cast-store-word
-cast-store-word c = search needs
-
-store-word-requires : tie.Need-store-word-requires
-store-word-requires c κs = search needs
-
-sub-store-word : tie.Need-sub-store-word
-sub-store-word c = search needs
-
-part-store-word-start : tie.Need-part-store-word-start
-part-store-word-start c = search needs
-
-part-store-word-end : tie.Need-part-store-word-end
-part-store-word-end c = search needs
-
-cast-store-word-2 : tie.Need-cast-store-word-2
-cast-store-word-2 c = search needs
-
-store-word-requires-2 : tie.Need-store-word-requires-2
-store-word-requires-2 c κs = search needs
-
-same-length : tie.Need-same-length
-same-length c = search needs
-
 returns : tie.Need-returns
 unfolding encode
 returns c =
@@ -54,12 +30,12 @@ pub store-hyper-spec : {M : Type 1} → statement M
 store-hyper-spec =
     tie.close
     (tie.spec
-    cast-store-word
-    store-word-requires
-    sub-store-word
-    part-store-word-start
-    part-store-word-end
-    cast-store-word-2
-    store-word-requires-2
-    same-length
+    (λ c. search needs)
+    (λ c κs. search needs)
+    (λ c. search needs)
+    (λ c. search needs)
+    (λ c. search needs)
+    (λ c. search needs)
+    (λ c κs. search needs)
+    (λ c. search needs)
     returns)

@@ -62,18 +62,6 @@ pad-zeros c =
     let exact : m k + n k + c .before .before .before .pad-after .result - (m k + n k) ≡ padded (n k) - n k = omega (arith, c .before .before .before .pad-after .ensures) in
     sym (c .zeros-up-to .ensures ∙ ap (λ (d : ℕ). zerosUpTo (take d (drop (m k + n k) (s k)))) exact)
 
-read-word-requires : tie.Need-read-word-requires
-read-word-requires c κs = search needs
-
-enum-known-answer : tie.Need-enum-known-answer
-enum-known-answer c = search needs
-
-enum-told : tie.Need-enum-told
-enum-told c = search needs
-
-refusal-requires : tie.Need-refusal-requires
-refusal-requires c κs = search needs
-
 returns : tie.Need-returns
 returns c =
     let short = word-refused (c .before .before .before .read-word .ensures) (c .before .enum-told .given .1) (c .refusal .ensures) in
@@ -82,38 +70,14 @@ returns c =
 returns-2 : tie.Need-returns-2
 returns-2 c = answered bytesAnswer (length-refused (checked-failed (length-word (c .before)) (lt-leb _ _ (c .if1 .taken))) refl)
 
-cast-n : tie.Need-cast-n
-cast-n c = search needs
-
-pad-after-requires : tie.Need-pad-after-requires
-pad-after-requires c κs = search needs
-
 sub-if2 : tie.Need-sub-if2
 sub-if2 c = ends-word (length-word (c .before .before)) .1
-
-add-if2 : tie.Need-add-if2
-add-if2 c = search needs
 
 returns-3 : tie.Need-returns-3
 returns-3 c = answered bytesAnswer (cut-off (limited (c .before .before)) (omega (arith, c .before .pad-after .ensures)))
 
-add-pad-at : tie.Need-add-pad-at
-add-pad-at c = search needs
-
-add-end : tie.Need-add-end
-add-end c = search needs
-
-sub-zeros-up-to : tie.Need-sub-zeros-up-to
-sub-zeros-up-to c = search needs
-
-part-zeros-up-to-start : tie.Need-part-zeros-up-to-start
-part-zeros-up-to-start c = search needs
-
 part-zeros-up-to-end : tie.Need-part-zeros-up-to-end
 part-zeros-up-to-end c = omega (arith, ends-word (length-word (c .before .before .before)) .1)
-
-zeros-up-to-requires : tie.Need-zeros-up-to-requires
-zeros-up-to-requires c κs = search needs
 
 returns-4 : tie.Need-returns-4
 returns-4 c =
@@ -137,22 +101,22 @@ pub read-bytes-spec : {M : Type 1} → statement M
 read-bytes-spec =
     tie.close
     (tie.spec
-    read-word-requires
-    enum-known-answer
-    enum-told
-    refusal-requires
+    (λ c κs. search needs)
+    (λ c. search needs)
+    (λ c. search needs)
+    (λ c κs. search needs)
     returns
     returns-2
-    cast-n
-    pad-after-requires
+    (λ c. search needs)
+    (λ c κs. search needs)
     sub-if2
-    add-if2
+    (λ c. search needs)
     returns-3
-    add-pad-at
-    add-end
-    sub-zeros-up-to
-    part-zeros-up-to-start
+    (λ c. search needs)
+    (λ c. search needs)
+    (λ c. search needs)
+    (λ c. search needs)
     part-zeros-up-to-end
-    zeros-up-to-requires
+    (λ c κs. search needs)
     returns-4
     returns-5)

@@ -13,17 +13,8 @@ use Rattle.xdr.proofs.read.read_hyper.Tie as tie
 returns : tie.Need-returns
 returns c = answered hyperAnswer (number-short (omega arith))
 
-sub-if2 : tie.Need-sub-if2
-sub-if2 c = search needs
-
 returns-2 : tie.Need-returns-2
 returns-2 c = answered hyperAnswer (number-short (omega arith))
-
-hyper-at-requires : tie.Need-hyper-at-requires
-hyper-at-requires c κs = search needs
-
-add-t3 : tie.Need-add-t3
-add-t3 c = search needs
 
 returns-3 : tie.Need-returns-3
 returns-3 c =
@@ -35,8 +26,8 @@ read-hyper-spec =
     tie.close
     (tie.spec
     returns
-    sub-if2
+    (λ c. search needs)
     returns-2
-    hyper-at-requires
-    add-t3
+    (λ c κs. search needs)
+    (λ c. search needs)
     returns-3)

@@ -29,18 +29,6 @@ sound c =
     let same : at + 4 + n - (at + 4) ≡ n = omega arith in
     c .sound-up-to .ensures ∙ ap (λ (k : ℕ). soundUpTo (take k (drop (at + 4) s))) same ∙ ap soundUpTo (sym (o .value-is))
 
-read-bytes-requires : tie.Need-read-bytes-requires
-read-bytes-requires c κs = search needs
-
-enum-known-answer : tie.Need-enum-known-answer
-enum-known-answer c = search needs
-
-enum-told : tie.Need-enum-told
-enum-told c = search needs
-
-refusal-requires : tie.Need-refusal-requires
-refusal-requires c κs = search needs
-
 returns : tie.Need-returns
 returns c = answered bytesAnswer (checked-refused (bytes-refused (c .before .before .before .read-bytes .ensures) (c .before .enum-told .given .1) (c .refusal .ensures)))
 
@@ -50,17 +38,8 @@ add-start c = let o = opaque-read c in omega arith
 add-end : tie.Need-add-end
 add-end c = let o = opaque-read c in omega arith
 
-sub-sound-up-to : tie.Need-sub-sound-up-to
-sub-sound-up-to c = search needs
-
-part-sound-up-to-start : tie.Need-part-sound-up-to-start
-part-sound-up-to-start c = search needs
-
 part-sound-up-to-end : tie.Need-part-sound-up-to-end
 part-sound-up-to-end c = let o = opaque-read c in omega arith
-
-sound-up-to-requires : tie.Need-sound-up-to-requires
-sound-up-to-requires c κs = search needs
 
 returns-2 : tie.Need-returns-2
 returns-2 c =
@@ -77,16 +56,16 @@ pub read-text-spec : {M : Type 1} → statement M
 read-text-spec =
     tie.close
     (tie.spec
-    read-bytes-requires
-    enum-known-answer
-    enum-told
-    refusal-requires
+    (λ c κs. search needs)
+    (λ c. search needs)
+    (λ c. search needs)
+    (λ c κs. search needs)
     returns
     add-start
     add-end
-    sub-sound-up-to
-    part-sound-up-to-start
+    (λ c. search needs)
+    (λ c. search needs)
     part-sound-up-to-end
-    sound-up-to-requires
+    (λ c κs. search needs)
     returns-2
     returns-3)

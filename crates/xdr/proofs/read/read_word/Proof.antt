@@ -13,17 +13,8 @@ use Rattle.xdr.proofs.read.read_word.Tie as tie
 returns : tie.Need-returns
 returns c = answered wordAnswer (number-short (omega arith))
 
-sub-if2 : tie.Need-sub-if2
-sub-if2 c = search needs
-
 returns-2 : tie.Need-returns-2
 returns-2 c = answered wordAnswer (number-short (omega arith))
-
-word-at-requires : tie.Need-word-at-requires
-word-at-requires c κs = search needs
-
-add-t3 : tie.Need-add-t3
-add-t3 c = search needs
 
 returns-3 : tie.Need-returns-3
 returns-3 c =
@@ -31,4 +22,4 @@ returns-3 c =
     ap (λ (n : ℕ). Taken n (a .at + 4)) (c .word-at .ensures) ∙ answered wordAnswer (number-whole (now (a .s)) (a .at) 4 (omega arith))
 
 pub read-word-spec : {M : Type 1} → statement M
-read-word-spec = tie.close (tie.spec returns sub-if2 returns-2 word-at-requires add-t3 returns-3)
+read-word-spec = tie.close (tie.spec returns (λ c. search needs) returns-2 (λ c κs. search needs) (λ c. search needs) returns-3)

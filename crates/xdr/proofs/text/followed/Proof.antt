@@ -1,13 +1,11 @@
 -- `xdr::text::followed` meets its contract: a follower at a time.
 use Prim.Native.Nat.{ℕ, _+_, _-_}
-use mathlib.Core.List.{List}
 use mathlib.Core.Path.{_≡_, sym, ap, _∙_}
-use mathlib.Core.Bool.{true}
 use native.Mathlib.Omega.{arith}
 use borrow.Author.Tests.{not-true, not-false}
 use lib.ListN.{drop}
 use denote.Ref.{now}
-use Rattle.xdr.specs.Text.{followedBy}
+use Rattle.xdr.specs.Steps.{followedBy}
 use Rattle.xdr.proofs.TextRule.{first-missing, first-there}
 use borrow.Author.Needs.{needs}
 use Rattle.xdr.proofs.text.followed.Statement.{statement}
@@ -26,12 +24,6 @@ two c =
     let more : a .n - 1 ≡ 0 → ⊥ = λ e. c .before .before .if3 .left (let z = c .before .before .before .before .before .if1 .left in omega arith) in
     one (c .before .before .before) ∙ first-there (now (a .s)) (a .at + 1) (a .n - 1) more (sym (c .before .follows-at2 .ensures) ∙ not-false _ (c .if4 .left))
 
-returns : tie.Need-returns
-returns c = search needs
-
-follows-at-requires : tie.Need-follows-at-requires
-follows-at-requires c κs = search needs
-
 returns-2 : tie.Need-returns-2
 returns-2 c =
     let a = c .before .before .before .before .args in
@@ -42,12 +34,6 @@ returns-3 c =
     let a = c .before .before .before .before .before .args in
     let none : a .n - 1 ≡ 0 = omega (arith, c .if3 .taken) in
     sym (one (c .before) ∙ ap (λ (k : ℕ). followedBy k (drop (a .at + 1) (now (a .s)))) none)
-
-add-follows-at : tie.Need-add-follows-at
-add-follows-at c = search needs
-
-follows-at-requires-2 : tie.Need-follows-at-requires-2
-follows-at-requires-2 c κs = search needs
 
 returns-4 : tie.Need-returns-4
 returns-4 c =
@@ -61,12 +47,6 @@ returns-5 c =
     let none : a .n - 1 - 1 ≡ 0 = omega (arith, c .if5 .taken) in
     sym (two (c .before) ∙ ap (λ (k : ℕ). followedBy k (drop (a .at + 1 + 1) (now (a .s)))) none)
 
-add-follows-at-2 : tie.Need-add-follows-at-2
-add-follows-at-2 c = search needs
-
-follows-at-requires-3 : tie.Need-follows-at-requires-3
-follows-at-requires-3 c κs = search needs
-
 returns-6 : tie.Need-returns-6
 returns-6 c =
     let a = c .before .before .before .before .before .before .before .before .before .args in
@@ -79,14 +59,14 @@ pub followed-spec : {M : Type 1} → statement M
 followed-spec =
     tie.close
     (tie.spec
-    returns
-    follows-at-requires
+    (λ c. search needs)
+    (λ c κs. search needs)
     returns-2
     returns-3
-    add-follows-at
-    follows-at-requires-2
+    (λ c. search needs)
+    (λ c κs. search needs)
     returns-4
     returns-5
-    add-follows-at-2
-    follows-at-requires-3
+    (λ c. search needs)
+    (λ c κs. search needs)
     returns-6)

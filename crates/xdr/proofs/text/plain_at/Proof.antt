@@ -11,17 +11,14 @@ use borrow.Author.Needs.{needs}
 use Rattle.xdr.proofs.text.plain_at.Statement.{statement}
 use Rattle.xdr.proofs.text.plain_at.Tie as tie
 
-low-first-at-requires : tie.Need-low-first-at-requires
-low-first-at-requires c κs = search needs
-
 returns : tie.Need-returns
 returns c =
     let a = c .before .before .args in
     let l = drop (a .at) (now (a .s)) in
     let small = bytes-drop (a .at) (now (a .s)) (λ i. c .before .shared-slice-known .given i .fits) in
     λ e.
-    let plain = four-top-bits (getD l 3 0) (getD l 2 0) (getD l 1 0) (getD l 0 0) (small 3) (small 2) (small 1) (small 0) (ap (λ (w : ℕ). bitAnd w 2155905152) (sym (c .low-first-at .ensures)) ∙ eqb-true _ 0 e) in
+    let plain = four-top-bits (getD l 3 0) (getD l 2 0) (getD l 1 0) (getD l 0 0) (small 3) (small 2) (small 1) (small 0) (ap (λ (w : ℕ). bitAnd w 2155905152) (sym (c .little-endian-at .ensures)) ∙ eqb-true _ 0 e) in
     (plain .3, plain .2, plain .1, plain .0)
 
 pub plain-at-spec : {M : Type 1} → statement M
-plain-at-spec = tie.close (tie.spec low-first-at-requires returns)
+plain-at-spec = tie.close (tie.spec (λ c κs. search needs) returns)

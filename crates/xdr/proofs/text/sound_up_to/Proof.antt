@@ -8,7 +8,8 @@ use borrow.Author.Needs.{needs}
 use borrow.Author.Tests.{not-true, not-false}
 use lib.ListN.{length, drop, length-drop}
 use denote.Ref.{now}
-use Rattle.xdr.specs.Text.{followedBy, soundFrom, soundUpTo}
+use Rattle.xdr.specs.Text.{soundFrom, soundUpTo}
+use Rattle.xdr.specs.Steps.{followedBy}
 use Rattle.xdr.proofs.TextRule.{lead-broken, sequence-whole, sequence-cut, followed-within, end-whole}
 use Rattle.xdr.proofs.text.sound_up_to.Statement.{statement}
 use Rattle.xdr.proofs.text.sound_up_to.Tie as tie
@@ -36,28 +37,13 @@ ended c =
     let long = length-drop (l .loop .i + 1) (s l) in
     omega (arith, n, long, c .before .before .before .before .before .loop-test .taken)
 
-past-fours-requires : tie.Need-past-fours-requires Inv-loop μ-loop
-past-fours-requires c κs = search needs
-
 loop-holds : tie.Need-loop-holds Inv-loop μ-loop
 loop-holds c = c .past-fours .ensures
-
-shared-slice-read-followers : tie.Need-shared-slice-read-followers Inv-loop μ-loop
-shared-slice-read-followers c = search needs
-
-followers-requires : tie.Need-followers-requires Inv-loop μ-loop
-followers-requires c κs = search needs
 
 returns : tie.Need-returns Inv-loop μ-loop
 returns c =
     let l = c .before .before .before .before in
     sym (l .loop .inv .1 ∙ lead-broken (s l) (l .loop .i) (l .loop .i) 0 (c .before .followers .result) (search needs) refl (c .before .followers .ensures) (c .if1 .taken))
-
-add-followed : tie.Need-add-followed Inv-loop μ-loop
-add-followed c = search needs
-
-followed-requires : tie.Need-followed-requires Inv-loop μ-loop
-followed-requires c κs = search needs
 
 returns-2 : tie.Need-returns-2 Inv-loop μ-loop
 returns-2 c =
@@ -65,12 +51,6 @@ returns-2 c =
     sym (l .loop .inv .1
     ∙ sequence-cut (s l) (l .loop .i) (c .before .before .before .followers .result) (search needs) (c .before .before .before .followers .ensures) (search needs)
     (sym (c .before .followed .ensures) ∙ not-true _ (c .if2 .taken)))
-
-cast-i : tie.Need-cast-i Inv-loop μ-loop
-cast-i c = search needs
-
-add-i : tie.Need-add-i Inv-loop μ-loop
-add-i c = search needs
 
 add-i-2 : tie.Need-add-i-2 Inv-loop μ-loop
 add-i-2 c = omega (arith, ended c)
@@ -95,16 +75,16 @@ sound-up-to-spec =
     (tie.spec
     Inv-loop
     μ-loop
-    past-fours-requires
+    (λ c κs. search needs)
     loop-holds
-    shared-slice-read-followers
-    followers-requires
+    (λ c. search needs)
+    (λ c κs. search needs)
     returns
-    add-followed
-    followed-requires
+    (λ c. search needs)
+    (λ c κs. search needs)
     returns-2
-    cast-i
-    add-i
+    (λ c. search needs)
+    (λ c. search needs)
     add-i-2
     loop-less
     loop-again

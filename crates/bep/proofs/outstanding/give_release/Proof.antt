@@ -1,0 +1,37 @@
+-- `bep::outstanding::give_release` meets its contract: by the variant that the answer is.
+use mathlib.Core.Path.{sym, ap}
+use Rattle.bep.specs.Queues.{releaseNumber, releaseWords}
+use borrow.Author.Needs.{needs}
+use Rattle.bep.proofs.outstanding.give_release.Statement.{statement}
+use Rattle.bep.proofs.outstanding.give_release.Tie as tie
+
+returns : tie.Need-returns
+returns c = let e = sym (c .before .before .o .given .1) in (ap releaseNumber e, ap releaseWords e)
+
+returns-2 : tie.Need-returns-2
+returns-2 c = let e = sym (c .before .before .o2 .given .1) in (ap releaseNumber e, ap releaseWords e)
+
+returns-3 : tie.Need-returns-3
+returns-3 c = let e = sym (c .before .before .o3 .given .1) in (ap releaseNumber e, ap releaseWords e)
+
+returns-4 : tie.Need-returns-4
+returns-4 c = let e = sym (c .before .before .o4 .given .1) in (ap releaseNumber e, ap releaseWords e)
+
+pub give-release-spec : {M : Type 1} → statement M
+give-release-spec =
+    tie.close
+    (tie.spec
+    (λ c. search needs)
+    (λ c. search needs)
+    (λ c. search needs)
+    (λ c. search needs)
+    (λ c. search needs)
+    (λ c. search needs)
+    (λ c. search needs)
+    (λ c. search needs)
+    (λ c. search needs)
+    (λ c. search needs)
+    returns
+    returns-2
+    returns-3
+    returns-4)

@@ -1,0 +1,16 @@
+-- `bep::ruling::give_reply` meets its contract: by the variant that the answer is.
+use mathlib.Core.Path.{sym, ap}
+use Rattle.bep.specs.Serving.{replyWords}
+use Rattle.bep.specs.Filling.{fillingNumber}
+use borrow.Author.Needs.{needs}
+use Rattle.bep.proofs.ruling.give_reply.Statement.{statement}
+use Rattle.bep.proofs.ruling.give_reply.Tie as tie
+
+returns : tie.Need-returns
+returns c = let e = sym (c .before .before .w .given .1) in (ap fillingNumber e, ap replyWords e)
+
+returns-2 : tie.Need-returns-2
+returns-2 c = let e = sym (c .before .before .w2 .given .1) in (ap fillingNumber e, ap replyWords e)
+
+pub give-reply-spec : {M : Type 1} → statement M
+give-reply-spec = tie.close (tie.spec (λ c. search needs) (λ c. search needs) returns returns-2)

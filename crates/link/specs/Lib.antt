@@ -1,0 +1,4 @@
+pub mod Requests
+pub mod OneLink
+pub mod Steps
+pub mod History

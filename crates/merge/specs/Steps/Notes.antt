@@ -1,0 +1,52 @@
+-- For the steps that make a table: the records that it takes, noted in two numbers each, and what is put of them.
+use Prim.Native.Nat.{ℕ, _+_, _≤_}
+use mathlib.Core.List.{List, [], _∷_, _++_}
+use mathlib.Core.Path.{_≡_}
+use mathlib.Core.Bool.{cond}
+use lib.ListN.{length, take}
+use lib.Dec.{leb}
+use Rattle.xdr.specs.Buffer.{put, putCount}
+use Rattle.xdr.specs.Filling.{Fills}
+use Rattle.xdr.specs.declared.filling.Filling.{Filling}
+use Rattle.record.specs.File.{File}
+use Rattle.order.specs.Order.{part}
+use Rattle.table.specs.Limits.{recordsLimit}
+use Rattle.table.specs.Table.{tableOf, resultingTable}
+use Rattle.table.specs.Steps.Standing.{bytesOf}
+use Rattle.merge.specs.declared.next.Step.{Step}
+use Rattle.merge.specs.declared.notes.Size.{Size}
+
+-- a record of the first table is noted as where it starts and where it ends, one of the second the other way round
+abbrev pub noteOf : Step → List ℕ
+noteOf s = cond (s .left) (s .start ∷ s .end ∷ []) (s .end ∷ s .start ∷ [])
+
+-- the bytes of a record that is noted
+abbrev pub noted : List ℕ → List ℕ → (x y : ℕ) → List ℕ
+noted a b x y = cond (leb x y) (part a x y) (part b y x)
+
+-- the bytes of all that are noted, one after another
+unfoldable pub notedAll : (a b notes : List ℕ) → List ℕ
+notedAll a b [] = []
+notedAll a b (x ∷ []) = []
+notedAll a b (x ∷ y ∷ l) = noted a b x y ++ notedAll a b l
+
+-- what a buffer holds after they were put from a place on, each that there is room for
+unfoldable pub putNotes : (a b notes out : List ℕ) → (at : ℕ) → List ℕ
+putNotes a b [] out at = out
+putNotes a b (x ∷ []) out at = out
+putNotes a b (x ∷ y ∷ l) out at = putNotes a b l (put out at (noted a b x y)) (at + putCount out at (noted a b x y))
+
+-- the size is that of the records, and they are noted where a table may have so many
+pub record Measured (a b notes : List ℕ) (fs : List File) (size : Size) : Type 0 where
+  pub counted : size .count ≡ length fs
+  pub sized : size .bytes ≡ length (tableOf fs)
+  pub are : size .count ≤ recordsLimit → notedAll a b notes ≡ bytesOf fs
+
+-- they are noted in the first of some notes
+pub record Noted (a b notes : List ℕ) (fs : List File) (size : Size) : Type 0 where
+  pub inside : size .noted ≤ length notes
+  pub measured : Measured a b (take (size .noted) notes) fs size
+
+-- the table of the records that were measured and noted is put into a buffer
+abbrev pub PutsTable : (a b notes : List ℕ) → Size → (out : List ℕ) → Filling → (after : List ℕ) → Type 0
+PutsTable a b notes size out r after = (fs : List File) → Measured a b notes fs size → Fills (resultingTable fs) out r after

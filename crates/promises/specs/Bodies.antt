@@ -1,0 +1,19 @@
+-- The bytes that a writer is given for a message's body, by the fields that the body says.
+use mathlib.Core.List.{List, []}
+use Prim.Native.Nat.{ℕ}
+use Rattle.xdr.specs.Format.{encode}
+use Rattle.record.specs.File.{files}
+use Rattle.record.specs.KeyValue.{options}
+use Rattle.message.specs.Limits.{filesLimit, optionsLimit}
+use Rattle.message.specs.Message.{Kind, isIndex, isRequest, isResponse, isPing, isPong, isIndexUpdate, isOptions, Body}
+use Rattle.message_write.specs.Writing.{indexBytes, requestBytes, responseBytes}
+
+-- files and options are given as encoded arrays
+abbrev pub bodyBytes : (k : Kind) → Body k → List ℕ
+bodyBytes isIndex b = indexBytes (b .0) (encode (files filesLimit) (b .1))
+bodyBytes isRequest b = requestBytes (b .repository) (b .name) (b .offset) (b .size) (b .hash)
+bodyBytes isResponse b = responseBytes b
+bodyBytes isPing b = []
+bodyBytes isPong b = []
+bodyBytes isIndexUpdate b = indexBytes (b .0) (encode (files filesLimit) (b .1))
+bodyBytes isOptions b = encode (options optionsLimit) b

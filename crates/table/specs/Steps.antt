@@ -1,0 +1,3 @@
+-- What only steps and proofs need.
+pub mod Standing
+pub mod Side

@@ -1,0 +1,3 @@
+-- What only steps and proofs need.
+pub mod Blocks
+pub mod Places

@@ -1,0 +1,91 @@
+-- For the steps of the list (`listsAt` serves the ruling too): five tables side by side, with a place in each, which record is next by name,
+-- and what goes by the records at the places.
+use Prim.Native.Nat.{ℕ, zero, suc, _+_, _<_}
+use mathlib.Core.List.{List, [], _∷_, map}
+use mathlib.Core.Path.{_≡_}
+use mathlib.Core.Bool.{Bool, true, false, cond}
+use lib.ListN.{length, getD, drop}
+use Rattle.xdr.specs.Number.{IsBytes}
+use Rattle.record.specs.Block.{Block}
+use Rattle.record.specs.File.{File}
+use Rattle.record.specs.Outline.{outlineOf, blockPlace}
+use Rattle.record.specs.declared.outline.Outline.{Outline}
+use Rattle.record.specs.declared.outline.Outline.the-variants as O
+use Rattle.table.specs.Table.{isGood, records}
+use Rattle.order.specs.Order.{isEqual, compareLists, part}
+use Rattle.merge.specs.Steps.Next.{nextOf}
+use Rattle.merge.specs.declared.next.Next.{Next}
+use Rattle.merge.specs.declared.next.Next.the-variants.{End, More}
+use Rattle.want.specs.Listing.{isHeld, hasThere}
+use Rattle.want.specs.Steps.Blocks.{blockHere, blocksFrom, listedCount}
+use Rattle.want.specs.Wanted.{wantedBlock, wantedBlocks, requestList}
+use Rattle.want.specs.declared.list.Wanted.{Wanted}
+
+-- the first of two records is the next
+abbrev pub isFirst : Next → Bool
+isFirst End = true
+isFirst (More s) = s .left
+
+-- table k
+abbrev pub tableAt : List (List ℕ) → ℕ → List ℕ
+tableAt ts k = getD ts k []
+
+-- the place in table k
+abbrev pub placeAt : List ℕ → ℕ → ℕ
+placeAt ps k = getD ps k 0
+
+-- of two tables the one with the next record
+abbrev pub lowerOf : List (List ℕ) → List ℕ → (best k : ℕ) → ℕ
+lowerOf ts ps best k = cond (isFirst (nextOf (tableAt ts best) (placeAt ps best) (tableAt ts k) (placeAt ps k))) best k
+
+-- of `best` and so many tables from k on the one with the next record
+unfoldable pub lowestFrom : List (List ℕ) → List ℕ → (best k left : ℕ) → ℕ
+lowestFrom ts ps best k zero = best
+lowestFrom ts ps best k (suc left) = lowestFrom ts ps (lowerOf ts ps best k) (k + 1) left
+
+-- by the outline at a place: the place after a record of that name, and otherwise the same place
+abbrev pub pastBy : (name t : List ℕ) → (at : ℕ) → Outline → ℕ
+pastBy name t at O.Short = at
+pastBy name t at (O.Whole f) = cond (isEqual (compareLists (part t (f .name) (f .stop)) name)) (f .past) at
+
+-- where a table goes on after a name: past the record at its place where it is of that name
+unfoldable pub pastName : (name t : List ℕ) → (at : ℕ) → ℕ
+pastName name t at = pastBy name t at (outlineOf t at)
+
+-- by its outline: a record is of that name and lists a block there
+abbrev pub listsBy : (t name : List ℕ) → (offset : ℕ) → Block → Outline → Bool
+listsBy t name offset b O.Short = false
+listsBy t name offset b (O.Whole f) =
+    cond (isEqual (compareLists (part t (f .name) (f .stop)) name)) (hasThere 0 (blocksFrom t (f .first) 0 (listedCount f)) offset b) false
+
+-- the record at a place is of that name and lists a block there
+unfoldable pub listsAt : (t : List ℕ) → (at : ℕ) → (name : List ℕ) → (offset : ℕ) → Block → Bool
+listsAt t at name offset b = listsBy t name offset b (outlineOf t at)
+
+-- the lowest of so many tables from k on that lists the block there; 0 where none does
+unfoldable pub peerAt : List (List ℕ) → List ℕ → (name : List ℕ) → (k left : ℕ) → (offset : ℕ) → Block → ℕ
+peerAt ts ps name k zero offset b = 0
+peerAt ts ps name k (suc left) offset b = cond (listsAt (tableAt ts k) (placeAt ps k) name offset b) k (peerAt ts ps name (k + 1) left offset b)
+
+-- the entry for block j of the record whose name all are at
+abbrev pub wantedHere : List (List ℕ) → List ℕ → (name : List ℕ) → (file j offset : ℕ) → (t : List ℕ) → (first : ℕ) → List Wanted
+wantedHere ts ps name file j offset t first = wantedBlock (records (tableAt ts 0)) (peerAt ts ps name 1 4) file j offset (blockHere t (blockPlace first j))
+
+-- the entries for so many of its blocks from j on
+abbrev pub wantedFrom : List (List ℕ) → List ℕ → (name : List ℕ) → (file j offset : ℕ) → (t : List ℕ) → (first left : ℕ) → List Wanted
+wantedFrom ts ps name file j offset t first left = wantedBlocks (records (tableAt ts 0)) (peerAt ts ps name 1 4) file j offset (blocksFrom t first j left)
+
+-- how many blocks are not held
+abbrev pub wantedCount : List File → List Block → ℕ
+wantedCount local [] = 0
+wantedCount local (b ∷ l) = cond (isHeld local b) 0 1 + wantedCount local l
+
+-- five good tables
+pub record Five (ts : List (List ℕ)) : Type 0 where
+  pub many : length ts ≡ 5
+  pub bytes : (k : ℕ) → k < 5 → IsBytes (tableAt ts k)
+  pub good : (k : ℕ) → k < 5 → isGood (tableAt ts k) ≡ true
+
+-- the request list of the first, which is the local one, and the others
+abbrev pub listOf : List (List ℕ) → List Wanted
+listOf ts = requestList (records (tableAt ts 0)) (map records (drop 1 ts))
