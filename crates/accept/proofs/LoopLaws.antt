@@ -15,7 +15,7 @@ use Rattle.table.proofs.WalkLaws.{at-start, at-last}
 use Rattle.table.specs.Newest.{bit}
 use Rattle.table.proofs.UnionLaws.{union}
 use Rattle.table.proofs.PassLaws.{Counted, counted-none}
-use Rattle.merge.specs.declared.next.Step.{Step}
+use Rattle.merge.specs.declared.next.Pick.{Pick}
 use Rattle.merge.specs.declared.next.Next.{Next}
 use Rattle.merge.specs.declared.next.Next.the-variants.{End, More}
 use Rattle.merge.proofs.NotingLaws.{Noting, noting-none}
@@ -85,12 +85,12 @@ module _ {s places old : List ℕ} {i j : ℕ} (l : Left s places old i j) where
   next e f g =
       subst (Steps s places i (l .fs) old j (l .gs)) (sym (sym g ∙ f ∙ ap (λ (k : ℕ). nextOver s k old j) e)) (steps s places i old j (l .fs) (l .gs) (l .inside) (l .left) (l .right))
 
-  pub took : {at : ℕ} {r : Next} {t : Step} → at ≡ placeOf s places i → r ≡ nextOver s at old j → r ≡ More t → Took s places i (l .fs) old j (l .gs) t
+  pub took : {at : ℕ} {r : Next} {t : Pick} → at ≡ placeOf s places i → r ≡ nextOver s at old j → r ≡ More t → Took s places i (l .fs) old j (l .gs) t
   took e f g = next e f g
 
   pub none-left : {at : ℕ} {r : Next} → at ≡ placeOf s places i → r ≡ nextOver s at old j → r ≡ End → rest l ≡ []
   none-left e f g = next e f g
 
   -- what is left after it
-  abbrev pub after : {n : ℕ} {t : Step} → n ≡ bit (t .left) → Took s places i (l .fs) old j (l .gs) t → Left s places old (i + n) (t .j)
+  abbrev pub after : {n : ℕ} {t : Pick} → n ≡ bit (t .left) → Took s places i (l .fs) old j (l .gs) t → Left s places old (i + n) (t .j)
   after {n} e t = record { fs = t .lefts; gs = t .rights; left = subst (λ (k : ℕ). Places s (drop (i + k) places) (t .lefts)) (sym e) (t .left); inside = omega (arith, e, t .inside); right = t .right }

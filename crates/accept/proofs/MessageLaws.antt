@@ -7,8 +7,9 @@ use native.Mathlib.Omega.{arith}
 use lib.ListN.{length, take, drop, length-take, length-drop}
 use Rattle.xdr.specs.Reading.{Reading, taken, shifted, refused as unread}
 use Rattle.xdr.specs.Number.{IsBytes}
-use Rattle.xdr.specs.Format.{read, readAt}
+use Rattle.xdr.specs.Format.{Format, read, readAt}
 use Rattle.xdr.specs.Filling.{refuses}
+use Rattle.xdr.specs.Answers.{atStart}
 use Rattle.xdr.specs.declared.answer.Refusal.{Refusal}
 use Rattle.xdr.proofs.NumberLaws.{bytes-drop}
 use Rattle.xdr.proofs.Steps.{Reads, opened, passed, ends, ends-word}
@@ -26,36 +27,45 @@ use Rattle.order.specs.Order.{isEqual, compareLists, part}
 use Rattle.table.specs.Table.{table, isGood, records, tableOf}
 use Rattle.table.specs.Steps.Standing.{AllValid}
 use Rattle.table.proofs.TableLaws.{valid-parts, array-records}
-use Rattle.accept.specs.Accepting.{ofRecords, ofIndex, ofKind, ofReading, acceptOutcome}
+use Rattle.accept.specs.Accepting.{ofRecords, ofIndex, IndexBody, indexWith, noIndex, indexBody, ofBody, ofReading, acceptOutcome}
 use Rattle.message.specs.Kinds.{indexIn, indexRefusal}
 use Rattle.accept.specs.Steps.Sorted.{IsArray, ofArray}
 use Rattle.message.specs.declared.kind.IndexIn.{IndexIn}
 use Rattle.message.specs.declared.kind.IndexIn.the-variants as F
 
--- what was found of a body of some kind
-record Body-found (k : Kind) (b : Body k) (next : ℕ) (m : List ℕ) (update : Bool) (x : IndexSpan) : Type 0 where
-  sent : List ℕ × List File
-  outcome : (old expected : List ℕ) → ofKind old expected k b ≡ ofIndex update old expected sent
-  reads : Reads index m 4 (taken sent next)
-  span : x ≡ indexSpan sent next
+not-index : {update : Bool} {sent : List ℕ × List File} {P : Type 0} → noIndex ≡ indexWith update sent → P
+not-index e = let z : _≡_ {A = ℕ} 0 1 = cc in absurd (omega arith)
+
+-- an Index's body has the format of one, whatever is said of values of formats
+pub index-format : (P : (A : Type 0) → Format A → A → Type 0) (k : Kind) (b : Body k) {update : Bool} {sent : List ℕ × List File} → indexBody k b ≡ indexWith update sent
+    → P (Body k) (body k) b → P (List ℕ × List File) index sent
+index-format P isIndex b {update} {sent} e h = let same : b ≡ sent = cc in subst (λ (s : List ℕ × List File). P (List ℕ × List File) index s) same h
+index-format P isRequest b e h = not-index e
+index-format P isResponse b e h = not-index e
+index-format P isPing b e h = not-index e
+index-format P isPong b e h = not-index e
+index-format P isIndexUpdate b {update} {sent} e h = let same : b ≡ sent = cc in subst (λ (s : List ℕ × List File). P (List ℕ × List File) index s) same h
+index-format P isOptions b e h = not-index e
+
+-- what a body that was read is to a call that takes an Index
+abbrev spanIn : IndexBody → ℕ → IndexIn
+spanIn (indexWith update sent) next = F.Taken update (indexSpan sent next)
+spanIn noIndex next = F.Refused (atStart 18)
+
+index-in : (k : Kind) (b : Body k) (id next : ℕ) → indexIn (bodyAnswer k id (taken b next)) ≡ spanIn (indexBody k b) next
+index-in isIndex b id next = refl
+index-in isRequest b id next = refl
+index-in isResponse b id next = refl
+index-in isPing b id next = refl
+index-in isPong b id next = refl
+index-in isIndexUpdate b id next = refl
+index-in isOptions b id next = refl
 
 no-list : {r : Refusal} {update : Bool} {x : IndexSpan} {P : Type 0} → F.Refused r ≡ F.Taken update x → P
 no-list e = let z : _≡_ {A = ℕ} 0 1 = cc in absurd (omega arith)
 
 no-refusal : {r : Refusal} {update : Bool} {x : IndexSpan} {P : Type 0} → F.Taken update x ≡ F.Refused r → P
 no-refusal e = let z : _≡_ {A = ℕ} 0 1 = cc in absurd (omega arith)
-
-body-found : (k : Kind) (b : Body k) (id next : ℕ) (m : List ℕ) {update : Bool} {x : IndexSpan} → Reads (body k) m 4 (taken b next) → indexIn (bodyAnswer k id (taken b next)) ≡ F.Taken update x
-    → Body-found k b next m update x
-body-found isIndex b id next m {update} {x} r e =
-    let u : false ≡ update = cc in record { sent = b; outcome = λ old expected. ap (λ (v : Bool). ofIndex v old expected b) u; reads = r; span = cc }
-body-found isRequest b id next m r e = no-list e
-body-found isResponse b id next m r e = no-list e
-body-found isPing b id next m r e = no-list e
-body-found isPong b id next m r e = no-list e
-body-found isIndexUpdate b id next m {update} {x} r e =
-    let u : true ≡ update = cc in record { sent = b; outcome = λ old expected. ap (λ (v : Bool). ofIndex v old expected b) u; reads = r; span = cc }
-body-found isOptions b id next m r e = no-list e
 
 -- what was found in a message
 pub record Listing (m : List ℕ) (update : Bool) (x : IndexSpan) : Type 0 where
@@ -65,47 +75,46 @@ pub record Listing (m : List ℕ) (update : Bool) (x : IndexSpan) : Type 0 where
   pub reads : Reads index m 4 (taken sent next)
   pub span : x ≡ indexSpan sent next
 
+-- in the bytes that were read, a header and then the body
+module _ (m : List ℕ) (v : MessageValue) (next : ℕ) (h : readAt message m 0 ≡ taken v next) where
+  abbrev kind : Kind
+  kind = kindOf (typeOf (v .0))
+
+  body-reads : Reads (body kind) m 4 (taken (v .1) next)
+  body-reads = let p = pair-parts (record { is = h }) in subst (λ (k : ℕ). Reads (body kind) m k (taken (v .1) next)) (ends-word (passed (passed (passed (p .1)))) .0) (p .2)
+
+  found-in : {f : IndexIn} → f ≡ indexIn (messageAnswer (readAt message m 0)) → f ≡ spanIn (indexBody kind (v .1)) next
+  found-in e = e ∙ ap (λ (r : Reading MessageValue). indexIn (messageAnswer r)) h ∙ index-in kind (v .1) (idOf (v .0)) next
+
+  body-listed : {update : Bool} {x : IndexSpan} (y : IndexBody) → indexBody kind (v .1) ≡ y → spanIn y next ≡ F.Taken update x → Listing m update x
+  body-listed {update} {x} (indexWith u sent) q e =
+      let same : u ≡ update = cc in record {
+        sent = sent;
+        next = next;
+        outcome = λ old expected. ap (ofReading old expected) h ∙ ap (ofBody old expected) q ∙ ap (λ (w : Bool). ofIndex w old expected sent) same;
+        reads = index-format (λ A F a. Reads F m 4 (taken a next)) kind (v .1) q body-reads;
+        span = cc;
+      }
+  body-listed noIndex q e = no-list e
+
+  body-refused : {r : Refusal} (y : IndexBody) → spanIn y next ≡ F.Refused r → (old expected : List ℕ) → ofBody old expected y ≡ refuses (r .number) (r .place)
+  body-refused (indexWith u sent) e old expected = no-refusal e
+  body-refused noIndex e old expected = ap (λ (u : IndexIn). refuses (indexRefusal u .number) (indexRefusal u .place)) e
+
 pub found-list : (m : List ℕ) {f : IndexIn} {update : Bool} {x : IndexSpan} → f ≡ indexIn (messageAnswer (readAt message m 0)) → f ≡ F.Taken update x → Listing m update x
 found-list m {f} {update} {x} e q = go (readAt message m 0) refl
   where
     go : (r : Reading MessageValue) → readAt message m 0 ≡ r → Listing m update x
-    go (taken v next) h =
-        let p = pair-parts (record { is = h }) in
-        let at : p .0 ≡ 4 = ends-word (passed (passed (passed (p .1)))) .0 in
-        let w = body-found (kindOf (typeOf (v .0))) (v .1) (idOf (v .0)) next m (subst (λ (k : ℕ). Reads (body (kindOf (typeOf (v .0)))) m k (taken (v .1) next)) at (p .2))
-        (ap (λ (r : Reading MessageValue). indexIn (messageAnswer r)) (sym h) ∙ sym e ∙ q) in
-        record {
-          sent = w .sent;
-          next = next;
-          outcome = λ old expected. ap (ofReading old expected) h ∙ w .outcome old expected;
-          reads = w .reads;
-          span = w .span;
-        }
+    go (taken v next) h = body-listed m v next h (indexBody (kindOf (typeOf (v .0))) (v .1)) refl (sym (found-in m v next h e) ∙ q)
     go (unread k p) h = no-list (ap (λ (r : Reading MessageValue). indexIn (messageAnswer r)) (sym h) ∙ sym e ∙ q)
 
 -- a refusal
-
-other : {r : Refusal} → F.Refused (record { number = 18; place = 0 }) ≡ F.Refused r → refuses 18 0 ≡ refuses (r .number) (r .place)
-other e = ap (λ (u : IndexIn). refuses (indexRefusal u .number) (indexRefusal u .place)) e
-
-body-refused : (k : Kind) (b : Body k) (id next : ℕ) {r : Refusal} → indexIn (bodyAnswer k id (taken b next)) ≡ F.Refused r
-    → (old expected : List ℕ) → ofKind old expected k b ≡ refuses (r .number) (r .place)
-body-refused isIndex b id next e old expected = no-refusal e
-body-refused isRequest b id next e old expected = other e
-body-refused isResponse b id next e old expected = other e
-body-refused isPing b id next e old expected = other e
-body-refused isPong b id next e old expected = other e
-body-refused isIndexUpdate b id next e old expected = no-refusal e
-body-refused isOptions b id next e old expected = other e
-
 found-refused : (m : List ℕ) {f : IndexIn} {r g : Refusal} → f ≡ indexIn (messageAnswer (readAt message m 0)) → f ≡ F.Refused r → g ≡ indexRefusal f
     → (old expected : List ℕ) → ofReading old expected (readAt message m 0) ≡ refuses (g .number) (g .place)
 found-refused m {f} {r} {g} e q s old expected = go (readAt message m 0) refl ∙ ap (λ (u : Refusal). refuses (u .number) (u .place)) (sym (s ∙ ap indexRefusal q))
   where
     go : (x : Reading MessageValue) → readAt message m 0 ≡ x → ofReading old expected (readAt message m 0) ≡ refuses (r .number) (r .place)
-    go (taken v next) h =
-        ap (ofReading old expected) h
-        ∙ body-refused (kindOf (typeOf (v .0))) (v .1) (idOf (v .0)) next (ap (λ (x : Reading MessageValue). indexIn (messageAnswer x)) (sym h) ∙ sym e ∙ q) old expected
+    go (taken v next) h = ap (ofReading old expected) h ∙ body-refused m v next h (indexBody (kindOf (typeOf (v .0))) (v .1)) (sym (found-in m v next h e) ∙ q) old expected
     go (unread k p) h =
         ap (ofReading old expected) h
         ∙ ap (λ (u : IndexIn). refuses (indexRefusal u .number) (indexRefusal u .place)) (ap (λ (x : Reading MessageValue). indexIn (messageAnswer x)) (sym h) ∙ sym e ∙ q)

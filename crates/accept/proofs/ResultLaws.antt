@@ -14,7 +14,7 @@ use Rattle.xdr.proofs.Steps.{shifted-zero}
 use Rattle.xdr.proofs.Corollaries.{read-exactly}
 use Rattle.record.specs.File.{File, file}
 use Rattle.message.specs.Header.{typeOf}
-use Rattle.message.specs.Message.{Kind, isIndex, isRequest, isResponse, isPing, isPong, isIndexUpdate, isOptions, kindOf, Body, body, MessageValue, message}
+use Rattle.message.specs.Message.{Kind, kindOf, Body, body, MessageValue, index, message}
 use Rattle.table.specs.Limits.{recordsLimit, bytesLimit}
 use Rattle.order.specs.Order.{isEqual, compareLists}
 use Rattle.table.specs.Table.{isGood, isWithin, records, tableOf, resultingTable}
@@ -27,8 +27,9 @@ use Rattle.table.proofs.TableLaws.{GoodTable, good-table, table-good}
 use Rattle.table.specs.Insert.{placed, insert}
 use Rattle.table.proofs.InsertLaws.{insert-rising}
 use Rattle.accept.specs.Resulting.{isNamed, unmentioned, replacing, byName, resulting}
-use Rattle.accept.specs.Accepting.{unrepeated, ofRecords, firstRecord, ofIndex, ofKind, ofReading, acceptOutcome}
+use Rattle.accept.specs.Accepting.{unrepeated, ofRecords, firstRecord, ofIndex, IndexBody, indexWith, noIndex, indexBody, ofBody, ofReading, acceptOutcome}
 use Rattle.accept.proofs.InsertLaws.{replacing-one}
+use Rattle.accept.proofs.MessageLaws.{index-format}
 use Rattle.accept.proofs.KeptLaws.{kept-above}
 
 -- the resulting records are valid, and their names rise
@@ -110,6 +111,11 @@ pub record Result (old l : List ℕ) : Type 0 where
   pub sent : List File
   pub good : GoodTable l (resulting update sent (records old))
 
+-- the records of an Index are valid
+pub files-valid : (sent : List ℕ × List File) → Valid index sent → AllValid (sent .1)
+unfolding Valid
+files-valid sent v = v .1 .1
+
 module _ (old expected l : List ℕ) (b : IsBytes old) (g : isGood old ≡ true) where
   index-gave : (update : Bool) (sent : List ℕ × List File) → AllValid (sent .1) → ofIndex update old expected sent ≡ gives l → Result old l
   index-gave update sent v e = go (isEqual (compareLists (sent .0) expected)) e
@@ -124,22 +130,16 @@ module _ (old expected l : List ℕ) (b : IsBytes old) (g : isGood old ≡ true)
       }
       go false q = not-given q
 
-  kind-gave : (k : Kind) (s : Body k) → Valid (body k) s → ofKind old expected k s ≡ gives l → Result old l
-  unfolding Valid
-  kind-gave isIndex s v e = index-gave false s (v .1 .1) e
-  kind-gave isRequest s v e = not-given e
-  kind-gave isResponse s v e = not-given e
-  kind-gave isPing s v e = not-given e
-  kind-gave isPong s v e = not-given e
-  kind-gave isIndexUpdate s v e = index-gave true s (v .1 .1) e
-  kind-gave isOptions s v e = not-given e
+  body-gave : (k : Kind) (s : Body k) → Valid (body k) s → (y : IndexBody) → indexBody k s ≡ y → ofBody old expected y ≡ gives l → Result old l
+  body-gave k s v (indexWith update sent) q e = index-gave update sent (files-valid sent (index-format (λ A F a. Valid F a) k s q v)) e
+  body-gave k s v noIndex q e = not-given e
 
   reading-gave : (m : List ℕ) → IsBytes m → ofReading old expected (readAt message m 0) ≡ gives l → Result old l
   unfolding readAt Valid
   reading-gave m c e = go (read message m) refl (ap (ofReading old expected) (sym (shifted-zero (read message m))) ∙ e)
     where
       go : (r : Reading MessageValue) → read message m ≡ r → ofReading old expected r ≡ gives l → Result old l
-      go (taken v n) q h = kind-gave (kindOf (typeOf (v .0))) (v .1) (read-exactly message m v n c q .1 .1) h
+      go (taken v n) q h = body-gave (kindOf (typeOf (v .0))) (v .1) (read-exactly message m v n c q .1 .1) (indexBody (kindOf (typeOf (v .0))) (v .1)) refl h
       go (unread k p) q h = not-given h
 
 -- an accepted call fills in a good table: of what was sent, and of what it keeps of the old table

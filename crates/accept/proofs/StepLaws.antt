@@ -23,7 +23,7 @@ use Rattle.table.proofs.WalkLaws.{at-last, standing}
 use Rattle.table.proofs.UnionLaws.{union, union-equal, union-right, left-first, right-first}
 use Rattle.table.proofs.SideLaws.{side-by, two-by, Shows, shows-first, shows-at, Told, told-none, told-left, told-right, told-both, told}
 use Rattle.merge.specs.Steps.Next.{fromLeft, nextBy, stepBytes}
-use Rattle.merge.specs.declared.next.Step.{Step}
+use Rattle.merge.specs.declared.next.Pick.{Pick}
 use Rattle.merge.specs.declared.next.Next.{Next}
 use Rattle.merge.specs.declared.next.Next.the-variants.{End, More}
 use Rattle.accept.specs.Resulting.{replacing}
@@ -73,7 +73,7 @@ shows-place s places i (f ∷ fs) w =
     subst (Shows s at (f ∷ fs)) (sym (q .outline-is)) (shows-first f fs (q .name-is))
 
 -- with fs and gs to come, a step takes the first record of both, of one name that of fs
-pub record Took (s places : List ℕ) (i : ℕ) (fs : List File) (old : List ℕ) (j : ℕ) (gs : List File) (t : Step) : Type 0 where
+pub record Took (s places : List ℕ) (i : ℕ) (fs : List File) (old : List ℕ) (j : ℕ) (gs : List File) (t : Pick) : Type 0 where
   pub head : File
   pub lefts : List File
   pub rights : List File

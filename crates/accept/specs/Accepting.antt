@@ -33,19 +33,29 @@ abbrev pub ofIndex : (update : Bool) → (old expected : List ℕ) → List ℕ 
 ofIndex update old expected sent =
     cond (isEqual (compareLists (sent .0) expected)) (ofRecords update (firstRecord (sent .0)) (sent .1) (records old)) (refuses 21 0)
 
--- a message of each kind: only an Index and an IndexUpdate are accepted (18)
-abbrev pub ofKind : (old expected : List ℕ) → (k : Kind) → Body k → Outcome
-ofKind old expected isIndex sent = ofIndex false old expected sent
-ofKind old expected isRequest sent = refuses 18 0
-ofKind old expected isResponse sent = refuses 18 0
-ofKind old expected isPing sent = refuses 18 0
-ofKind old expected isPong sent = refuses 18 0
-ofKind old expected isIndexUpdate sent = ofIndex true old expected sent
-ofKind old expected isOptions sent = refuses 18 0
+-- the body of an Index or of an IndexUpdate (true), or that a message is neither
+pub data IndexBody : Type 0 where
+  indexWith : (update : Bool) → List ℕ × List File → IndexBody
+  noIndex : IndexBody
+
+-- by the kind of a message
+abbrev pub indexBody : (k : Kind) → Body k → IndexBody
+indexBody isIndex b = indexWith false b
+indexBody isRequest b = noIndex
+indexBody isResponse b = noIndex
+indexBody isPing b = noIndex
+indexBody isPong b = noIndex
+indexBody isIndexUpdate b = indexWith true b
+indexBody isOptions b = noIndex
+
+-- only an Index and an IndexUpdate are accepted (18)
+abbrev pub ofBody : (old expected : List ℕ) → IndexBody → Outcome
+ofBody old expected (indexWith update sent) = ofIndex update old expected sent
+ofBody old expected noIndex = refuses 18 0
 
 -- what was read, or the refusal of the reading as it is
 abbrev pub ofReading : (old expected : List ℕ) → Reading MessageValue → Outcome
-ofReading old expected (taken m next) = ofKind old expected (kindOf (typeOf (m .0))) (m .1)
+ofReading old expected (taken m next) = ofBody old expected (indexBody (kindOf (typeOf (m .0))) (m .1))
 ofReading old expected (unread k p) = refuses k p
 
 -- the old table is good (15), whatever the message is, and then the message

@@ -5,7 +5,7 @@ ghost use Rattle.table.specs.Steps.Side.{sideOfTwo};
 ghost use Rattle.merge.specs.Steps.Next.{nextBy};
 ghost use Rattle.accept.specs.Steps.Next.{placeOf, replacingStep, nextOver};
 use merge::next::Next;
-use merge::next::Step;
+use merge::next::Pick;
 use merge::next::from_left;
 use merge::next::from_right;
 use order::Order;
@@ -51,7 +51,7 @@ pub fn next_at(s: &[u8], at: usize, old: &[u8], j: usize) -> Next
 }
 
 // How many of the message's records a step takes.
-pub fn taken_by(step: Step) -> usize
+pub fn taken_by(step: Pick) -> usize
     ensures { λ r. ⌜ r ≡ bit (step .left) ⌝ }
 {
     if step.left {

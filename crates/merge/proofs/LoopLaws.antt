@@ -16,7 +16,7 @@ use Rattle.table.proofs.PassLaws.{Counted, counted-none}
 use Rattle.merge.specs.Merged.{higher}
 use Rattle.merge.specs.Answer.{mergedRecords}
 use Rattle.merge.specs.Steps.Next.{nextOf}
-use Rattle.merge.specs.declared.next.Step.{Step}
+use Rattle.merge.specs.declared.next.Pick.{Pick}
 use Rattle.merge.specs.declared.next.Next.{Next}
 use Rattle.merge.specs.declared.next.Next.the-variants.{End, More}
 use Rattle.merge.proofs.TwoLaws.{merged-two}
@@ -62,12 +62,12 @@ module _ (a b : List ℕ) (p : IsBytes a) (q : IsBytes b) (g : isGood a ≡ true
 module _ {a b : List ℕ} {i j : ℕ} (l : Left a b i j) where
   -- the next step, by the answer that was given
 
-  pub took : {r : Next} {s : Step} → r ≡ nextOf a i b j → r ≡ More s → Took a (l .fs) b (l .gs) (i + j) s
+  pub took : {r : Next} {s : Pick} → r ≡ nextOf a i b j → r ≡ More s → Took a (l .fs) b (l .gs) (i + j) s
   took e f = subst (Steps a i (l .fs) b j (l .gs)) (sym e ∙ f) (steps (l .fs) (l .gs) (l .left) (l .right))
 
   pub none-left : {r : Next} → r ≡ nextOf a i b j → r ≡ End → rest l ≡ []
   none-left e f = subst (Steps a i (l .fs) b j (l .gs)) (sym e ∙ f) (steps (l .fs) (l .gs) (l .left) (l .right))
 
   -- what is left after it
-  abbrev pub after : {s : Step} → Took a (l .fs) b (l .gs) (i + j) s → Left a b (s .i) (s .j)
+  abbrev pub after : {s : Pick} → Took a (l .fs) b (l .gs) (i + j) s → Left a b (s .i) (s .j)
   after t = record { fs = t .lefts; gs = t .rights; left = t .left; right = t .right; short-left = l .short-left; short-right = l .short-right }

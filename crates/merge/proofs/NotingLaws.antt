@@ -16,7 +16,7 @@ use Rattle.table.specs.Table.{tableOf}
 use Rattle.table.specs.Steps.Standing.{bytesOf}
 use Rattle.merge.specs.Steps.Next.{stepBytes}
 use Rattle.merge.specs.Steps.Notes.{noteOf, noted, notedAll, Noted}
-use Rattle.merge.specs.declared.next.Step.{Step}
+use Rattle.merge.specs.declared.next.Pick.{Pick}
 use Rattle.merge.proofs.NoteLaws.{noted-by, put-within, put-length, put-fits, count-fits, noted-append}
 
 -- the records so far are noted, as long as there were few enough, and the rest is to come
@@ -31,7 +31,7 @@ unfolding notedAll
 noting-none a b all notes e = record { long = e; inside = omega arith; even = λ h. refl; follows = λ h. refl }
 
 -- a note is of two numbers, and its bytes are those that were taken
-note-length : (s : Step) → length (noteOf s) ≡ 2
+note-length : (s : Pick) → length (noteOf s) ≡ 2
 note-length s = go (s .left)
   where
     go : (t : Bool) → length (cond t (s .start ∷ s .end ∷ []) (s .end ∷ s .start ∷ [])) ≡ 2
@@ -42,7 +42,7 @@ noted-one : (a b : List ℕ) (x y : ℕ) → notedAll a b (x ∷ y ∷ []) ≡ n
 unfolding notedAll
 noted-one a b x y = append-nil (noted a b x y)
 
-note-bytes : (a b : List ℕ) (s : Step) → s .start < s .end → notedAll a b (noteOf s) ≡ stepBytes a b s
+note-bytes : (a b : List ℕ) (s : Pick) → s .start < s .end → notedAll a b (noteOf s) ≡ stepBytes a b s
 note-bytes a b s h = go (s .left)
   where
     go : (t : Bool) → notedAll a b (cond t (s .start ∷ s .end ∷ []) (s .end ∷ s .start ∷ [])) ≡ part (cond t a b) (s .start) (s .end)
@@ -67,7 +67,7 @@ module _ {a b : List ℕ} {all rest : List File} {notes : List ℕ} {count at : 
         };
       }
 
-  module _ (s : Step) {k : ℕ} {o : List ℕ} (q : k ≡ putCount notes at (noteOf s)) (p : o ≡ put notes at (noteOf s)) where
+  module _ (s : Pick) {k : ℕ} {o : List ℕ} (q : k ≡ putCount notes at (noteOf s)) (p : o ≡ put notes at (noteOf s)) where
     pub noting-within : at + k ≤ 1024
     noting-within = put-within notes at (noteOf s) 1024 (n .inside) (omega (arith, n .long)) q
 

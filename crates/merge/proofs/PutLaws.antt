@@ -19,9 +19,9 @@ use Rattle.table.specs.Limits.{recordsLimit, bytesLimit}
 use Rattle.table.specs.Table.{isWithin, tableOf, resultingTable}
 use Rattle.table.specs.Steps.Standing.{bytesOf}
 use Rattle.table.proofs.TableLaws.{table-length, result-large, result-within, table-filled}
-use Rattle.merge.specs.Steps.Notes.{notedAll, putNotes, Measured, Noted, PutsTable}
+use Rattle.merge.specs.Steps.Notes.{notedAll, PutsNotes, Measured, Noted, PutsTable}
 use Rattle.merge.specs.declared.notes.Size.{Size}
-use Rattle.merge.proofs.NoteLaws.{put-length, notes-room}
+use Rattle.merge.proofs.NoteLaws.{put-length}
 
 -- a table within the limits has few enough records
 few : (count size : ℕ) → isWithin count size ≡ true → count ≤ recordsLimit
@@ -38,13 +38,13 @@ module _ (a b notes : List ℕ) (size : Size) (out : List ℕ) (fs : List File) 
   pub put-short : {r : Filling} → isWithin (size .count) (size .bytes) ≡ true → length out < size .bytes → r ≡ fillingAnswer (refuses 14 0) → Fills (resultingTable fs) out r out
   put-short e h f = fills-short out (result-within fs (within ∙ e)) (omega (arith, m .sized)) f
 
-  pub put-filled : {o p : List ℕ} → isWithin (size .count) (size .bytes) ≡ true → size .bytes ≤ length out → o ≡ put out 0 (encode word (size .count)) → p ≡ putNotes a b notes o 4
+  pub put-filled : {o p : List ℕ} → isWithin (size .count) (size .bytes) ≡ true → size .bytes ≤ length out → o ≡ put out 0 (encode word (size .count)) → PutsNotes a b notes o 4 p
       → Fills (resultingTable fs) out (F.Filled (size .bytes)) p
   put-filled {o} e h f g =
       let same : notedAll a b notes ≡ bytesOf fs = m .are (few (size .count) (size .bytes) e) in
       let room : 4 + length (notedAll a b notes) ≤ length o = omega (arith, ap length f, put-length out 0 (encode word (size .count)), ap length same, table-length fs, m .sized) in
       fills-given out (result-within fs (within ∙ e)) (omega (arith, m .sized)) (m .sized)
-      (table-filled out fs (m .counted) (omega (arith, m .sized)) f (g ∙ notes-room a b notes o 4 room ∙ ap (over o 4) same))
+      (table-filled out fs (m .counted) (omega (arith, m .sized)) f (g room ∙ ap (over o 4) same))
 
 -- with the notes lent as far as they go
 pub table-put : (a b notes : List ℕ) (size : Size) (out : List ℕ) {fs : List File} {r : Filling} {o : List ℕ} → Noted a b notes fs size

@@ -18,12 +18,12 @@ use Rattle.table.proofs.UnionLaws.{union, union-equal, union-right, left-first,
 use Rattle.table.proofs.SideLaws.{shows-at, Told, told-none, told-left, told-right, told-both, told}
 use Rattle.merge.specs.Merged.{higherBy, higher}
 use Rattle.merge.specs.Steps.Next.{fromLeft, fromRight, higherStep, higherOf, nextBy, nextOf, stepBytes}
-use Rattle.merge.specs.declared.next.Step.{Step}
+use Rattle.merge.specs.declared.next.Pick.{Pick}
 use Rattle.merge.specs.declared.next.Next.{Next}
 use Rattle.merge.specs.declared.next.Next.the-variants.{End, More}
 
 -- with fs and gs to come, a step takes their first record in order
-pub record Took (a : List ℕ) (fs : List File) (b : List ℕ) (gs : List File) (sum : ℕ) (s : Step) : Type 0 where
+pub record Took (a : List ℕ) (fs : List File) (b : List ℕ) (gs : List File) (sum : ℕ) (s : Pick) : Type 0 where
   pub head : File
   pub lefts : List File
   pub rights : List File
@@ -40,7 +40,7 @@ Steps a i fs b j gs End = union higher fs gs ≡ []
 Steps a i fs b j gs (More s) = Took a fs b gs (i + j) s
 
 -- the record f at a place of one of the tables, which heads what is merged, is taken
-taking : {a b : List ℕ} {sum : ℕ} {f : File} {fs gs ls rs ms : List File} {t : List ℕ} {at : ℕ} (s : Step) → Standing t at f ms → union higher fs gs ≡ f ∷ union higher ls rs → stepBytes a b s ≡ part t at (fieldsOf at f .past)
+taking : {a b : List ℕ} {sum : ℕ} {f : File} {fs gs ls rs ms : List File} {t : List ℕ} {at : ℕ} (s : Pick) → Standing t at f ms → union higher fs gs ≡ f ∷ union higher ls rs → stepBytes a b s ≡ part t at (fieldsOf at f .past)
     → s .start ≡ at → s .end ≡ fieldsOf at f .past → At a (s .i) ls → At b (s .j) rs → sum + fieldsOf at f .past ≤ s .i + s .j + at → Took a fs b gs sum s
 taking {f = f} {ls = ls} {rs = rs} s p m e h k u w l =
     record {

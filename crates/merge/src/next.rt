@@ -6,7 +6,7 @@ use record::RecordFields;
 use table::Side;
 
 // A record that is taken: of the first table or of the second, at start..end; the merge goes on at i of the first and j of the second.
-pub struct Step {
+pub struct Pick {
     pub left: bool,
     pub start: usize,
     pub end: usize,
@@ -17,14 +17,14 @@ pub struct Step {
 // The next record, or none is left.
 pub enum Next {
     End,
-    More(Step),
+    More(Pick),
 }
 
 // The record of the first table at i, up to x.
 pub fn from_left(i: usize, x: usize, j: usize) -> Next
     ensures { λ r. ⌜ r ≡ fromLeft i x j ⌝ }
 {
-    Next::More(Step {
+    Next::More(Pick {
         left: true,
         start: i,
         end: x,
@@ -37,7 +37,7 @@ pub fn from_left(i: usize, x: usize, j: usize) -> Next
 pub fn from_right(j: usize, y: usize, i: usize) -> Next
     ensures { λ r. ⌜ r ≡ fromRight j y i ⌝ }
 {
-    Next::More(Step {
+    Next::More(Pick {
         left: false,
         start: j,
         end: y,

@@ -14,7 +14,7 @@ use Rattle.xdr.specs.Filling.{Outcome, gives, refuses}
 use Rattle.xdr.proofs.Corollaries.{read-exactly}
 use Rattle.record.specs.File.{File}
 use Rattle.message.specs.Header.{typeOf}
-use Rattle.message.specs.Message.{Kind, isIndex, isRequest, isResponse, isPing, isPong, isIndexUpdate, isOptions, kindOf, Body, body, MessageValue, message}
+use Rattle.message.specs.Message.{Kind, kindOf, Body, body, MessageValue, index, message}
 use Rattle.table.specs.Limits.{recordsLimit, bytesLimit}
 use Rattle.order.specs.Order.{isEqual, compareLists}
 use Rattle.table.specs.Table.{isGood, isWithin, records, tableOf, resultingTable}
@@ -24,10 +24,11 @@ use Rattle.table.specs.Steps.Standing.{AllValid}
 use Rattle.xdr.proofs.FillingLaws.{not-given}
 use Rattle.table.proofs.TableLaws.{good-table, array-records}
 use Rattle.accept.specs.Resulting.{isNamed, resulting}
-use Rattle.accept.specs.Accepting.{unrepeated, ofRecords, firstRecord, ofIndex, ofKind, ofReading, acceptOutcome}
+use Rattle.accept.specs.Accepting.{unrepeated, ofRecords, firstRecord, ofIndex, IndexBody, indexWith, noIndex, indexBody, ofBody, ofReading, acceptOutcome}
 use Rattle.accept.specs.Steps.Sorted.{Distinct}
-use Rattle.accept.proofs.ResultLaws.{resulting-valid, accept-good}
-use Rattle.promises.specs.Accepting.{Sends, NoneNamed, Accepted}
+use Rattle.accept.proofs.MessageLaws.{index-format}
+use Rattle.accept.proofs.ResultLaws.{files-valid, resulting-valid, accept-good}
+use Rattle.promises.specs.Accepting.{NoneNamed, Accepted}
 use Rattle.promises.proofs.BelongLaws.{none-named, named-none, resulting-only, resulting-all}
 use Rattle.promises.proofs.Spans.{from-start}
 
@@ -63,7 +64,7 @@ table-records fs l v = go (isWithin (length fs) (length (tableOf fs))) refl
 record Took (old repository table : List ℕ) (k : Kind) (b : Body k) : Type 0 where
   update : Bool
   sent : List File
-  sends : Sends k b update repository sent
+  sends : indexBody k b ≡ indexWith update (repository, sent)
   distinct : Distinct sent
   records-are : records table ≡ resulting update sent (records old)
 
@@ -82,15 +83,11 @@ module _ (old repository l : List ℕ) (valid-old : AllValid (records old)) wher
           (is-same (sent .0) repository q, r .2, table-records fs l (resulting-valid update (sent .1) (records old) v valid-old) (r .0))
       go false q e = not-given e
 
-  kind-took : (k : Kind) (b : Body k) → Valid (body k) b → ofKind old repository k b ≡ gives l → Took old repository l k b
-  unfolding Valid
-  kind-took isIndex b v e = let r = index-took false b (v .1 .1) e in record { update = false; sent = b .1; sends = (refl, r .0, refl); distinct = r .1; records-are = r .2 }
-  kind-took isRequest b v e = not-given e
-  kind-took isResponse b v e = not-given e
-  kind-took isPing b v e = not-given e
-  kind-took isPong b v e = not-given e
-  kind-took isIndexUpdate b v e = let r = index-took true b (v .1 .1) e in record { update = true; sent = b .1; sends = (refl, r .0, refl); distinct = r .1; records-are = r .2 }
-  kind-took isOptions b v e = not-given e
+  body-took : (k : Kind) (s : Body k) → Valid (body k) s → (y : IndexBody) → indexBody k s ≡ y → ofBody old repository y ≡ gives l → Took old repository l k s
+  body-took k s v (indexWith update sent) q e =
+      let r = index-took update sent (files-valid sent (index-format (λ A F a. Valid F a) k s q v)) e in
+      record { update = update; sent = sent .1; sends = q ∙ ap (λ (n : List ℕ). indexWith update (n, sent .1)) (r .0); distinct = r .1; records-are = r .2 }
+  body-took k s v noIndex q e = not-given e
 
 -- every accepted call
 pub accepted-records : (old bytes repository table : List ℕ) → IsBytes old → IsBytes bytes → acceptOutcome old bytes repository ≡ gives table
@@ -100,7 +97,7 @@ accepted-records old bytes repository table b c e = by-old (isGood old) refl e
   where
     by-reading : isGood old ≡ true → (r : Reading MessageValue) → read message bytes ≡ r → ofReading old repository r ≡ gives table → Accepted old bytes repository table
     by-reading g (taken m n) q h =
-        let t = kind-took old repository table (good-table old b g .valid) (kindOf (typeOf (m .0))) (m .1) (read-exactly message bytes m n c q .1 .1) h in
+        let t = body-took old repository table (good-table old b g .valid) (kindOf (typeOf (m .0))) (m .1) (read-exactly message bytes m n c q .1 .1) (indexBody (kindOf (typeOf (m .0))) (m .1)) refl h in
         record {
           value = m;
           end = n;

@@ -3,23 +3,14 @@ use Prim.Native.Nat.{ℕ}
 use mathlib.Core.List.{List, List·Memᴰ}
 use mathlib.Core.Path.{_≡_}
 use mathlib.Core.Logic.{_⊎_}
-use mathlib.Core.Bool.{Bool, true, false}
+use mathlib.Core.Bool.{Bool, true}
 use Rattle.xdr.specs.Reading.{taken}
 use Rattle.xdr.specs.Format.{read}
 use Rattle.record.specs.File.{File}
 use Rattle.message.specs.Header.{typeOf}
-use Rattle.message.specs.Message.{Kind, isIndex, isRequest, isResponse, isPing, isPong, isIndexUpdate, isOptions, kindOf, Body, MessageValue, message}
+use Rattle.message.specs.Message.{kindOf, MessageValue, message}
 use Rattle.table.specs.Table.{isGood, records}
-
--- a message of some kind sends files for a Repository, as an IndexUpdate or as an Index
-abbrev pub Sends : (k : Kind) → Body k → (update : Bool) → (repository : List ℕ) → List File → Type 0
-Sends isIndex b update repository sent = (update ≡ false) × (b .0 ≡ repository) × (b .1 ≡ sent)
-Sends isRequest b update repository sent = ⊥
-Sends isResponse b update repository sent = ⊥
-Sends isPing b update repository sent = ⊥
-Sends isPong b update repository sent = ⊥
-Sends isIndexUpdate b update repository sent = (update ≡ true) × (b .0 ≡ repository) × (b .1 ≡ sent)
-Sends isOptions b update repository sent = ⊥
+use Rattle.accept.specs.Accepting.{indexWith, indexBody}
 
 -- no record of some has a name
 abbrev pub NoneNamed : List ℕ → List File → Type 0
@@ -31,13 +22,13 @@ Belongs update sent old f = List·Memᴰ f sent ⊎ ((update ≡ true) × List·
 
 -- a message was accepted over an old table for a Repository, and filled in a table
 pub record Accepted (old bytes repository table : List ℕ) : Type 0 where
-  -- the bytes were read as a message that sends files for the Repository
+  -- the bytes were read as an Index or an IndexUpdate that sends files for the Repository
   pub value : MessageValue
   pub end : ℕ
   pub reads : read message bytes ≡ taken value end
   pub update : Bool
   pub sent : List File
-  pub sends : Sends (kindOf (typeOf (value .0))) (value .1) update repository sent
+  pub sends : indexBody (kindOf (typeOf (value .0))) (value .1) ≡ indexWith update (repository, sent)
   -- the table is good, and its records are exactly those that belong
   pub good : isGood table ≡ true
   pub only : (f : File) → List·Memᴰ f (records table) → Belongs update sent (records old) f

@@ -4,7 +4,7 @@ use mathlib.Core.List.{List}
 use lib.ListN.{length}
 use Rattle.xdr.specs.Reading.{Reading, taken, refused, mapped}
 use Rattle.xdr.specs.Pad.{padded}
-use Rattle.xdr.specs.Answers.{wordAnswer}
+use Rattle.xdr.specs.Answers.{atStart, wordAnswer}
 use Rattle.xdr.specs.declared.answer.Refusal.{Refusal}
 use Rattle.xdr.specs.declared.answer.Word.{Word}
 use Rattle.record.specs.Block.{Block}
@@ -25,7 +25,7 @@ arrayAnswer (refused k p) = L.Refused (record { number = k; place = p })
 
 -- the refusal of an array's answer: number 0 where there is none
 abbrev pub arrayRefusal : Array → Refusal
-arrayRefusal (L.Taken n next) = record { number = 0; place = 0 }
+arrayRefusal (L.Taken n next) = atStart 0
 arrayRefusal (L.Refused r) = r
 
 -- a block: its Length and the place after it, where its hash ends
@@ -49,7 +49,7 @@ fileAnswer (refused k p) = F.Refused (record { number = k; place = p })
 
 -- the refusal of a file's answer: number 0 where there is none
 abbrev pub fileRefusal : FileRead → Refusal
-fileRefusal (F.Taken f) = record { number = 0; place = 0 }
+fileRefusal (F.Taken f) = atStart 0
 fileRefusal (F.Refused r) = r
 
 -- an option at the front of a part: the lengths of its Key and of its Value, the place where the Value's bytes start and the place after the option
@@ -60,5 +60,5 @@ optionAnswer (refused k p) = O.Refused (record { number = k; place = p })
 
 -- the refusal of an option's answer: number 0 where there is none
 abbrev pub optionRefusal : OptionRead → Refusal
-optionRefusal (O.Taken o) = record { number = 0; place = 0 }
+optionRefusal (O.Taken o) = atStart 0
 optionRefusal (O.Refused r) = r

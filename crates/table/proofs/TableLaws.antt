@@ -21,7 +21,7 @@ use Rattle.record.specs.File.{File}
 use Rattle.record.specs.Rising.{isRising, fillRising, isRisingArray}
 use Rattle.table.specs.Limits.{recordsLimit, bytesLimit}
 use Rattle.table.specs.Steps.Standing.{bytesOf, AllValid}
-use Rattle.table.specs.Table.{table, isWithin, goodReading, isGood, recordsRead, records, tableOf, resultingTable}
+use Rattle.table.specs.Table.{table, isWithin, isGood, recordsRead, records, tableOf, resultingTable}
 use Rattle.record.proofs.RisingLaws.{and-true, both-true, Rising, rising-is, rising-test}
 
 -- the count, and then the records
@@ -38,28 +38,19 @@ table-length fs = ap length (table-bytes fs) ∙ length-append (encode word (len
 
 -- what makes a table good, beside its size
 
-and-false : (a b : Bool) → (a && (b && false)) ≡ false
-and-false true true = refl
-and-false true false = refl
-and-false false b = refl
+and-false : (b : Bool) → (b && false) ≡ false
+and-false true = refl
+and-false false = refl
 
 -- more bytes than a table may have
 pub good-long : (t : List ℕ) → bytesLimit < length t → isGood t ≡ false
 unfolding isGood
-good-long t h = go (read table t)
-  where
-    go : (r : Reading (List File)) → goodReading (length t) r ≡ false
-    go (taken fs n) = rw (lt-leb (length t) bytesLimit h) (and-false (eqb n (length t)) (isRising fs))
-    go (refused k p) = refl
+good-long t h = ap (λ (b : Bool). isRisingArray recordsLimit t && b) (lt-leb (length t) bytesLimit h) ∙ and-false (isRisingArray recordsLimit t)
 
 -- and no more
 pub good-rising : (t : List ℕ) → length t ≤ bytesLimit → isGood t ≡ isRisingArray recordsLimit t
-unfolding isGood isRisingArray
-good-rising t h = go (read table t)
-  where
-    go : (r : Reading (List File)) → goodReading (length t) r ≡ fillRising (length t) r
-    go (taken fs n) = ap (λ (b : Bool). eqb n (length t) && (isRising fs && b)) (le-leb (length t) bytesLimit h) ∙ ap (λ (b : Bool). eqb n (length t) && b) (and-true (isRising fs))
-    go (refused k p) = refl
+unfolding isGood
+good-rising t h = ap (λ (b : Bool). isRisingArray recordsLimit t && b) (le-leb (length t) bytesLimit h) ∙ and-true (isRisingArray recordsLimit t)
 
 -- what a good table is
 pub record GoodTable (t : List ℕ) (fs : List File) : Type 0 where
@@ -74,17 +65,16 @@ unfolding Valid
 valid-parts fs v = (v .1, leb-true (length fs) recordsLimit (v .0 .1))
 
 pub good-table : (t : List ℕ) → IsBytes t → isGood t ≡ true → GoodTable t (records t)
-unfolding isGood records tableOf
-good-table t b e = go (read table t) refl e
+unfolding isGood isRisingArray records tableOf
+good-table t b e = let p = both-true (fillRising (length t) (read table t)) (leb (length t) bytesLimit) e in go (read table t) refl (p .0) (p .1)
   where
-    go : (r : Reading (List File)) → read table t ≡ r → goodReading (length t) r ≡ true → GoodTable t (recordsRead r)
-    go (taken fs n) q h =
-        let p = both-true (eqb n (length t)) (isRising fs && leb (length t) bytesLimit) h in
-        let s = both-true (isRising fs) (leb (length t) bytesLimit) (p .1) in
+    go : (r : Reading (List File)) → read table t ≡ r → fillRising (length t) r ≡ true → leb (length t) bytesLimit ≡ true → GoodTable t (recordsRead r)
+    go (taken fs n) q h short =
+        let p = both-true (eqb n (length t)) (isRising fs) h in
         let w = read-whole table t fs b (q ∙ ap (λ (k : ℕ). taken fs k) (eqb-true n (length t) (p .0))) in
         let v = valid-parts fs (w .1) in
-        record { is = w .0; valid = v .0; few = v .1; rising = rising-is fs (s .0); short = leb-true (length t) bytesLimit (s .1) }
-    go (refused k p) q h = let z : _≡_ {A = ℕ} 0 1 = cc in absurd (omega arith)
+        record { is = w .0; valid = v .0; few = v .1; rising = rising-is fs (p .1); short = leb-true (length t) bytesLimit short }
+    go (refused k p) q h short = let z : _≡_ {A = ℕ} 0 1 = cc in absurd (omega arith)
 
 valid-table : (fs : List File) → AllValid fs → length fs ≤ recordsLimit → Valid table fs
 unfolding Valid
@@ -104,20 +94,20 @@ pub records-of : (t : List ℕ) (fs : List File) → GoodTable t fs → records 
 records-of t fs g = ap records (g .is) ∙ array-records fs (g .valid) (g .few)
 
 pub table-good : (t : List ℕ) (fs : List File) → GoodTable t fs → isGood t ≡ true
-unfolding isGood
+unfolding isGood isRisingArray
 table-good t fs g =
-    ap (λ (l : List ℕ). goodReading (length t) (read table l)) (g .is)
-    ∙ ap (goodReading (length t)) (table-read fs (g .valid) (g .few))
+    ap (λ (l : List ℕ). fillRising (length t) (read table l) && leb (length t) bytesLimit) (g .is)
+    ∙ ap (λ (r : Reading (List File)). fillRising (length t) r && leb (length t) bytesLimit) (table-read fs (g .valid) (g .few))
     ∙ rw (eq-eqb (length (tableOf fs)) (length t) (sym (ap length (g .is))), rising-test fs (g .rising), le-leb (length t) bytesLimit (g .short)) refl
 
 -- the empty table is four zero bytes, and no bytes are no table
 
 pub empty-good : isGood (0 ∷ 0 ∷ 0 ∷ 0 ∷ []) ≡ true
-unfolding isGood read
+unfolding isGood isRisingArray read
 empty-good = refl
 
 pub nothing-bad : isGood [] ≡ false
-unfolding isGood read
+unfolding isGood isRisingArray read
 nothing-bad = refl
 
 -- a resulting table: too large, or its bytes, which are the count and the records from place 4 on

@@ -1,14 +1,14 @@
 -- Good tables, and the records of a table.
 use Prim.Native.Nat.{ℕ}
 use mathlib.Core.List.{List, [], _∷_}
-use mathlib.Core.Bool.{Bool, true, false, _&&_, cond}
+use mathlib.Core.Bool.{Bool, true, _&&_, cond}
 use lib.ListN.{length}
-use lib.Dec.{leb, eqb}
+use lib.Dec.{leb}
 use Rattle.xdr.specs.Reading.{Reading, taken, refused}
 use Rattle.xdr.specs.Format.{Format, read, encode}
 use Rattle.xdr.specs.Filling.{Outcome, gives, refuses}
 use Rattle.record.specs.File.{File, files}
-use Rattle.record.specs.Rising.{isRising}
+use Rattle.record.specs.Rising.{isRisingArray}
 use Rattle.table.specs.Limits.{recordsLimit, bytesLimit}
 
 -- an array of records
@@ -19,14 +19,9 @@ table = files recordsLimit
 abbrev pub isWithin : (count size : ℕ) → Bool
 isWithin count size = leb count recordsLimit && leb size bytesLimit
 
--- the records fill so many bytes exactly, their names rise, and the bytes are within the limit
-abbrev pub goodReading : ℕ → Reading (List File) → Bool
-goodReading size (taken fs used) = eqb used size && (isRising fs && leb size bytesLimit)
-goodReading size (refused k p) = false
-
--- a good table
+-- a good table: an array of records and nothing else, names rising, within the limits
 unfoldable pub isGood : List ℕ → Bool
-isGood t = goodReading (length t) (read table t)
+isGood t = isRisingArray recordsLimit t && leb (length t) bytesLimit
 
 -- each of some tables is good
 abbrev pub allGood : List (List ℕ) → Bool

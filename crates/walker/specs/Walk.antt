@@ -5,6 +5,7 @@ use mathlib.Core.Bool.{cond}
 use lib.ListN.{length}
 use lib.Dec.{eqb}
 use denote.Ref.{now}
+use Rattle.xdr.specs.Answers.{atStart}
 use Rattle.xdr.specs.Format.{encode}
 use Rattle.record.specs.File.{File, file}
 use Rattle.record.specs.Outline.{fieldsOf}
@@ -15,7 +16,7 @@ use Rattle.walker.specs.declared.Walker.{Walker}
 
 -- 15: no good table, or a place that starts no record and isn't the end
 abbrev pub bad : Step
-bad = Refused (record { number = 15; place = 0 })
+bad = Refused (atStart 15)
 
 -- what stands at a place, where the first of the records stands at `first`: one of them, or their end
 abbrev pub stepAmong : List File → (first at : ℕ) → Step

@@ -5,6 +5,7 @@ use mathlib.Core.Path.{_≡_, refl, sym, ap, subst, _∙_}
 use mathlib.Core.Bool.{Bool, true, false, cond, _||_}
 use native.Mathlib.Omega.{arith}
 use lib.ListN.{length}
+use Rattle.xdr.specs.Answers.{atStart}
 use Rattle.xdr.specs.Number.{IsBytes}
 use Rattle.record.specs.Block.{Block}
 use Rattle.record.specs.File.{File}
@@ -120,7 +121,7 @@ module _ {t : List ℕ} {b : Block} {at n : ℕ} {f : RecordFields} {count first
 
 -- by whether the table is good
 
-pub found-bad : (t : List ℕ) (b : Block) → isGood t ≡ false → F.Refused (record { number = 15; place = 0 }) ≡ foundIn t b
+pub found-bad : (t : List ℕ) (b : Block) → isGood t ≡ false → F.Refused (atStart 15) ≡ foundIn t b
 unfolding foundIn
 found-bad t b e = rw e refl
 

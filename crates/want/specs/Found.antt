@@ -2,6 +2,7 @@
 use Prim.Native.Nat.{ℕ, _+_}
 use mathlib.Core.List.{List, [], _∷_}
 use mathlib.Core.Bool.{cond}
+use Rattle.xdr.specs.Answers.{atStart}
 use Rattle.record.specs.Block.{Block}
 use Rattle.record.specs.File.{File}
 use Rattle.table.specs.Table.{isGood, records}
@@ -21,4 +22,4 @@ foundFrom n (f ∷ fs) b = foundAmong n 0 (listed f) b (foundFrom (n + 1) fs b)
 
 -- the search in a table (15)
 unfoldable pub foundIn : List ℕ → Block → Found
-foundIn t b = cond (isGood t) (foundFrom 0 (records t) b) (Refused (record { number = 15; place = 0 }))
+foundIn t b = cond (isGood t) (foundFrom 0 (records t) b) (Refused (atStart 15))

@@ -22,7 +22,7 @@ wordAnswer (refused k p) = W.Refused (record { number = k; place = p })
 
 -- the refusal of a word's answer: number 0 where there is none
 abbrev pub wordRefusal : Word → Refusal
-wordRefusal (W.Taken n next) = record { number = 0; place = 0 }
+wordRefusal (W.Taken n next) = atStart 0
 wordRefusal (W.Refused r) = r
 
 -- a number of 64 bits, likewise
@@ -32,7 +32,7 @@ hyperAnswer (refused k p) = H.Refused (record { number = k; place = p })
 
 -- the refusal of the answer for 64 bits: number 0 where there is none
 abbrev pub hyperRefusal : Hyper → Refusal
-hyperRefusal (H.Taken n next) = record { number = 0; place = 0 }
+hyperRefusal (H.Taken n next) = atStart 0
 hyperRefusal (H.Refused r) = r
 
 -- a string or an opaque: the length of its contents, which begin 4 bytes after its own place, and the place after its padding
@@ -42,5 +42,5 @@ bytesAnswer (refused k p) = B.Refused (record { number = k; place = p })
 
 -- the refusal of a string's or an opaque's answer: number 0 where there is none
 abbrev pub bytesRefusal : Bytes → Refusal
-bytesRefusal (B.Taken n next) = record { number = 0; place = 0 }
+bytesRefusal (B.Taken n next) = atStart 0
 bytesRefusal (B.Refused r) = r

@@ -10,7 +10,7 @@ use Rattle.table.specs.declared.side.Side.{Side}
 use Rattle.table.specs.declared.side.Side.the-variants.{Neither, Left, Right, Both}
 use Rattle.order.specs.declared.compare.Order.{Order}
 use Rattle.order.specs.declared.compare.Order.the-variants.{Less, Equal, Greater}
-use Rattle.merge.specs.declared.next.Step.{Step}
+use Rattle.merge.specs.declared.next.Pick.{Pick}
 use Rattle.merge.specs.declared.next.Next.{Next}
 use Rattle.merge.specs.declared.next.Next.the-variants.{End, More}
 
@@ -44,5 +44,5 @@ unfoldable pub nextOf : List ℕ → ℕ → List ℕ → ℕ → Next
 nextOf a i b j = nextBy (higherOf a i b j) i j (sideAt a i b j)
 
 -- the bytes that are taken
-abbrev pub stepBytes : List ℕ → List ℕ → Step → List ℕ
+abbrev pub stepBytes : List ℕ → List ℕ → Pick → List ℕ
 stepBytes a b s = part (cond (s .left) a b) (s .start) (s .end)

@@ -2,10 +2,10 @@
 use Prim.Native.Nat.{ℕ, _+_, _≤_}
 use mathlib.Core.List.{List, [], _∷_, _++_}
 use mathlib.Core.Path.{_≡_}
-use mathlib.Core.Bool.{cond}
+use mathlib.Core.Bool.{cond, _&&_}
 use lib.ListN.{length, take}
-use lib.Dec.{leb}
-use Rattle.xdr.specs.Buffer.{put, putCount}
+use lib.Dec.{leb, ltb, eqb}
+use Rattle.xdr.specs.Buffer.{over}
 use Rattle.xdr.specs.Filling.{Fills}
 use Rattle.xdr.specs.declared.filling.Filling.{Filling}
 use Rattle.record.specs.File.{File}
@@ -13,11 +13,13 @@ use Rattle.order.specs.Order.{part}
 use Rattle.table.specs.Limits.{recordsLimit}
 use Rattle.table.specs.Table.{tableOf, resultingTable}
 use Rattle.table.specs.Steps.Standing.{bytesOf}
-use Rattle.merge.specs.declared.next.Step.{Step}
+use Rattle.merge.specs.declared.next.Pick.{Pick}
 use Rattle.merge.specs.declared.notes.Size.{Size}
+use Rattle.merge.specs.declared.notes.Joined.{Joined}
+use Rattle.merge.specs.declared.notes.Joined.the-variants.{Apart, One}
 
 -- a record of the first table is noted as where it starts and where it ends, one of the second the other way round
-abbrev pub noteOf : Step → List ℕ
+abbrev pub noteOf : Pick → List ℕ
 noteOf s = cond (s .left) (s .start ∷ s .end ∷ []) (s .end ∷ s .start ∷ [])
 
 -- the bytes of a record that is noted
@@ -30,11 +32,13 @@ notedAll a b [] = []
 notedAll a b (x ∷ []) = []
 notedAll a b (x ∷ y ∷ l) = noted a b x y ++ notedAll a b l
 
--- what a buffer holds after they were put from a place on, each that there is room for
-unfoldable pub putNotes : (a b notes out : List ℕ) → (at : ℕ) → List ℕ
-putNotes a b [] out at = out
-putNotes a b (x ∷ []) out at = out
-putNotes a b (x ∷ y ∷ l) out at = putNotes a b l (put out at (noted a b x y)) (at + putCount out at (noted a b x y))
+-- two notes as one, where the second goes on in the same table at the place where the first ends
+abbrev pub joinedOf : (x y u v : ℕ) → Joined
+joinedOf x y u v = cond (leb x y) (cond (eqb u y && leb u v) (One x v) Apart) (cond (eqb v x && ltb v u) (One u y) Apart)
+
+-- all that are noted are put into a buffer from a place on, where there is room for them
+abbrev pub PutsNotes : (a b notes out : List ℕ) → (at : ℕ) → (after : List ℕ) → Type 0
+PutsNotes a b notes out at after = at + length (notedAll a b notes) ≤ length out → after ≡ over out at (notedAll a b notes)
 
 -- the size is that of the records, and they are noted where a table may have so many
 pub record Measured (a b notes : List ℕ) (fs : List File) (size : Size) : Type 0 where
