@@ -182,10 +182,10 @@ written-found : (id type : ℕ) (b : Body (kindOf type)) (t l u : List ℕ) → 
 written-found id type b t l u h bs e =
     let q = written-header id type (bodyBytes (kindOf type) b ++ t) l h e in
     subst FoundAs (q .1) (λ b e.
-      let w : ℕ = headerOf id type in
-      let k : Kind = kindOf (typeOf w) in
-      found-fields (l ++ u) k b (idOf w) (length l) (messageIn (l ++ u)) (spans-are-fields (l ++ u) (w, b) (length l) bs (written-reads-back id type b t l e u))
-      ∙ ap (λ (i : ℕ). finds i (fieldsOf k b) (length l)) (q .0)) b e
+    let w : ℕ = headerOf id type in
+    let k : Kind = kindOf (typeOf w) in
+    found-fields (l ++ u) k b (idOf w) (length l) (messageIn (l ++ u)) (spans-are-fields (l ++ u) (w, b) (length l) bs (written-reads-back id type b t l e u))
+    ∙ ap (λ (i : ℕ). finds i (fieldsOf k b) (length l)) (q .0)) b e
   where
     FoundAs : ℕ → Type 0
     FoundAs k = (b : Body (kindOf k)) → writing message id type (bodyBytes (kindOf k) b ++ t) ≡ gives l → found (l ++ u) ≡ finds id (fieldsOf (kindOf k) b) (length l)
