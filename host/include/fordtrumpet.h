@@ -182,7 +182,8 @@ uint32_t bep_check_table(const uint8_t *table, size_t table_len);
  * then the encoded bytes from Flags to the end. Names don't count. answer[0] is 0 where the first is
  * the older, 1 where they are equal, 2 where it is the newer.
  *
- * It checks bounds alone. Returns 0, or 1 and zero where the fields of one aren't wholly there.
+ * It checks bounds alone. Returns 0, or 1 where the fields of one aren't wholly there: answer[0] is then
+ * the first byte of the field that isn't, of the first record that is cut short.
  */
 uint32_t bep_compare(const uint8_t *a, size_t a_len, size_t i,
                      const uint8_t *b, size_t b_len, size_t j, uint64_t answer[1]);

@@ -110,7 +110,8 @@ unsafe extern "C" {
 
     /// Compares the record at a place of one array with that at a place of another, by bounds checks
     /// alone: `answer[0]` is 0 where the first is older, 1 where they are equal, 2 where it is newer.
-    /// Gives 1, and 0, where the fields of one aren't wholly there.
+    /// Where the fields of one aren't wholly there it gives 1, and `answer[0]` is the first byte of the
+    /// field that isn't, of the first record that is cut short.
     pub fn bep_compare(
         a: *const u8,
         a_len: usize,
