@@ -1,5 +1,5 @@
 -- `record::missing::missing_after` meets its contract.
-use mathlib.Core.Path.{refl, _∙_}
+use mathlib.Core.Path.{refl}
 use borrow.Author.Tests.{lt-ltb, le-ltb}
 use borrow.Author.Needs.{needs}
 use Rattle.record.proofs.missing.missing_after.Statement.{statement}

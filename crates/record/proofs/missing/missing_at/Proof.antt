@@ -1,6 +1,5 @@
 -- `record::missing::missing_at` meets its contract.
 use mathlib.Core.Path.{sym, _∙_}
-use native.Mathlib.Omega.{arith}
 use denote.Ref.{now}
 use Rattle.record.proofs.StringLaws.{StringThere, string-there, string-missing}
 use Rattle.record.proofs.MissingLaws.{record-name, record-rest}
