@@ -1,4 +1,10 @@
 // What a line is made of.
+ghost use mathlib.Core.Path.{_≡_};
+ghost use mathlib.Core.Bool.{not};
+ghost use lib.IntN.{natAbs};
+ghost use lib.Signed.{nonNeg};
+ghost use Rattle.record.specs.Modified.{signed};
+ghost use Rattle.listing.specs.Line.{isPlain};
 use libc::STDOUT_FILENO;
 use record::RecordFields;
 use walker::Step;
@@ -13,7 +19,9 @@ fn labelled(label: &[u8], n: u64) {
 }
 
 // Whether a byte of a name is printed as it is: control bytes are not, nor the backslash that they are written with.
-fn is_plain(b: u8) -> bool {
+fn is_plain(b: u8) -> bool
+    ensures { λ r. ⌜ r ≡ isPlain b ⌝ }
+{
     match b {
         0..=31 | 92 | 127 => false,
         _ => true,
@@ -39,13 +47,32 @@ fn name(s: &[u8]) {
     }
 }
 
-// Modified, which is signed.
-fn modified(m: u64) {
-    if m < 9223372036854775808 {
-        labelled(b" modified ", m);
-        return;
+// Whether Modified, which is signed, is below zero.
+fn is_negative(modified: u64) -> bool
+    ensures { λ r. ⌜ r ≡ not (nonNeg (signed modified)) ⌝ }
+{
+    if modified < 9223372036854775808 {
+        return false;
     }
-    labelled(b" modified -", 18446744073709551615 - m + 1);
+    true
+}
+
+// Modified without its sign.
+fn magnitude(modified: u64) -> u64
+    ensures { λ r. ⌜ r ≡ natAbs (signed modified) ⌝ }
+{
+    if modified < 9223372036854775808 {
+        return modified;
+    }
+    18446744073709551615 - modified + 1
+}
+
+fn modified(m: u64) {
+    text(b" modified ");
+    if is_negative(m) {
+        text(b"-");
+    }
+    io::print_decimal(STDOUT_FILENO, magnitude(m));
 }
 
 // Deleted, invalid, or the blocks of the file and their bytes.

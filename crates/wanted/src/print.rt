@@ -1,4 +1,6 @@
 // The lines.
+ghost use Prim.Native.Nat.{_/_};
+ghost use mathlib.Core.Path.{_≡_};
 use libc::STDOUT_FILENO;
 use xdr::Hyper;
 use xdr::Word;
@@ -40,9 +42,16 @@ fn entry(list: &[u8], i: usize) {
     }
 }
 
+// How many entries a list of so many bytes has.
+fn count_in(bytes: usize) -> usize
+    ensures { λ r. ⌜ r ≡ bytes / 24 ⌝ }
+{
+    bytes / ENTRY_BYTES
+}
+
 // A list of so many bytes.
 pub fn list(list: &[u8], bytes: usize) {
-    let count = bytes / ENTRY_BYTES;
+    let count = count_in(bytes);
     entries(list, count);
     labelled(b"wanted ", count as u64);
     text(b"\n");
