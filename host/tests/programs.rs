@@ -6,7 +6,7 @@ mod reference;
 mod support;
 
 use std::path::{Path, PathBuf};
-use std::process::Command;
+use std::process::{Command, Output, Stdio};
 use std::{env, fs};
 use support::encode::{Block, File};
 use support::tables::encode;
@@ -30,15 +30,20 @@ fn folder(program: &str, case: &str) -> PathBuf {
 }
 
 fn run_in(program: &str, folder: &Path) -> String {
+    let output = output(program, folder, Stdio::piped());
+    assert!(output.status.success());
+    String::from_utf8(output.stdout).unwrap()
+}
+
+fn output(program: &str, folder: &Path, stdout: Stdio) -> Output {
     let path = Path::new(env!("CARGO_MANIFEST_DIR"))
         .join("../target/bin")
         .join(program);
-    let output = Command::new(&path)
+    Command::new(&path)
         .current_dir(folder)
+        .stdout(stdout)
         .output()
-        .unwrap_or_else(|error| panic!("{}: {error} (`rt check {program}`)", path.display()));
-    assert!(output.status.success());
-    String::from_utf8(output.stdout).unwrap()
+        .unwrap_or_else(|error| panic!("{}: {error} (`rt check {program}`)", path.display()))
 }
 
 fn file(name: &str, blocks: impl Iterator<Item = u32>) -> File {
@@ -190,4 +195,25 @@ fn listing_prints_names_so_that_lines_can_be_told_apart() {
         printed,
         "0 a\\x7f \\x5cx41~ deleted modified -9223372036854775808 version 0\n"
     );
+}
+
+#[test]
+fn lines_that_are_lost_are_told_once_on_standard_error() {
+    let full = encode(&[file("a", 0..100)]);
+    let full: [(&str, &[u8]); 2] = [("peer1", &full), ("table", &full)];
+    for (case, files) in [("nothing_to_read", &full[..0]), ("lost_lines", &full)] {
+        for program in ["wanted", "listing"] {
+            let folder = folder(program, case);
+            for (name, bytes) in files {
+                fs::write(folder.join(name), bytes).unwrap();
+            }
+            let device = fs::OpenOptions::new().write(true).open("/dev/full");
+            let output = output(program, &folder, device.unwrap().into());
+            assert_eq!(
+                String::from_utf8(output.stderr).unwrap(),
+                "standard output: No space left on device\n",
+                "{program}, {case}"
+            );
+        }
+    }
 }

@@ -9,13 +9,21 @@ use libc::STDOUT_FILENO;
 use record::RecordFields;
 use walker::Step;
 
-pub fn text(s: &[u8]) {
-    io::write_all(STDOUT_FILENO, s);
+// Each function that prints tells whether all was written.
+pub fn text(s: &[u8]) -> bool {
+    io::write_all(STDOUT_FILENO, s)
 }
 
-fn labelled(label: &[u8], n: u64) {
-    text(label);
-    io::print_decimal(STDOUT_FILENO, n);
+fn labelled(label: &[u8], n: u64) -> bool {
+    text(label) && io::print_decimal(STDOUT_FILENO, n)
+}
+
+// Says on standard error that a line was lost, if it was.
+pub fn told(written: bool) -> bool {
+    if !written {
+        os::fail(b"standard output");
+    }
+    written
 }
 
 // Whether a byte of a name is printed as it is: control bytes are not, nor the backslash that they are written with.
@@ -29,22 +37,23 @@ fn is_plain(b: u8) -> bool
 }
 
 // A byte of a name: one that isn't plain in hexadecimal.
-fn name_byte(b: u8) {
+fn name_byte(b: u8) -> bool {
     if is_plain(b) {
         let one = [b];
-        text(&one);
-        return;
+        return text(&one);
     }
-    text(b"\\x");
-    io::print_hex(STDOUT_FILENO, b as u64, 2);
+    text(b"\\x") && io::print_hex(STDOUT_FILENO, b as u64, 2)
 }
 
-fn name(s: &[u8]) {
+fn name(s: &[u8]) -> bool {
     let mut i = 0;
     while i < s.len() {
-        name_byte(s[i]);
+        if !name_byte(s[i]) {
+            return false;
+        }
         i += 1;
     }
+    true
 }
 
 // Whether Modified, which is signed, is below zero.
@@ -67,49 +76,42 @@ fn magnitude(modified: u64) -> u64
     18446744073709551615 - modified + 1
 }
 
-fn modified(m: u64) {
-    text(b" modified ");
+fn modified(m: u64) -> bool {
     if is_negative(m) {
-        text(b"-");
+        return labelled(b" modified -", magnitude(m));
     }
-    io::print_decimal(STDOUT_FILENO, magnitude(m));
+    labelled(b" modified ", magnitude(m))
 }
 
 // Deleted, invalid, or the blocks of the file and their bytes.
-fn contents(table: &[u8], f: RecordFields) {
+fn contents(table: &[u8], f: RecordFields) -> bool {
     if record::is_deleted(f.flags) {
-        text(b" deleted");
-        return;
+        return text(b" deleted");
     }
     if record::is_invalid(f.flags) {
-        text(b" invalid");
-        return;
+        return text(b" invalid");
     }
-    labelled(b" blocks ", f.blocks as u64);
-    labelled(b" bytes ", record::offset_of(table, f.first, f.blocks));
+    labelled(b" blocks ", f.blocks as u64)
+        && labelled(b" bytes ", record::offset_of(table, f.first, f.blocks))
 }
 
-fn line(table: &[u8], number: u32, f: RecordFields) {
-    labelled(b"", number as u64);
-    text(b" ");
-    name(order::part(table, f.name, f.stop));
-    contents(table, f);
-    modified(f.modified);
-    labelled(b" version ", f.version as u64);
-    text(b"\n");
+fn line(table: &[u8], number: u32, f: RecordFields) -> bool {
+    labelled(b"", number as u64)
+        && text(b" ")
+        && name(order::part(table, f.name, f.stop))
+        && contents(table, f)
+        && modified(f.modified)
+        && labelled(b" version ", f.version as u64)
+        && text(b"\n")
 }
 
 // The line of a step, and whether the walk goes on.
 pub fn show(table: &[u8], number: u32, step: Step) -> bool {
     match step {
-        Step::Record(f) => {
-            line(table, number, f);
-            true
-        }
+        Step::Record(f) => told(line(table, number, f)),
         Step::End => false,
         Step::Refused(r) => {
-            labelled(b"refused ", r.number as u64);
-            text(b"\n");
+            told(labelled(b"refused ", r.number as u64) && text(b"\n"));
             false
         }
     }

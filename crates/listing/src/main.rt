@@ -21,7 +21,7 @@ fn main() {
     let name = [b't', b'a', b'b', b'l', b'e'];
     let fd = os::open_read(&name);
     if fd < 0 {
-        line::text(b"refused 15\n");
+        line::told(line::text(b"refused 15\n"));
         return;
     }
     // one byte more than a table may have

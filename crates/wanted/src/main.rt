@@ -23,8 +23,11 @@ fn main() {
     };
     let mut out = [0u8; 65536];
     let answer = request::list(&local, &peer1, &peer2, &peer3, &peer4, sizes, &mut out);
-    match answer {
+    let written = match answer {
         Filling::Filled(n) => print::list(&out, n),
         Filling::Refused(r) => print::refused(r.number),
+    };
+    if !written {
+        os::fail(b"standard output");
     }
 }

@@ -8,38 +8,42 @@ use xdr::Word;
 // Bytes of an entry: file, block, offset, length and peer.
 const ENTRY_BYTES: usize = 24;
 
-fn text(s: &[u8]) {
-    io::write_all(STDOUT_FILENO, s);
+// Each function that prints tells whether all was written.
+fn text(s: &[u8]) -> bool {
+    io::write_all(STDOUT_FILENO, s)
 }
 
-fn labelled(label: &[u8], n: u64) {
-    text(label);
-    io::print_decimal(STDOUT_FILENO, n);
+fn labelled(label: &[u8], n: u64) -> bool {
+    text(label) && io::print_decimal(STDOUT_FILENO, n)
 }
 
-fn word(label: &[u8], list: &[u8], at: usize) {
+// A field that isn't there is not printed.
+fn word(label: &[u8], list: &[u8], at: usize) -> bool {
     if let Word::Taken(n, _) = xdr::read_word(list, at) {
-        labelled(label, n as u64);
+        return labelled(label, n as u64);
     }
+    true
 }
 
-fn hyper(label: &[u8], list: &[u8], at: usize) {
+fn hyper(label: &[u8], list: &[u8], at: usize) -> bool {
     if let Hyper::Taken(n, _) = xdr::read_hyper(list, at) {
-        labelled(label, n);
+        return labelled(label, n);
     }
+    true
 }
 
-fn entry(list: &[u8], i: usize) {
+fn entry(list: &[u8], i: usize) -> bool {
     // so that the product can't overflow; a list has at most 2,730
-    if i < 100000 {
-        let at = i * ENTRY_BYTES;
-        word(b"file ", list, at);
-        word(b" block ", list, at + 4);
-        hyper(b" offset ", list, at + 8);
-        word(b" length ", list, at + 16);
-        word(b" peer ", list, at + 20);
-        text(b"\n");
+    if i >= 100000 {
+        return true;
     }
+    let at = i * ENTRY_BYTES;
+    word(b"file ", list, at)
+        && word(b" block ", list, at + 4)
+        && hyper(b" offset ", list, at + 8)
+        && word(b" length ", list, at + 16)
+        && word(b" peer ", list, at + 20)
+        && text(b"\n")
 }
 
 // How many entries a list of so many bytes has.
@@ -50,20 +54,20 @@ fn count_in(bytes: usize) -> usize
 }
 
 // A list of so many bytes.
-pub fn list(list: &[u8], bytes: usize) {
+pub fn list(list: &[u8], bytes: usize) -> bool {
     let count = count_in(bytes);
-    entries(list, count);
-    labelled(b"wanted ", count as u64);
-    text(b"\n");
+    entries(list, count) && labelled(b"wanted ", count as u64) && text(b"\n")
 }
 
-fn entries(list: &[u8], count: usize) {
+fn entries(list: &[u8], count: usize) -> bool {
     for i in 0..count {
-        entry(list, i);
+        if !entry(list, i) {
+            return false;
+        }
     }
+    true
 }
 
-pub fn refused(number: u32) {
-    labelled(b"refused ", number as u64);
-    text(b"\n");
+pub fn refused(number: u32) -> bool {
+    labelled(b"refused ", number as u64) && text(b"\n")
 }
