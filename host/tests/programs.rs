@@ -7,7 +7,8 @@ mod support;
 
 use std::path::{Path, PathBuf};
 use std::process::{Command, Output, Stdio};
-use std::{env, fs};
+use std::time::Duration;
+use std::{env, fs, thread};
 use support::encode::{Block, File};
 use support::tables::encode;
 
@@ -36,14 +37,19 @@ fn run_in(program: &str, folder: &Path) -> String {
 }
 
 fn output(program: &str, folder: &Path, stdout: Stdio) -> Output {
+    command(program, folder)
+        .stdout(stdout)
+        .output()
+        .unwrap_or_else(|error| panic!("{program}: {error} (`rt check {program}`)"))
+}
+
+fn command(program: &str, folder: &Path) -> Command {
     let path = Path::new(env!("CARGO_MANIFEST_DIR"))
         .join("../target/bin")
         .join(program);
-    Command::new(&path)
-        .current_dir(folder)
-        .stdout(stdout)
-        .output()
-        .unwrap_or_else(|error| panic!("{}: {error} (`rt check {program}`)", path.display()))
+    let mut command = Command::new(path);
+    command.current_dir(folder);
+    command
 }
 
 fn file(name: &str, blocks: impl Iterator<Item = u32>) -> File {
@@ -215,5 +221,35 @@ fn lines_that_are_lost_are_told_once_on_standard_error() {
                 "{program}, {case}"
             );
         }
+    }
+}
+
+#[test]
+fn a_pipe_is_a_file_that_cannot_be_read() {
+    for (program, name) in [
+        ("wanted", "local"),
+        ("wanted", "peer4"),
+        ("listing", "table"),
+    ] {
+        let folder = folder(program, &format!("pipe_{name}"));
+        let made = Command::new("mkfifo").arg(folder.join(name)).status();
+        assert!(made.unwrap().success());
+        let mut child = command(program, &folder)
+            .stdout(Stdio::piped())
+            .spawn()
+            .unwrap();
+        // A program that waits for the pipe's other end would wait without end.
+        let mut patience = 1_000;
+        while child.try_wait().unwrap().is_none() {
+            patience -= 1;
+            if patience == 0 {
+                child.kill().unwrap();
+                panic!("{program} waits for {name}");
+            }
+            thread::sleep(Duration::from_millis(10));
+        }
+        let output = child.wait_with_output().unwrap();
+        assert!(output.status.success());
+        assert_eq!(output.stdout, b"refused 15\n", "{program}, {name}");
     }
 }

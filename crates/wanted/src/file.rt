@@ -3,6 +3,7 @@ ghost use Prim.Native.Nat.{_≤_};
 ghost use lib.ListN.{length};
 ghost use Rattle.xdr.specs.Buffer.{Puts};
 ghost use Rattle.wanted.specs.File.{standIn};
+use files::Opened;
 
 // Puts into a buffer what stands in for a file that can't be opened, and gives how many bytes there are.
 fn stand_in(absent: bool, buf: &mut [u8]) -> usize
@@ -20,12 +21,14 @@ fn stand_in(absent: bool, buf: &mut [u8]) -> usize
 pub fn load(name: &[u8], buf: &mut [u8]) -> usize
     ensures { λ r. ⌜ r ≤ length (now (buf .exit)) ⌝ }
 {
-    let fd = os::open_read(name);
-    if fd < 0 {
-        let absent = os::errno() == libc::ENOENT;
-        return stand_in(absent, buf);
+    let opened = files::open(name);
+    match opened {
+        Opened::File(fd) => {
+            let n = io::read_full(fd, buf);
+            libc::close(fd);
+            n
+        }
+        Opened::Absent => stand_in(true, buf),
+        Opened::Unreadable => stand_in(false, buf),
     }
-    let n = io::read_full(fd, buf);
-    libc::close(fd);
-    n
 }
