@@ -24,6 +24,7 @@ entries-spec =
     μ-loop
     loop-holds
     (λ c κs. search needs)
+    (λ c κs. search needs)
     (λ c. search needs)
     (λ c. search needs)
     (λ c. search needs)

@@ -1,0 +1,2 @@
+-- The laws of a list's entries.
+pub mod EntryLaws
