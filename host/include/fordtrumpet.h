@@ -151,7 +151,8 @@ uint32_t bep_write_options(uint8_t *out, size_t out_len, uint32_t id,
  *   [7]      the place of the first block; each has 40 bytes: a word with its length, a word with
  *            the hash's length, and the 32 bytes of the hash
  *
- * It checks bounds alone. Returns 0, or 1 and all zeros where the fields aren't wholly there.
+ * It checks bounds alone. Returns 0, or 1 where the fields aren't wholly there: answer[0] is then the
+ * first byte of the field that isn't, and the others are zeros.
  */
 uint32_t bep_file(const uint8_t *files, size_t files_len, size_t at, uint64_t answer[8]);
 
@@ -162,7 +163,8 @@ uint32_t bep_file(const uint8_t *files, size_t files_len, size_t at, uint64_t an
  *   [1] [2]  start and length of its key in the array
  *   [3] [4]  start and length of its value in the array
  *
- * It checks bounds alone. Returns 0, or 1 and all zeros where the fields aren't wholly there.
+ * It checks bounds alone. Returns 0, or 1 where the fields aren't wholly there: answer[0] is then the
+ * first byte of the field that isn't, and the others are zeros.
  */
 uint32_t bep_option(const uint8_t *options, size_t options_len, size_t at, uint64_t answer[5]);
 
@@ -180,7 +182,8 @@ uint32_t bep_check_table(const uint8_t *table, size_t table_len);
  * then the encoded bytes from Flags to the end. Names don't count. answer[0] is 0 where the first is
  * the older, 1 where they are equal, 2 where it is the newer.
  *
- * It checks bounds alone. Returns 0, or 1 and zero where the fields of one aren't wholly there.
+ * It checks bounds alone. Returns 0, or 1 where the fields of one aren't wholly there: answer[0] is then
+ * the first byte of the field that isn't, of the first record that is cut short.
  */
 uint32_t bep_compare(const uint8_t *a, size_t a_len, size_t i,
                      const uint8_t *b, size_t b_len, size_t j, uint64_t answer[1]);
@@ -266,6 +269,9 @@ enum {
  * queue of window 0, which every call but the totals refuses.
  */
 uint32_t bep_queue_open(uint32_t queue[BEP_QUEUE_WORDS], uint32_t window);
+
+/* Opens an empty queue with the default window, which is 16. Returns 0. */
+uint32_t bep_queue_open_default(uint32_t queue[BEP_QUEUE_WORDS]);
 
 /*
  * Writes a Request with the next ID and appends it to the queue. Refused with what the fields give, 16,

@@ -89,13 +89,15 @@ unsafe extern "C" {
     ///
     /// `answer[0]` is the place past it, `[1]` and `[2]` start and length of its name, `[3]` the
     /// flags, `[4]` the 64 bits of modified, `[5]` the version, `[6]` the number of blocks and `[7]`
-    /// the place of the first. Gives 1, and zeros, where the fields aren't wholly there.
+    /// the place of the first. Where the fields aren't wholly there it gives 1, and `answer[0]` is the
+    /// first byte of the field that isn't.
     pub fn bep_file(files: *const u8, files_len: usize, at: usize, answer: *mut [u64; 8]) -> u32;
 
     /// The option at a place of an array whose reading was accepted, by bounds checks alone.
     ///
     /// `answer[0]` is the place past it, `[1]` and `[2]` start and length of its key, `[3]` and
-    /// `[4]` of its value. Gives 1, and zeros, where the fields aren't wholly there.
+    /// `[4]` of its value. Where the fields aren't wholly there it gives 1, and `answer[0]` is the first
+    /// byte of the field that isn't.
     pub fn bep_option(
         options: *const u8,
         options_len: usize,
@@ -108,7 +110,8 @@ unsafe extern "C" {
 
     /// Compares the record at a place of one array with that at a place of another, by bounds checks
     /// alone: `answer[0]` is 0 where the first is older, 1 where they are equal, 2 where it is newer.
-    /// Gives 1, and 0, where the fields of one aren't wholly there.
+    /// Where the fields of one aren't wholly there it gives 1, and `answer[0]` is the first byte of the
+    /// field that isn't, of the first record that is cut short.
     pub fn bep_compare(
         a: *const u8,
         a_len: usize,
@@ -196,6 +199,9 @@ unsafe extern "C" {
     /// Opens an empty queue of outstanding requests: its words are the window, the next ID, the count,
     /// and the ID and the length of each of 16 entries. Refused (22), the window is 0.
     pub fn bep_queue_open(queue: *mut [u32; 35], window: u32) -> u32;
+
+    /// Opens an empty queue with the default window.
+    pub fn bep_queue_open_default(queue: *mut [u32; 35]) -> u32;
 
     /// Writes a Request with the next ID and appends it. `answer[0]` is the number of bytes written and
     /// `[1]` the ID; refused, they are the place and 0.

@@ -58,7 +58,7 @@ pub enum Outcome<'a> {
 }
 
 impl RequestQueue {
-    /// The largest window, which is the default too.
+    /// The largest window.
     pub const WINDOW: u32 = 16;
 
     /// An empty queue with the default window.
@@ -69,7 +69,11 @@ impl RequestQueue {
     /// assert_eq!(RequestQueue::open().outstanding(), 0);
     /// ```
     pub fn open() -> Self {
-        Self::open_with(Self::WINDOW).expect("the default window is one of those there are")
+        let mut words = [0; 35];
+        // SAFETY: the queue has the size asked for.
+        let number = unsafe { ffi::bep_queue_open_default(&mut words) };
+        assert_eq!(number, 0, "the default window is one of those there are");
+        RequestQueue { words }
     }
 
     /// An empty queue with this window.

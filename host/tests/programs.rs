@@ -6,8 +6,9 @@ mod reference;
 mod support;
 
 use std::path::{Path, PathBuf};
-use std::process::Command;
-use std::{env, fs};
+use std::process::{Command, Output, Stdio};
+use std::time::Duration;
+use std::{env, fs, thread};
 use support::encode::{Block, File};
 use support::tables::encode;
 
@@ -30,15 +31,25 @@ fn folder(program: &str, case: &str) -> PathBuf {
 }
 
 fn run_in(program: &str, folder: &Path) -> String {
+    let output = output(program, folder, Stdio::piped());
+    assert!(output.status.success());
+    String::from_utf8(output.stdout).unwrap()
+}
+
+fn output(program: &str, folder: &Path, stdout: Stdio) -> Output {
+    command(program, folder)
+        .stdout(stdout)
+        .output()
+        .unwrap_or_else(|error| panic!("{program}: {error} (`rt check {program}`)"))
+}
+
+fn command(program: &str, folder: &Path) -> Command {
     let path = Path::new(env!("CARGO_MANIFEST_DIR"))
         .join("../target/bin")
         .join(program);
-    let output = Command::new(&path)
-        .current_dir(folder)
-        .output()
-        .unwrap_or_else(|error| panic!("{}: {error} (`rt check {program}`)", path.display()));
-    assert!(output.status.success());
-    String::from_utf8(output.stdout).unwrap()
+    let mut command = Command::new(path);
+    command.current_dir(folder);
+    command
 }
 
 fn file(name: &str, blocks: impl Iterator<Item = u32>) -> File {
@@ -190,4 +201,55 @@ fn listing_prints_names_so_that_lines_can_be_told_apart() {
         printed,
         "0 a\\x7f \\x5cx41~ deleted modified -9223372036854775808 version 0\n"
     );
+}
+
+#[test]
+fn lines_that_are_lost_are_told_once_on_standard_error() {
+    let full = encode(&[file("a", 0..100)]);
+    let full: [(&str, &[u8]); 2] = [("peer1", &full), ("table", &full)];
+    for (case, files) in [("nothing_to_read", &full[..0]), ("lost_lines", &full)] {
+        for program in ["wanted", "listing"] {
+            let folder = folder(program, case);
+            for (name, bytes) in files {
+                fs::write(folder.join(name), bytes).unwrap();
+            }
+            let device = fs::OpenOptions::new().write(true).open("/dev/full");
+            let output = output(program, &folder, device.unwrap().into());
+            assert_eq!(
+                String::from_utf8(output.stderr).unwrap(),
+                "standard output: No space left on device\n",
+                "{program}, {case}"
+            );
+        }
+    }
+}
+
+#[test]
+fn a_pipe_is_a_file_that_cannot_be_read() {
+    for (program, name) in [
+        ("wanted", "local"),
+        ("wanted", "peer4"),
+        ("listing", "table"),
+    ] {
+        let folder = folder(program, &format!("pipe_{name}"));
+        let made = Command::new("mkfifo").arg(folder.join(name)).status();
+        assert!(made.unwrap().success());
+        let mut child = command(program, &folder)
+            .stdout(Stdio::piped())
+            .spawn()
+            .unwrap();
+        // A program that waits for the pipe's other end would wait without end.
+        let mut patience = 1_000;
+        while child.try_wait().unwrap().is_none() {
+            patience -= 1;
+            if patience == 0 {
+                child.kill().unwrap();
+                panic!("{program} waits for {name}");
+            }
+            thread::sleep(Duration::from_millis(10));
+        }
+        let output = child.wait_with_output().unwrap();
+        assert!(output.status.success());
+        assert_eq!(output.stdout, b"refused 15\n", "{program}, {name}");
+    }
 }

@@ -121,7 +121,7 @@ found-refused m {f} {r} {g} e q s old expected = go (readAt message m 0) refl �
 
 -- an array that was read at a place
 
-read-there : {A : Type 0} (k : ℕ) (r : Reading A) {a : A} {m : ℕ} → shifted k r ≡ taken a m → (r ≡ taken a (m - k)) × (k ≤ m)
+pub read-there : {A : Type 0} (k : ℕ) (r : Reading A) {a : A} {m : ℕ} → shifted k r ≡ taken a m → (r ≡ taken a (m - k)) × (k ≤ m)
 read-there k (taken b u) {a} {m} e = let n : m ≡ k + u = cc in let v : m - k ≡ u = omega arith in (ap (taken b) (sym v) ∙ cc, omega arith)
 read-there k (unread n p) e = let z : _≡_ {A = ℕ} 0 1 = cc in absurd (omega arith)
 

@@ -2,6 +2,6 @@
 mod FillingLaws
 mod TableLaws
 mod StepLaws
-mod PackLaws
+pub mod PackLaws
 mod RequestLaws
 pub mod Unchanged

@@ -9,6 +9,7 @@ use lib.Seq.{paste, paste-suc, set-at, append-snoc, take-all, take-suc, getD-dro
 use Rattle.link.specs.Requests.{blank}
 use Rattle.link.specs.declared.request.Request.{Request}
 use Rattle.link.specs.declared.list.Link.{Link}
+use Rattle.queue.specs.declared.queue.RequestQueue.{RequestQueue}
 use Rattle.bep.specs.Queues.{tabulated, entryAt, queueOf, pairs, wordsOf}
 
 -- twice a number, one further
@@ -117,3 +118,27 @@ words-back ws l =
     let short : length (drop 3 ws) ≤ 32 = rw (length-drop 3 ws) (omega arith) in
     ap (λ (r : List ℕ). getD ws 0 0 ∷ getD ws 1 0 ∷ getD ws 2 0 ∷ r) (pairs-tabulated ws 16 (omega arith) ∙ take-all 32 (drop 3 ws) short)
     ∙ heads-back ws (omega arith)
+
+-- a queue laid out and taken up again is the same: the next call goes on where this one ended
+
+tabulated-same : {X : Type 0} (f g : ℕ → X) → ((i : ℕ) → f i ≡ g i) → (n : ℕ) → tabulated f n ≡ tabulated g n
+tabulated-same f g e zero = refl
+tabulated-same f g e (suc n) = ap (λ (l : List _). l ++ (f n ∷ [])) (tabulated-same f g e n) ∙ ap (λ (x : _). tabulated g n ++ (x ∷ [])) (e n)
+
+tabulated-take : (es : List Request) (n : ℕ) → n ≤ length es → tabulated (λ i. getD es i blank) n ≡ take n es
+tabulated-take es zero h = refl
+tabulated-take es (suc n) h = ap (λ (l : List Request). l ++ (getD es n blank ∷ [])) (tabulated-take es n (omega arith)) ∙ sym (take-suc es n blank (omega arith))
+
+entry-back : (q : RequestQueue) (i : ℕ) → entryAt (wordsOf q) i ≡ getD (q .link .entries) i blank
+entry-back q i =
+    let ws : List ℕ = wordsOf q in
+    let a : 3 + 2 * i ≡ suc (suc (suc (2 * i))) = omega arith in
+    let c : 4 + 2 * i ≡ suc (suc (suc (suc (2 * i)))) = omega arith in
+    let id : getD ws (3 + 2 * i) 0 ≡ getD (q .link .entries) i blank .id = ap (λ (k : ℕ). getD ws k 0) a ∙ pair-id (q .link .entries) i in
+    let size : getD ws (4 + 2 * i) 0 ≡ getD (q .link .entries) i blank .size = ap (λ (k : ℕ). getD ws k 0) c ∙ pair-length (q .link .entries) i in
+    ap (λ (k : ℕ). record { id = k; size = getD ws (4 + 2 * i) 0 }) id ∙ ap (λ (k : ℕ). record { id = getD (q .link .entries) i blank .id; size = k }) size
+
+pub queue-back : (q : RequestQueue) → length (q .link .entries) ≡ 16 → queueOf (wordsOf q) ≡ q
+queue-back q long =
+    ap (λ (es : List Request). record { link = record { window = q .link .window; next = q .link .next; count = q .link .count; entries = es } })
+    (tabulated-same (entryAt (wordsOf q)) (λ i. getD (q .link .entries) i blank) (entry-back q) 16 ∙ tabulated-take (q .link .entries) 16 (omega (arith, long)) ∙ take-all 16 (q .link .entries) (omega (arith, long)))

@@ -4,6 +4,7 @@ use mathlib.Core.List.{List, [], _∷_}
 use mathlib.Core.Path.{_≡_}
 use mathlib.Core.Bool.{Bool, cond}
 use Rattle.record.specs.Outline.{outlineOf}
+use Rattle.record.specs.Missing.{missingOf}
 use Rattle.record.specs.declared.outline.Outline.{Outline}
 use Rattle.record.specs.declared.outline.Outline.the-variants as O
 use Rattle.table.specs.Newest.{compareAt}
@@ -26,12 +27,12 @@ comparedNumber O.Short o = 1
 comparedNumber (O.Whole f) O.Short = 1
 comparedNumber (O.Whole f) (O.Whole g) = 0
 
--- how two records compare that are wholly there; else 0
-abbrev pub comparedWords : List ℕ → Outline → List ℕ → Outline → List ℕ
-comparedWords a O.Short b o = 0 ∷ []
-comparedWords a (O.Whole f) b O.Short = 0 ∷ []
-comparedWords a (O.Whole f) b (O.Whole g) = orderWord (compareAt a f b g) ∷ []
+-- how two records compare that are wholly there; else the place of the field that isn't, of the first that is cut short
+abbrev pub comparedWords : List ℕ → ℕ → Outline → List ℕ → ℕ → Outline → List ℕ
+comparedWords a i O.Short b j o = missingOf a i ∷ []
+comparedWords a i (O.Whole f) b j O.Short = missingOf b j ∷ []
+comparedWords a i (O.Whole f) b j (O.Whole g) = orderWord (compareAt a f b g) ∷ []
 
 -- the records at places of two tables are so compared
 abbrev pub Compares : (a : List ℕ) → (i : ℕ) → (b : List ℕ) → (j number : ℕ) → (words : List ℕ) → Type 0
-Compares a i b j number words = (number ≡ comparedNumber (outlineOf a i) (outlineOf b j)) × (words ≡ comparedWords a (outlineOf a i) b (outlineOf b j))
+Compares a i b j number words = (number ≡ comparedNumber (outlineOf a i) (outlineOf b j)) × (words ≡ comparedWords a i (outlineOf a i) b j (outlineOf b j))

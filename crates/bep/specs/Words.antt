@@ -1,6 +1,6 @@
 -- The number that each call returns, and the words of its answer. A message's words are its end, its type, its ID and then its fields,
--- a span by its start and its length; those of a message that is refused are the place and zeros. A record or an option that is not there
--- gives the number 1 and zeros.
+-- a span by its start and its length; those of a message that is refused are the place and zeros. So a record or an option that is not there
+-- gives the number 1, and the place of the field that isn't.
 use Prim.Native.Nat.{ℕ, _-_}
 use mathlib.Core.List.{List, [], _∷_}
 use lib.ListN.{replicate}
@@ -71,10 +71,10 @@ readNumber (M.Refused r) = r .number
 abbrev pub fieldWords : RecordFields → List ℕ
 fieldWords f = f .past ∷ f .name ∷ (f .stop - f .name) ∷ f .flags ∷ f .modified ∷ f .version ∷ f .blocks ∷ f .first ∷ []
 
--- a file that is there, or zeros
-abbrev pub fileWords : Outline → List ℕ
-fileWords (O.Whole f) = fieldWords f
-fileWords O.Short = replicate 8 0
+-- a file that is there, or the place of its field that isn't, and zeros
+abbrev pub fileWords : (missing : ℕ) → Outline → List ℕ
+fileWords missing (O.Whole f) = fieldWords f
+fileWords missing O.Short = missing ∷ replicate 7 0
 
 -- 0, or 1 where the file isn't there
 abbrev pub fileNumber : Outline → ℕ
@@ -85,10 +85,10 @@ fileNumber O.Short = 1
 abbrev pub keyWords : OptionFields → List ℕ
 keyWords f = f .past ∷ f .key ∷ f .«key_length» ∷ f .value ∷ f .«value_length» ∷ []
 
--- an option that is there, or zeros
-abbrev pub optionWords : OptionOutline → List ℕ
-optionWords (K.Whole f) = keyWords f
-optionWords K.Short = replicate 5 0
+-- an option that is there, or the place of its field that isn't, and zeros
+abbrev pub optionWords : (missing : ℕ) → OptionOutline → List ℕ
+optionWords missing (K.Whole f) = keyWords f
+optionWords missing K.Short = missing ∷ replicate 4 0
 
 -- 0, or 1 where the option isn't there
 abbrev pub optionNumber : OptionOutline → ℕ

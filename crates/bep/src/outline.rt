@@ -1,9 +1,10 @@
 // The records of an array that was read, one by one: by bounds checks alone. Where a record is not wholly there, the number is 1 and the
-// answer zeros. A step over a table checks the table whole.
+// answer the place of the field that isn't, and zeros. A step over a table checks the table whole.
 ghost use Prim.Native.Nat.{_≤_};
 ghost use mathlib.Core.Path.{_≡_};
 ghost use Rattle.record.specs.Outline.{outlineOf};
 ghost use Rattle.record.specs.OptionOutline.{optionOf};
+ghost use Rattle.record.specs.Missing.{missingOf, missingOption};
 ghost use Rattle.walker.specs.Walk.{stepAt};
 ghost use Rattle.bep.specs.Words.{fieldWords, fileWords, fileNumber, keyWords, optionWords, optionNumber, stepNumber, stepWords};
 use record::OptionFields;
@@ -45,11 +46,12 @@ fn key_words(f: OptionFields) -> [u64; 5]
 // The file at a place.
 #[no_mangle]
 pub extern "C" fn bep_file(files: &[u8], at: usize, answer: &mut [u64; 8]) -> u32
-    ensures { λ r. ⌜ (r ≡ fileNumber (outlineOf (now (files .entry)) at)) × (now (answer .exit) ≡ fileWords (outlineOf (now (files .entry)) at)) ⌝ }
+    ensures { λ r. ⌜ (r ≡ fileNumber (outlineOf (now (files .entry)) at))
+        × (now (answer .exit) ≡ fileWords (missingOf (now (files .entry)) at) (outlineOf (now (files .entry)) at)) ⌝ }
 {
     let outline = record::outline_at(files, at);
     let Outline::Whole(f) = outline else {
-        *answer = [0; 8];
+        *answer = [record::missing_at(files, at) as u64, 0, 0, 0, 0, 0, 0, 0];
         return 1;
     };
     *answer = field_words(f);
@@ -60,11 +62,11 @@ pub extern "C" fn bep_file(files: &[u8], at: usize, answer: &mut [u64; 8]) -> u3
 #[no_mangle]
 pub extern "C" fn bep_option(options: &[u8], at: usize, answer: &mut [u64; 5]) -> u32
     ensures { λ r. ⌜ (r ≡ optionNumber (optionOf (now (options .entry)) at))
-        × (now (answer .exit) ≡ optionWords (optionOf (now (options .entry)) at)) ⌝ }
+        × (now (answer .exit) ≡ optionWords (missingOption (now (options .entry)) at) (optionOf (now (options .entry)) at)) ⌝ }
 {
     let outline = record::option_at(options, at);
     let OptionOutline::Whole(f) = outline else {
-        *answer = [0; 5];
+        *answer = [record::option_missing_at(options, at) as u64, 0, 0, 0, 0];
         return 1;
     };
     *answer = key_words(f);

@@ -5,7 +5,7 @@ ghost use mathlib.Core.Path.{_≡_};
 ghost use lib.Seq.{paste};
 ghost use Rattle.message.specs.Answers.{messageIn};
 ghost use Rattle.message_write.specs.Writing.{requestBytes};
-ghost use Rattle.queue.specs.Queue.{opening, dropOf};
+ghost use Rattle.queue.specs.Queue.{defaultWindow, opening, dropOf};
 ghost use Rattle.bep.specs.Filling.{fillingNumber};
 ghost use Rattle.bep.specs.Queues.{queueOf, pairs, wordsOf, verdictNumber, Becomes, issuedWords, QueueIssues, releaseNumber, releaseWords, QueueAnswers, totalWords};
 use link::Link;
@@ -120,6 +120,18 @@ pub extern "C" fn bep_queue_open(queue: &mut [u32; 35], window: u32) -> u32
     ensures { λ r. ⌜ Becomes (opening window) r (now (queue .exit)) ⌝ }
 {
     let d = RequestQueue::open_with(window);
+    let q = d.queue;
+    *queue = packed(q);
+    let o = d.verdict;
+    verdict_number(o)
+}
+
+// Opens an empty queue with the default window.
+#[no_mangle]
+pub extern "C" fn bep_queue_open_default(queue: &mut [u32; 35]) -> u32
+    ensures { λ r. ⌜ Becomes (opening defaultWindow) r (now (queue .exit)) ⌝ }
+{
+    let d = RequestQueue::open();
     let q = d.queue;
     *queue = packed(q);
     let o = d.verdict;

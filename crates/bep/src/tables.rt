@@ -39,11 +39,11 @@ pub extern "C" fn bep_compare(a: &[u8], i: usize, b: &[u8], j: usize, answer: &m
     let first = record::outline_at(a, i);
     let second = record::outline_at(b, j);
     let Outline::Whole(f) = first else {
-        *answer = [0];
+        *answer = [record::missing_at(a, i) as u64];
         return 1;
     };
     let Outline::Whole(g) = second else {
-        *answer = [0];
+        *answer = [record::missing_at(b, j) as u64];
         return 1;
     };
     *answer = [order_word(table::compare_records(a, f, b, g))];

@@ -1,4 +1,6 @@
 // What the programs' lines are made of, on standard output.
+ghost use mathlib.Core.Path.{_≡_};
+ghost use Rattle.lines.specs.Buffer.{isUntouched};
 use libc::STDOUT_FILENO;
 use xdr::Refusal;
 
@@ -29,7 +31,9 @@ pub fn refusal(r: Refusal) {
 }
 
 // Whether a buffer still holds what the cases fill it with before a call.
-fn untouched(out: &[u8]) -> bool {
+fn untouched(out: &[u8]) -> bool
+    ensures { λ r. ⌜ r ≡ isUntouched (now (out .entry)) ⌝ }
+{
     let mut i = 0;
     while i < out.len() {
         if out[i] != 0xee {
@@ -40,12 +44,18 @@ fn untouched(out: &[u8]) -> bool {
     true
 }
 
+// What a call left of the buffer.
+pub fn buffer(out: &[u8]) {
+    if untouched(out) {
+        text(b", buffer as it was");
+    } else {
+        text(b", buffer changed");
+    }
+}
+
 // What a refused call left of the buffer, and the refusal.
 pub fn refused(out: &[u8], r: Refusal) {
-    if untouched(out) {
-        text(b", buffer as it was: ");
-    } else {
-        text(b", buffer CHANGED: ");
-    }
+    buffer(out);
+    text(b": ");
     refusal(r);
 }

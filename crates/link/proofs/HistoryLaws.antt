@@ -16,7 +16,7 @@ use Rattle.message_write.specs.Writing.{requestBytes}
 use Rattle.xdr.proofs.FillingLaws.{given-room}
 use Rattle.link.specs.Requests.{isConsecutive}
 use Rattle.link.specs.OneLink.{outstanding, windowFits, emptyLink, issuing, appended, issuedLink, withoutOldest, released, answeredBy, emptied}
-use Rattle.link.specs.History.{LinkCall, issue, answer, drop, Event, issueWas, answerWas, dropWas, afterCall, event, final, history, issued, settles, settled, kept, standing}
+use Rattle.link.specs.History.{LinkCall, issue, answer, drop, Event, issueWas, answerWas, dropWas, afterCall, event, final, history, issued, settles, settled, kept, standing, issuedIds, idsFrom}
 use Rattle.link.specs.declared.request.Request.{Request}
 use Rattle.link.specs.declared.list.Link.{Link}
 use Rattle.link.specs.declared.outcome.LinkAnswered.{LinkAnswered}
@@ -176,3 +176,23 @@ window-kept drop q = refl
 pub windows-kept : (cs : List LinkCall) (q : Link) → final q cs .window ≡ q .window
 windows-kept [] q = refl
 windows-kept (c ∷ cs) q = windows-kept cs (afterCall q c) ∙ window-kept c q
+
+-- the IDs issued follow one another from the next ID on: no other call than an accepted issue takes one
+
+next-answered : (q : Link) (m : ResponseIn) → answeredBy q m .link .next ≡ q .next
+next-answered q m = go (answeredBy q m) (answer-was q m)
+  where
+    go : (a : LinkAnswered) → AnswerWas q m a → a .link .next ≡ q .next
+    go a (refusedSo r) = refl
+    go a (freed id x r rs k o s) = refl
+
+pub ids-follow : (cs : List LinkCall) (q : Link) → issuedIds (history q cs) ≡ idsFrom (q .next) (length (issuedIds (history q cs)))
+ids-follow [] q = refl
+ids-follow (issue held limit r n o size h room ∷ cs) q = go (inRoom room (issuing held limit q (requestBytes r n o size h) size)) (λ p. ids-follow cs p)
+  where
+    go : (x : Outcome) → ((p : Link) → issuedIds (history p cs) ≡ idsFrom (p .next) (length (issuedIds (history p cs)))) → issuedIds (issueWas (q .next) size x ∷ history (issuedLink q size x) cs) ≡ idsFrom (q .next) (length (issuedIds (issueWas (q .next) size x ∷ history (issuedLink q size x) cs)))
+    go (gives l) ih = ap (λ (ids : List ℕ). q .next ∷ ids) (ih (appended q size))
+    go (refuses k p) ih = ih q
+ids-follow (answer m ∷ cs) q =
+    ids-follow cs (answeredBy q m .link) ∙ ap (λ (k : ℕ). idsFrom k (length (issuedIds (history (answeredBy q m .link) cs)))) (next-answered q m)
+ids-follow (drop ∷ cs) q = ids-follow cs (emptied q)

@@ -1,13 +1,14 @@
 -- Calls on one link in a row, each given the link that the one before handed back; which requests they issued, and which of those were since
 -- then neither answered nor dropped.
-use Prim.Native.Nat.{ℕ}
+use Prim.Native.Nat.{ℕ, zero, suc}
 use mathlib.Core.Bool.{Bool, true, false, cond, _||_}
-use mathlib.Core.List.{List, [], _∷_, _++_}
+use mathlib.Core.List.{List, [], _∷_, _++_, map}
 use lib.Dec.{eqb}
 use Rattle.xdr.specs.Filling.{Outcome, gives, refuses, inRoom}
 use Rattle.message.specs.declared.kind.ResponseIn.{ResponseIn}
 use Rattle.message.specs.declared.kind.ResponseIn.the-variants as P
 use Rattle.message_write.specs.Writing.{requestBytes}
+use Rattle.link.specs.Requests.{after}
 use Rattle.link.specs.OneLink.{issuing, issuedLink, answeredBy, emptied}
 use Rattle.link.specs.declared.request.Request.{Request}
 use Rattle.link.specs.declared.list.Link.{Link}
@@ -87,3 +88,13 @@ kept es (r ∷ rs) = cond (settled (r .id) es) (kept es rs) (r ∷ kept es rs)
 abbrev pub standing : List Event → List Request
 standing [] = []
 standing (e ∷ es) = kept es (issued e) ++ standing es
+
+-- the IDs under which requests were issued in a history, in order
+abbrev pub issuedIds : List Event → List ℕ
+issuedIds [] = []
+issuedIds (e ∷ es) = map (λ r. r .id) (issued e) ++ issuedIds es
+
+-- so many IDs from one on: 0 follows 4095
+abbrev pub idsFrom : (id count : ℕ) → List ℕ
+idsFrom id zero = []
+idsFrom id (suc n) = id ∷ idsFrom (after id) n

@@ -1,19 +1,35 @@
 // What a line is made of.
+ghost use mathlib.Core.Path.{_≡_};
+ghost use mathlib.Core.Bool.{not};
+ghost use lib.IntN.{natAbs};
+ghost use lib.Signed.{nonNeg};
+ghost use Rattle.record.specs.Modified.{signed};
+ghost use Rattle.listing.specs.Line.{isPlain};
 use libc::STDOUT_FILENO;
 use record::RecordFields;
 use walker::Step;
 
-pub fn text(s: &[u8]) {
-    io::write_all(STDOUT_FILENO, s);
+// Each function that prints tells whether all was written.
+pub fn text(s: &[u8]) -> bool {
+    io::write_all(STDOUT_FILENO, s)
 }
 
-fn labelled(label: &[u8], n: u64) {
-    text(label);
-    io::print_decimal(STDOUT_FILENO, n);
+fn labelled(label: &[u8], n: u64) -> bool {
+    text(label) && io::print_decimal(STDOUT_FILENO, n)
+}
+
+// Says on standard error that a line was lost, if it was.
+pub fn told(written: bool) -> bool {
+    if !written {
+        os::fail(b"standard output");
+    }
+    written
 }
 
 // Whether a byte of a name is printed as it is: control bytes are not, nor the backslash that they are written with.
-fn is_plain(b: u8) -> bool {
+fn is_plain(b: u8) -> bool
+    ensures { λ r. ⌜ r ≡ isPlain b ⌝ }
+{
     match b {
         0..=31 | 92 | 127 => false,
         _ => true,
@@ -21,68 +37,81 @@ fn is_plain(b: u8) -> bool {
 }
 
 // A byte of a name: one that isn't plain in hexadecimal.
-fn name_byte(b: u8) {
+fn name_byte(b: u8) -> bool {
     if is_plain(b) {
         let one = [b];
-        text(&one);
-        return;
+        return text(&one);
     }
-    text(b"\\x");
-    io::print_hex(STDOUT_FILENO, b as u64, 2);
+    text(b"\\x") && io::print_hex(STDOUT_FILENO, b as u64, 2)
 }
 
-fn name(s: &[u8]) {
+fn name(s: &[u8]) -> bool {
     let mut i = 0;
     while i < s.len() {
-        name_byte(s[i]);
+        if !name_byte(s[i]) {
+            return false;
+        }
         i += 1;
     }
+    true
 }
 
-// Modified, which is signed.
-fn modified(m: u64) {
-    if m < 9223372036854775808 {
-        labelled(b" modified ", m);
-        return;
+// Whether Modified, which is signed, is below zero.
+fn is_negative(modified: u64) -> bool
+    ensures { λ r. ⌜ r ≡ not (nonNeg (signed modified)) ⌝ }
+{
+    if modified < 9223372036854775808 {
+        return false;
     }
-    labelled(b" modified -", 18446744073709551615 - m + 1);
+    true
+}
+
+// Modified without its sign.
+fn magnitude(modified: u64) -> u64
+    ensures { λ r. ⌜ r ≡ natAbs (signed modified) ⌝ }
+{
+    if modified < 9223372036854775808 {
+        return modified;
+    }
+    18446744073709551615 - modified + 1
+}
+
+fn modified(m: u64) -> bool {
+    if is_negative(m) {
+        return labelled(b" modified -", magnitude(m));
+    }
+    labelled(b" modified ", magnitude(m))
 }
 
 // Deleted, invalid, or the blocks of the file and their bytes.
-fn contents(table: &[u8], f: RecordFields) {
+fn contents(table: &[u8], f: RecordFields) -> bool {
     if record::is_deleted(f.flags) {
-        text(b" deleted");
-        return;
+        return text(b" deleted");
     }
     if record::is_invalid(f.flags) {
-        text(b" invalid");
-        return;
+        return text(b" invalid");
     }
-    labelled(b" blocks ", f.blocks as u64);
-    labelled(b" bytes ", record::offset_of(table, f.first, f.blocks));
+    labelled(b" blocks ", f.blocks as u64)
+        && labelled(b" bytes ", record::offset_of(table, f.first, f.blocks))
 }
 
-fn line(table: &[u8], number: u32, f: RecordFields) {
-    labelled(b"", number as u64);
-    text(b" ");
-    name(order::part(table, f.name, f.stop));
-    contents(table, f);
-    modified(f.modified);
-    labelled(b" version ", f.version as u64);
-    text(b"\n");
+fn line(table: &[u8], number: u32, f: RecordFields) -> bool {
+    labelled(b"", number as u64)
+        && text(b" ")
+        && name(order::part(table, f.name, f.stop))
+        && contents(table, f)
+        && modified(f.modified)
+        && labelled(b" version ", f.version as u64)
+        && text(b"\n")
 }
 
 // The line of a step, and whether the walk goes on.
 pub fn show(table: &[u8], number: u32, step: Step) -> bool {
     match step {
-        Step::Record(f) => {
-            line(table, number, f);
-            true
-        }
+        Step::Record(f) => told(line(table, number, f)),
         Step::End => false,
         Step::Refused(r) => {
-            labelled(b"refused ", r.number as u64);
-            text(b"\n");
+            told(labelled(b"refused ", r.number as u64) && text(b"\n"));
             false
         }
     }

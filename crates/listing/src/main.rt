@@ -1,7 +1,7 @@
 // Prints the records of the table in the file `table`, a line each, or only `refused` and the number.
 mod line;
 
-use libc::STDOUT_FILENO;
+use files::Opened;
 use walker::Walker;
 
 // A line for each record from the first on. A good table has at most 512, and the last turn meets the end.
@@ -19,11 +19,11 @@ fn list(table: &[u8]) {
 
 fn main() {
     let name = [b't', b'a', b'b', b'l', b'e'];
-    let fd = os::open_read(&name);
-    if fd < 0 {
-        line::text(b"refused 15\n");
+    let opened = files::open(&name);
+    let Opened::File(fd) = opened else {
+        line::told(line::text(b"refused 15\n"));
         return;
-    }
+    };
     // one byte more than a table may have
     let mut buffer = [0u8; 65537];
     let n = io::read_full(fd, &mut buffer);

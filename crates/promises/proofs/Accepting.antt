@@ -14,7 +14,7 @@ use Rattle.xdr.specs.Filling.{Outcome, gives, refuses}
 use Rattle.xdr.proofs.Corollaries.{read-exactly}
 use Rattle.record.specs.File.{File}
 use Rattle.message.specs.Header.{typeOf}
-use Rattle.message.specs.Message.{Kind, kindOf, Body, body, MessageValue, index, message}
+use Rattle.message.specs.Message.{Kind, kindOf, Body, body, MessageValue, message}
 use Rattle.table.specs.Limits.{recordsLimit, bytesLimit}
 use Rattle.order.specs.Order.{isEqual, compareLists}
 use Rattle.table.specs.Table.{isGood, isWithin, records, tableOf, resultingTable}

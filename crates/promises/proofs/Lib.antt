@@ -13,3 +13,5 @@ pub mod Following
 pub mod Walking
 mod BelongLaws
 pub mod Accepting
+pub mod RoundTrips
+pub mod Elements

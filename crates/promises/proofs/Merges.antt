@@ -13,10 +13,10 @@ use Rattle.xdr.proofs.FillingLaws.{not-given, given-room}
 use Rattle.record.proofs.RisingLaws.{both-true}
 use Rattle.table.proofs.TableLaws.{GoodTable, good-table, table-good, records-of}
 use Rattle.merge.specs.Merged.{mergedOf}
-use Rattle.merge.specs.Highest.{joined}
+use Rattle.merge.specs.Highest.{joined, Highest}
 use Rattle.merge.specs.Answer.{mergedRecords}
 use Rattle.merge.proofs.AnswerLaws.{first-bad, second-bad}
-use Rattle.merge.proofs.HighestLaws.{AllOK, Within}
+use Rattle.merge.proofs.HighestLaws.{AllOK, Within, merged-highest}
 use Rattle.merge.proofs.MergeLaws.{all-ok, joined-append, merged-one, merged-good, merged-origins, merged-same, outcome-by-origins, merge-gave}
 use Rattle.promises.specs.Memory.{Memory, Region, bytesFrom, bytesIn, written, isApart}
 use Rattle.promises.specs.Merges.{Slice, State, Action, call, write, starting, start, untouched, slicesAfter, merging, step, run, Allowed, AllAllowed, mergedTable, Kept, Throughout, HoldsBytes, SameTables}
@@ -158,6 +158,7 @@ kept s h =
       results = λ x i e. result x e (h x i);
       good = λ x i. same-test x (h x i);
       same = λ x i e. same-bytes x e (h x i);
+      highest = λ x i e. highest-records x e (h x i);
       answers = λ x y i j. by-origins (s .memory) x y (h x i) (h y j);
     }
   where
@@ -173,6 +174,12 @@ kept s h =
     same-bytes x e (bad f b g) = let z : _≡_ {A = ℕ} 0 1 = cc in absurd (omega arith)
     same-bytes x e (good g o t) = t .is
 
+    highest-records : (x : Slice) → allGood (x .origins) ≡ true → Known (s .memory) x → Highest (joined (map records (x .origins))) (records (bytesIn (s .memory) (x .region)))
+    highest-records x e (bad f b g) = let z : _≡_ {A = ℕ} 0 1 = cc in absurd (omega arith)
+    highest-records x e (good g o t) =
+        let ts : List (List File) = map records (x .origins) in
+        subst (λ (l : List File). Highest (joined ts) l) (sym (records-of (bytesIn (s .memory) (x .region)) (mergedOf ts) t)) (merged-highest ts)
+
 throughout : (s : State) (es : List Action) → AllAllowed s es → AllKnown (s .memory) (s .slices) → Throughout s es
 throughout s [] a h = kept s h
 throughout s (e ∷ es) a h = (kept s h, throughout (step s e) es (a .1) (step-known s e (a .0) h))
@@ -181,7 +188,7 @@ throughout s (e ∷ es) a h = (kept s h, throughout (step s e) es (a .1) (step-k
 pub list-of-merges : (m : Memory) (rs : List Region) (es : List Action) → HoldsBytes m → AllAllowed (start m rs) es → Throughout (start m rs) es
 list-of-merges m rs es h a = throughout (start m rs) es a (start-known m rs h)
 
--- two lists of merges, wherever they began: results of the same origins are the same, whatever the order, grouping and repetition
+-- two lists of merges, wherever they began: results and good starting tables of the same origins are the same, whatever the order, grouping and repetition
 
 run-known : (s : State) (es : List Action) → AllAllowed s es → AllKnown (s .memory) (s .slices) → AllKnown (run s es .memory) (run s es .slices)
 run-known s [] a h = h
@@ -197,14 +204,14 @@ same-joined [] us h f m = absurd (List·Memᴰ·not-nil m)
 same-joined (t ∷ ts) us h f m =
     ⊎-elim (λ k. in-joined us t f (h t (List·Memᴰ·head refl)) k) (λ k. same-joined ts us (λ u i. h u (List·Memᴰ·tail i)) f k) (List·Memᴰ·append-cases (records t) m)
 
-same-known : (m n : Memory) (x y : Slice) → x .isResult ≡ true → y .isResult ≡ true → SameTables (x .origins) (y .origins) → Known m x → Known n y → bytesIn m (x .region) ≡ bytesIn n (y .region)
+same-known : (m n : Memory) (x y : Slice) → allGood (x .origins) ≡ true → allGood (y .origins) ≡ true → SameTables (x .origins) (y .origins) → Known m x → Known n y → bytesIn m (x .region) ≡ bytesIn n (y .region)
 same-known m n x y e f s (bad p b g) k = let z : _≡_ {A = ℕ} 0 1 = cc in absurd (omega arith)
 same-known m n x y e f s (good g o t) (bad p b h) = let z : _≡_ {A = ℕ} 0 1 = cc in absurd (omega arith)
 same-known m n x y e f s (good g o t) (good h p u) =
     t .is ∙ ap tableOf (merged-same (map records (x .origins)) (map records (y .origins)) p (same-joined (x .origins) (y .origins) (s .0)) (same-joined (y .origins) (x .origins) (s .1))) ∙ sym (u .is)
 
 pub whatever-order : (m n : Memory) (rs qs : List Region) (es fs : List Action) → HoldsBytes m → HoldsBytes n → AllAllowed (start m rs) es → AllAllowed (start n qs) fs
-    → (x y : Slice) → x ∈ run (start m rs) es .slices → y ∈ run (start n qs) fs .slices → x .isResult ≡ true → y .isResult ≡ true → SameTables (x .origins) (y .origins)
+    → (x y : Slice) → x ∈ run (start m rs) es .slices → y ∈ run (start n qs) fs .slices → allGood (x .origins) ≡ true → allGood (y .origins) ≡ true → SameTables (x .origins) (y .origins)
     → bytesIn (run (start m rs) es .memory) (x .region) ≡ bytesIn (run (start n qs) fs .memory) (y .region)
 whatever-order m n rs qs es fs h k a b x y i j e f s =
     same-known (run (start m rs) es .memory) (run (start n qs) fs .memory) x y e f s

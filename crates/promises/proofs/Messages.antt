@@ -1,19 +1,18 @@
 -- Messages are read and written as laid down: what is read writes back to the same bytes, what is written reads back to the same fields.
 use Prim.Native.Nat.{ℕ, _≤_}
 use mathlib.Core.List.{List, _++_, append-assoc}
-use mathlib.Core.Path.{_≡_, refl, sym, ap, subst, _∙_}
+use mathlib.Core.Path.{_≡_, refl, sym, ap, _∙_}
 use mathlib.Core.Bool.{Bool, true, false, cond}
 use native.Mathlib.Omega.{arith}
 use borrow.Author.Tests.{le-leb, leb-true, eqb-true}
 use lib.ListN.{length, take}
 use lib.Seq.{take-at, length-take-le}
 use lib.Dec.{leb}
-use Rattle.xdr.specs.Reading.{Reading, taken, refused, shifted}
+use Rattle.xdr.specs.Reading.{Reading, taken, refused}
 use Rattle.xdr.specs.Number.{IsBytes}
-use Rattle.xdr.specs.Format.{read, readAt, encode, Valid}
+use Rattle.xdr.specs.Format.{read, encode, Valid}
 use Rattle.xdr.specs.Fields.{word}
 use Rattle.xdr.specs.Filling.{gives, refuses}
-use Rattle.xdr.proofs.Steps.{shifted-zero}
 use Rattle.xdr.proofs.Corollaries.{read-exactly}
 use Rattle.xdr.proofs.RoundTrip.{round}
 use Rattle.xdr.proofs.Within.{within}
@@ -22,7 +21,6 @@ use Rattle.record.specs.File.{file}
 use Rattle.message.specs.Limits.{idLimit}
 use Rattle.message.specs.Header.{headerOf, versionOf, reservedOf, idOf, typeOf, header}
 use Rattle.message.specs.Message.{Kind, isIndex, isRequest, isResponse, isPing, isPong, isIndexUpdate, isOptions, kindOf, Body, body, MessageValue, message}
-use Rattle.message.specs.Answers.{bodyAnswer, messageAnswer, messageIn}
 use Rattle.message_write.specs.Writing.{messageBytes, asRead, writing}
 use Rattle.promises.specs.Bodies.{bodyBytes}
 
@@ -143,18 +141,3 @@ written-reads-back id type b t l e u =
 -- its ID and its type are those that were given
 pub written-header : (id type : ℕ) (b l : List ℕ) → type ≤ 7 → writing message id type b ≡ gives l → (idOf (headerOf id type) ≡ id) × (typeOf (headerOf id type) ≡ type)
 written-header id type b l h e = let small = accepted-by id type b l e .small in (omega arith, omega arith)
-
--- so reading it answers the ID and the kind that were given, with the spans of their fields
-pub written-answers : (id type : ℕ) (b : Body (kindOf type)) (t l : List ℕ) → type ≤ 7
-    → writing message id type (bodyBytes (kindOf type) b ++ t) ≡ gives l
-    → (u : List ℕ) → messageIn (l ++ u) ≡ bodyAnswer (kindOf type) id (taken b (length l))
-unfolding readAt
-written-answers id type b t l h e u =
-    let q = written-header id type (bodyBytes (kindOf type) b ++ t) l h e in
-    subst ReadsAs (q .1)
-    (λ b e. ap messageAnswer (shifted-zero (read message (l ++ u)) ∙ written-reads-back id type b t l e u)
-    ∙ ap (λ (i : ℕ). bodyAnswer (kindOf (typeOf (headerOf id type))) i (taken b (length l))) (q .0)) b e
-  where
-    ReadsAs : ℕ → Type 0
-    ReadsAs k = (b : Body (kindOf k)) → writing message id type (bodyBytes (kindOf k) b ++ t) ≡ gives l
-        → messageAnswer (shifted 0 (read message (l ++ u))) ≡ bodyAnswer (kindOf k) id (taken b (length l))

@@ -12,6 +12,7 @@ use Rattle.table.specs.Table.{isGood, allGood, records}
 use Rattle.record.proofs.RisingLaws.{Rising, both-true}
 use Rattle.table.proofs.TableLaws.{good-table}
 use Rattle.merge.specs.Merged.{mergedOf}
+use Rattle.merge.proofs.HighestLaws.{merged-highest}
 use Rattle.want.specs.Listing.{listsThere}
 use Rattle.want.specs.Wanted.{peerFrom, requestList, requestOutcome}
 use Rattle.want.specs.declared.list.Wanted.{Wanted}
@@ -20,8 +21,11 @@ use Rattle.promises.proofs.HeldLaws.{unheld-words, words-unheld}
 use Rattle.promises.specs.RequestList.{Missing, Asks, Exact, Requested}
 
 module _ (local : List File) (peers : List (List File)) (rises : (k : ℕ) → k < length peers → Rising (getD peers k [])) where
+  abbrev highs : List File
+  highs = mergedOf (local ∷ peers)
+
   -- the block of an entry, and an entry of a block
-  abbrev missing : (w : Wanted) → Asked local peers 0 (mergedOf (local ∷ peers)) w → Missing local peers
+  abbrev missing : (w : Wanted) → Asked local peers 0 highs w → Missing highs local
   missing w a =
       record {
         before = a .before;
@@ -45,8 +49,8 @@ module _ (local : List File) (peers : List (List File)) (rises : (k : ℕ) → k
   none-lower l zero h i = absurd (omega arith)
   none-lower l (suc j) h i = l .lowest j (omega (arith, l .is))
 
-  asks : (m : Missing local peers) (w : Wanted) → w .file ≡ 0 + length (m .before) → w .block ≡ 0 + length (m .front) → w .offset ≡ 0 + totalSize (m .front) → w .size ≡ m .block .size
-      → Lowest 1 peers (m .highest .name) (w .offset) (m .block) (w .peer) → Asks m w
+  asks : (m : Missing highs local) (w : Wanted) → w .file ≡ 0 + length (m .before) → w .block ≡ 0 + length (m .front) → w .offset ≡ 0 + totalSize (m .front) → w .size ≡ m .block .size
+      → Lowest 1 peers (m .highest .name) (w .offset) (m .block) (w .peer) → Asks peers m w
   asks m w f n o s p =
       let e : w .offset ≡ totalSize (m .front) = omega (arith, o) in
       let l = subst (λ (k : ℕ). Lowest 1 peers (m .highest .name) k (m .block) (w .peer)) e p in
@@ -61,7 +65,7 @@ module _ (local : List File) (peers : List (List File)) (rises : (k : ℕ) → k
         lowest = none-lower l;
       }
 
-  abbrev entry : Missing local peers → Wanted
+  abbrev entry : Missing highs local → Wanted
   entry m =
       record {
         file = length (m .before);
@@ -71,7 +75,7 @@ module _ (local : List File) (peers : List (List File)) (rises : (k : ℕ) → k
         peer = peerFrom 1 peers (m .highest .name) (totalSize (m .front)) (m .block);
       }
 
-  asked : (m : Missing local peers) → Asked local peers 0 (mergedOf (local ∷ peers)) (entry m)
+  asked : (m : Missing highs local) → Asked local peers 0 highs (entry m)
   asked m =
       record {
         before = m .before;
@@ -92,7 +96,7 @@ module _ (local : List File) (peers : List (List File)) (rises : (k : ℕ) → k
         };
       }
 
-  exact-list : Exact local peers (requestList local peers)
+  exact-list : Exact highs local peers (requestList local peers)
   unfolding asked
   exact-list =
       record {
@@ -112,11 +116,16 @@ rising-records [] b g k h = absurd (omega arith)
 rising-records (t ∷ ts) b g zero h = good-table t (b 0) (both-true (isGood t) (allGood ts) g .0) .rising
 rising-records (t ∷ ts) b g (suc k) h = rising-records ts (λ i. b (suc i)) (both-true (isGood t) (allGood ts) g .1) k (omega arith)
 
-pub requested : (local : List ℕ) (peers : List (List ℕ)) → ((k : ℕ) → IsBytes (getD peers k [])) → allGood (local ∷ peers) ≡ true → Requested local peers
+pub requested : (local : List ℕ) (peers : List (List ℕ)) → ((k : ℕ) → IsBytes (getD peers k [])) → Requested local peers
 unfolding requestOutcome
-requested local peers b g =
+requested local peers b =
     record {
-      list = requestList (records local) (map records peers);
-      exact = exact-list (records local) (map records peers) (rising-records peers b (both-true (isGood local) (allGood peers) g .1));
-      filled = rw g refl;
+      refused = λ g. rw g refl;
+      given = λ g. record {
+        highs = mergedOf (map records (local ∷ peers));
+        highest = merged-highest (map records (local ∷ peers));
+        list = requestList (records local) (map records peers);
+        exact = exact-list (records local) (map records peers) (rising-records peers b (both-true (isGood local) (allGood peers) g .1));
+        filled = rw g refl;
+      };
     }

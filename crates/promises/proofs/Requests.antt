@@ -20,7 +20,7 @@ use Rattle.xdr.proofs.FillingLaws.{given-room}
 use Rattle.link.specs.Requests.{total}
 use Rattle.link.specs.OneLink.{windowFits, outstanding, emptyLink, issuing, appended, issuedLink, answeredBy, emptied}
 use Rattle.link.specs.History as link
-use Rattle.link.specs.History.{LinkCall, Event, issueWas, answerWas, dropWas, standing}
+use Rattle.link.specs.History.{LinkCall, Event, issueWas, answerWas, dropWas, standing, issuedIds, idsFrom}
 use Rattle.link.specs.declared.request.Request.{Request}
 use Rattle.link.specs.declared.list.Link.{Link}
 use Rattle.link.specs.declared.outcome.LinkAnswered.{LinkAnswered}
@@ -29,14 +29,16 @@ use Rattle.link.proofs.LinkLaws.{Orderly, orderly-facts}
 use Rattle.link.proofs.IssueLaws.{issuing-tells}
 use Rattle.link.proofs.AnswerLaws.{AnswerWas, kept, freed, answer-was}
 use Rattle.link.proofs.Moves.{Good, nextRequest, outstanding-appended, total-append, outstanding-without}
-use Rattle.link.proofs.HistoryLaws.{link-run, opened-good, windows-kept}
+use Rattle.link.proofs.HistoryLaws.{link-run, opened-good, windows-kept, ids-follow}
 use Rattle.queue.specs.Queue.{allowance, isSound, opening, issueOutcome, fromLink, answerOf, dropOf}
 use Rattle.queue.specs.declared.queue.RequestQueue.{RequestQueue}
 use Rattle.queue.specs.declared.outcome.Emptied.{Emptied}
 use Rattle.queue.specs.declared.outcome.Verdict.the-variants as Ruled
 use Rattle.queue.specs.declared.outcome.Answered.{Answered}
 use Rattle.queue.proofs.QueueLaws.{sound-facts, sound-made}
-use Rattle.promises.specs.History.{Call, issue, answer, drop, isAccepted, queueAfter, queueEvent, queueFinal, queueHistory, Held}
+use Rattle.bep.specs.Queues.{queueOf, wordsOf}
+use Rattle.bep.proofs.PackLaws.{queue-back}
+use Rattle.promises.specs.History.{Call, issue, answer, drop, isAccepted, queueAfter, queueEvent, queueFinal, queueHistory, Held, wordsAfter, wordsFinal, wordsHistory, HeldInWords}
 
 -- a call as the link sees it
 abbrev linkCall : RequestQueue → Call → LinkCall
@@ -100,6 +102,13 @@ record Same (q : RequestQueue) (cs : List Call) : Type 0 where
   histories : queueHistory q cs ≡ link.history (q .link) calls
   inside : total (outstanding (queueFinal q cs .link)) ≤ allowance
 
+-- a call leaves the link in order and the total within the allowance
+stays : (q : RequestQueue) (c : Call) → Good (q .link) → total (outstanding (q .link)) ≤ allowance → Good (queueAfter q c .link) × (total (outstanding (queueAfter q c .link)) ≤ allowance)
+stays q c g t =
+    let l : LinkCall = linkCall q c in
+    let a : queueAfter q c .link ≡ link.afterCall (q .link) l = same-after q (sound-made q (g .orderly) t) c in
+    (subst Good (sym a) (link-run (l ∷ []) (q .link) g .0), subst (λ (x : Link). total (outstanding x) ≤ allowance) (sym a) (within q c g t))
+
 same : (cs : List Call) (q : RequestQueue) → Good (q .link) → total (outstanding (q .link)) ≤ allowance → Same q cs
 same [] q g t = record { calls = []; finals = refl; histories = refl; inside = t }
 same (c ∷ cs) q g t =
@@ -107,7 +116,7 @@ same (c ∷ cs) q g t =
     let s : isSound q ≡ true = sound-made q (g .orderly) t in
     let a : queueAfter q c .link ≡ link.afterCall (q .link) l = same-after q s c in
     let h : Same (queueAfter q c) cs =
-    same cs (queueAfter q c) (subst Good (sym a) (link-run (l ∷ []) (q .link) g .0)) (subst (λ (x : Link). total (outstanding x) ≤ allowance) (sym a) (within q c g t)) in
+    let k = stays q c g t in same cs (queueAfter q c) (k .0) (k .1) in
     record {
       calls = l ∷ h .calls;
       finals = h .finals ∙ ap (λ (x : Link). link.final x (h .calls)) a;
@@ -126,13 +135,19 @@ module _ (window : ℕ) where
   accepted-is true e = refl
   accepted-is false e = let z : _≡_ {A = ℕ} 0 1 = cc in absurd (omega arith)
 
+opened : (window : ℕ) → opening window .verdict ≡ Ruled.Accepted → Good (opening window .queue .link) × (total (outstanding (opening window .queue .link)) ≤ allowance)
+opened window e =
+    let fits : windowFits window ≡ true = accepted-is window (windowFits window) e in
+    let start : opening window .queue .link ≡ emptyLink window = ap (λ (t : Bool). openedBy window t .queue .link) fits in
+    (subst Good (sym start) (opened-good window fits), rw (ap outstanding start) (omega arith))
+
 pub held : (window : ℕ) (calls : List Call) → opening window .verdict ≡ Ruled.Accepted → Held window calls
 held window calls e =
     let fits : windowFits window ≡ true = accepted-is window (windowFits window) e in
     let start : opening window .queue .link ≡ emptyLink window = ap (λ (t : Bool). openedBy window t .queue .link) fits in
-    let o : Good (opening window .queue .link) = subst Good (sym start) (opened-good window fits) in
+    let o : Good (opening window .queue .link) = opened window e .0 in
     let none : outstanding (opening window .queue .link) ≡ [] = ap outstanding start in
-    let h : Same (opening window .queue) calls = same calls (opening window .queue) o (rw none (omega arith)) in
+    let h : Same (opening window .queue) calls = same calls (opening window .queue) o (opened window e .1) in
     let r = link-run (h .calls) (opening window .queue .link) o in
     let f : Link = queueFinal (opening window .queue) calls .link in
     let g : Good f = subst Good (sym (h .finals)) (r .0) in
@@ -147,7 +162,31 @@ held window calls e =
       sound = sound-made (queueFinal (opening window .queue) calls) (g .orderly) (h .inside);
       counted = subst (λ (l : List Request). length l ≤ window) exact (omega (arith, long, w, s .held));
       summed = subst (λ (l : List Request). total l ≤ allowance) exact (h .inside);
+      ids = let es : List Event = link.history (opening window .queue .link) (h .calls) in
+          subst (λ (l : List Event). issuedIds l ≡ idsFrom 0 (length (issuedIds l))) (sym (h .histories))
+          (ids-follow (h .calls) (opening window .queue .link) ∙ ap (λ (x : Link). idsFrom (x .next) (length (issuedIds es))) start);
     }
+
+-- a queue that is laid out in words after each call and taken up before the next goes the same way
+
+words-same : (cs : List Call) (q : RequestQueue) → Good (q .link) → total (outstanding (q .link)) ≤ allowance
+    → (wordsFinal (wordsOf q) cs ≡ wordsOf (queueFinal q cs)) × (queueOf (wordsFinal (wordsOf q) cs) ≡ queueFinal q cs) × (wordsHistory (wordsOf q) cs ≡ queueHistory q cs)
+words-same [] q g t = (refl, queue-back q (g .long), refl)
+words-same (c ∷ cs) q g t =
+    let back : queueOf (wordsOf q) ≡ q = queue-back q (g .long) in
+    let on : wordsAfter (wordsOf q) c ≡ wordsOf (queueAfter q c) = ap (λ (x : RequestQueue). wordsOf (queueAfter x c)) back in
+    let k = stays q c g t in
+    let h = words-same cs (queueAfter q c) (k .0) (k .1) in (
+      ap (λ (ws : List ℕ). wordsFinal ws cs) on ∙ h .0,
+      ap (λ (ws : List ℕ). queueOf (wordsFinal ws cs)) on ∙ h .1,
+      ap (λ (x : RequestQueue). queueEvent x c ∷ wordsHistory (wordsAfter (wordsOf q) c) cs) back ∙ ap (λ (ws : List ℕ). queueEvent q c ∷ wordsHistory ws cs) on ∙ ap (λ (es : List Event). queueEvent q c ∷ es) (h .2),
+    )
+
+pub held-in-words : (window : ℕ) (calls : List Call) → opening window .verdict ≡ Ruled.Accepted → HeldInWords window calls
+held-in-words window calls e =
+    let o = opened window e in
+    let w = words-same calls (opening window .queue) (o .0) (o .1) in
+    record { words = w .0; queue = w .1; events = w .2; exact = ap (λ (q : RequestQueue). outstanding (q .link)) (w .1) ∙ held window calls e .exact ∙ ap standing (sym (w .2)) }
 
 -- freed room can be issued again: wherever the count and the bytes allow, an issue is what writing alone gives
 pub issued-again : (q : RequestQueue) (b : List ℕ) (size : ℕ) → isSound q ≡ true → q .link .count < q .link .window → total (outstanding (q .link)) + size ≤ allowance

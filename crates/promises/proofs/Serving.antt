@@ -1,8 +1,8 @@
--- A Request that is not served gets the reply with its ID and no data, or 14: no other number of the writer comes out.
+-- A Request is served exactly if it is for us; otherwise it gets the reply with its ID and no data, or 14: no other number of the writer comes out.
 use Prim.Native.Nat.{ℕ, _/_, _%_, _≤_}
 use mathlib.Core.List.{List, []}
 use mathlib.Core.Path.{_≡_, refl, sym, ap, subst, _∙_}
-use mathlib.Core.Bool.{true, false, _&&_}
+use mathlib.Core.Bool.{Bool, true, false, _&&_}
 use native.Mathlib.Omega.{arith}
 use borrow.Author.Tests.{le-leb}
 use Rattle.xdr.specs.Reading.{Reading, taken, refused}
@@ -10,21 +10,25 @@ use Rattle.xdr.specs.Filling.{gives}
 use Rattle.xdr.specs.Pad.{allZero}
 use Rattle.xdr.specs.Format.{read, readAt, encode}
 use Rattle.message.specs.Header.{headerOf, typeOf, idOf}
-use Rattle.message.specs.Message.{Kind, isIndex, isRequest, isResponse, isPing, isPong, isIndexUpdate, isOptions, kindOf, Body, MessageValue, message}
+use Rattle.message.specs.Message.{RequestBody, Kind, isIndex, isRequest, isResponse, isPing, isPong, isIndexUpdate, isOptions, kindOf, Body, MessageValue, message}
 use Rattle.message.specs.Answers.{bodyAnswer, messageAnswer, messageIn}
 use Rattle.message.specs.declared.answer.RequestSpan.{RequestSpan}
 use Rattle.message.specs.declared.answer.Message.{Message}
 use Rattle.message.specs.declared.answer.Message.the-variants as M
+use Rattle.message.specs.declared.kind.RequestIn.the-variants as Q
 use Rattle.message_write.specs.Writing.{messageBytes, responseBytes, asRead, writing}
 use Rattle.message_write.specs.Steps.{writingBody}
 use Rattle.message_write.proofs.WritingLaws.{by-body}
 use Rattle.order.specs.Order.{isEqual, compareLists}
+use Rattle.order.proofs.OrderLaws.{same-equal}
+use Rattle.order.proofs.SameLaws.{is-same}
+use Rattle.record.proofs.RisingLaws.{both-true}
 use Rattle.table.specs.Table.{isGood, records}
 use Rattle.want.specs.Listing.{listsThere, blockWith}
-use Rattle.serve.specs.Ruling.{isOurs, fills, rulingOf}
-use Rattle.serve.proofs.RulingLaws.{table-good, ours-not}
-use Rattle.promises.specs.Spans.{RequestFields}
-use Rattle.promises.specs.Serving.{replyBytes}
+use Rattle.serve.specs.Ruling.{isOurs, serves, fills, rulingOn, rulingOf}
+use Rattle.serve.proofs.RulingLaws.{table-good, ours-served, ours-not}
+use Rattle.promises.specs.Spans.{RequestFields, SaysFields}
+use Rattle.promises.specs.Serving.{replyBytes, IsForUs, ServedExactly}
 
 -- the ID of a Request that was read
 
@@ -78,3 +82,43 @@ unserved-replied t repository s id x g e o =
 pub ours-by-fields : (t repository s : List ℕ) (x : RequestSpan) (b : Body isRequest) (end : ℕ) → RequestFields s x b end
     → isOurs t repository s x ≡ (isEqual (compareLists (b .repository) repository) && listsThere (records t) (b .name) (b .offset) (blockWith (b .size) (b .hash)))
 ours-by-fields t repository s x b end f = rw (f .repository-is, f .name-is, f .offset-is, f .size-is, f .hash-is) refl
+
+-- the ruling by the fields
+module _ (t repository s : List ℕ) (g : isGood t ≡ true) (id : ℕ) (x : RequestSpan) (e : messageIn s ≡ M.Request id x) (b : Body isRequest) (end : ℕ) (f : RequestFields s x b end) where
+  abbrev named : Bool
+  named = isEqual (compareLists (b .repository) repository)
+
+  abbrev lists : Bool
+  lists = listsThere (records t) (b .name) (b .offset) (blockWith (b .size) (b .hash))
+
+  ours : isOurs t repository s x ≡ (named && lists)
+  ours = ours-by-fields t repository s x b end f
+
+  for-us : (named && lists) ≡ true → IsForUs t repository b
+  for-us h = let p = both-true named lists h in (is-same (b .repository) repository (p .0), p .1)
+
+  us-for : IsForUs t repository b → (named && lists) ≡ true
+  us-for h = simp (ap (λ (r : List ℕ). isEqual (compareLists r repository)) (h .0) ∙ ap isEqual (same-equal repository), h .1)
+
+  taken-so : rulingOf t repository s ≡ rulingOn t repository s (Q.Taken id x)
+  taken-so = table-good t repository s [] g (sym e) refl refl
+
+  by-test : (c : Bool) → (named && lists) ≡ c → ServedExactly t repository s id b
+  by-test true h =
+      let is : rulingOf t repository s ≡ serves (x .name) (x .offset) (x .size) = taken-so ∙ ours-served t repository s [] id x refl (ours ∙ h) in
+      record {
+        if = λ u. (x .name, is ∙ ap (λ (o : ℕ). serves (x .name) o (x .size)) (f .offset-is) ∙ ap (serves (x .name) (b .offset)) (f .size-is), f .name-is);
+        onlyIf = λ n o l q. for-us h;
+        otherwise = λ u. absurd (u (for-us h));
+      }
+  by-test false h =
+      let is = unserved-replied t repository s id x g e (ours ∙ h) in
+      record {
+        if = λ u. let both = us-for u in let z : _≡_ {A = ℕ} 0 1 = cc in absurd (omega arith);
+        onlyIf = λ n o l q. let no : fills (gives (replyBytes id)) ≡ serves n o l = sym is ∙ q in let z : _≡_ {A = ℕ} 0 1 = cc in absurd (omega arith);
+        otherwise = λ u. is;
+      }
+
+-- every Request that is read
+pub served-exactly : (t repository s : List ℕ) → isGood t ≡ true → (id : ℕ) (b : RequestBody) (end : ℕ) → SaysFields s id isRequest b end (messageIn s) → ServedExactly t repository s id b
+served-exactly t repository s g id b end (x, e, f) = by-test t repository s g id x e b end f _ refl

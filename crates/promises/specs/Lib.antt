@@ -9,3 +9,5 @@ pub mod Serving
 pub mod Following
 pub mod Walking
 pub mod Accepting
+pub mod RoundTrips
+pub mod Elements

@@ -7,6 +7,7 @@ use lib.ListN.{length}
 use Rattle.xdr.specs.Filling.{Outcome, gives, refuses, inRoom, bufferAfter}
 use Rattle.table.specs.Table.{isGood, allGood, records, tableOf, resultingTable}
 use Rattle.merge.specs.Merged.{mergedOf}
+use Rattle.merge.specs.Highest.{joined, Highest}
 use Rattle.merge.specs.Answer.{mergeOutcome}
 use Rattle.promises.specs.Memory.{Memory, Region, bytesIn, written, isApart}
 
@@ -86,6 +87,8 @@ pub record Kept (s : State) : Type 0 where
   pub good : (x : Slice) → List·Memᴰ x (s .slices) → isGood (bytesIn (s .memory) (x .region)) ≡ allGood (x .origins)
   -- and is then the merged table of its origins, byte for byte
   pub same : (x : Slice) → List·Memᴰ x (s .slices) → allGood (x .origins) ≡ true → bytesIn (s .memory) (x .region) ≡ mergedTable (x .origins)
+  -- so it has, for each name in any of its origins, the highest record, names rising, and nothing else
+  pub highest : (x : Slice) → List·Memᴰ x (s .slices) → allGood (x .origins) ≡ true → Highest (joined (map records (x .origins))) (records (bytesIn (s .memory) (x .region)))
   -- merging two good ones goes by the merged table of all their origins: 19, and in the room that a call lends 14 and the length reported;
   -- merging others is refused with 15
   pub answers : (x y : Slice) → List·Memᴰ x (s .slices) → List·Memᴰ y (s .slices)

@@ -2,36 +2,35 @@
 use Prim.Native.Nat.{ℕ}
 use mathlib.Core.List.{List, [], _∷_}
 use mathlib.Core.Path.{_≡_}
-use Rattle.xdr.specs.Reading.{Reading, taken, refused}
-use Rattle.xdr.specs.Format.{read}
 use Rattle.record.specs.File.{File}
-use Rattle.message.specs.Header.{headerOf}
-use Rattle.message.specs.Message.{MessageValue, message}
+use Rattle.message.specs.Answers.{span, refusal, messageIn}
+use Rattle.message.specs.declared.answer.Message.{Message}
+use Rattle.message.specs.declared.answer.Message.the-variants as M
 use Rattle.table.specs.Newest.{compareFiles}
 use Rattle.order.specs.declared.compare.Order.the-variants.{Greater}
 
--- bytes with what reading them gives; or Modified of two records, the first of which is the newer one whatever else they say
+-- bytes with what reading them answers; or Modified of two records, the first of which is the newer one whatever else they say
 pub data Vector : Type 0 where
-  reads : List ℕ → Reading MessageValue → Vector
+  answers : List ℕ → Message → Vector
   newer : (modified other : ℕ) → Vector
 
 -- what a case says
 abbrev pub Holds : Vector → Type 0
-Holds (reads bytes gives) = read message bytes ≡ gives
+Holds (answers bytes m) = messageIn bytes ≡ m
 Holds (newer modified other) = (f g : File) → f .modified ≡ modified → g .modified ≡ other → compareFiles f g ≡ Greater
 
 -- K1 to K10
 unfoldable pub vectors : List Vector
 vectors =
-    reads (0x00 ∷ 0x00 ∷ 0x04 ∷ 0x00 ∷ []) (taken (headerOf 0 4, tt) 4)
-    ∷ reads (0x0F ∷ 0xFF ∷ 0x05 ∷ 0x00 ∷ []) (taken (headerOf 4095 5, tt) 4)
-    ∷ reads (0x10 ∷ 0x00 ∷ 0x08 ∷ 0x01 ∷ []) (refused 2 0)
-    ∷ reads (0x00 ∷ 0x00 ∷ 0x08 ∷ 0x00 ∷ []) (refused 3 0)
-    ∷ reads (0x00 ∷ 0x00 ∷ 0x04 ∷ 0x01 ∷ []) (refused 4 0)
-    ∷ reads (0x00 ∷ 0x00 ∷ 0x04 ∷ []) (refused 1 0)
-    ∷ reads (0x00 ∷ 0x01 ∷ 0x01 ∷ 0x00 ∷ 0x00 ∷ 0x00 ∷ 0x00 ∷ 0x00 ∷ 0x00 ∷ 0x00 ∷ 0x00 ∷ 0x00 ∷ []) (taken (headerOf 1 1, ([], [])) 12)
-    ∷ reads (0x00 ∷ 0x01 ∷ 0x01 ∷ 0x00 ∷ 0x00 ∷ 0x00 ∷ 0x00 ∷ 0x01 ∷ 0x61 ∷ 0x00 ∷ 0x00 ∷ 0x01 ∷ []) (refused 6 4)
-    ∷ reads (0x00 ∷ 0x02 ∷ 0x03 ∷ 0x00 ∷ 0x00 ∷ 0x00 ∷ 0x00 ∷ 0x00 ∷ []) (taken (headerOf 2 3, []) 8)
+    answers (0x00 ∷ 0x00 ∷ 0x04 ∷ 0x00 ∷ []) (M.Ping 0 4)
+    ∷ answers (0x0F ∷ 0xFF ∷ 0x05 ∷ 0x00 ∷ []) (M.Pong 4095 4)
+    ∷ answers (0x10 ∷ 0x00 ∷ 0x08 ∷ 0x01 ∷ []) (refusal 2 0)
+    ∷ answers (0x00 ∷ 0x00 ∷ 0x08 ∷ 0x00 ∷ []) (refusal 3 0)
+    ∷ answers (0x00 ∷ 0x00 ∷ 0x04 ∷ 0x01 ∷ []) (refusal 4 0)
+    ∷ answers (0x00 ∷ 0x00 ∷ 0x04 ∷ []) (refusal 1 0)
+    ∷ answers (0x00 ∷ 0x01 ∷ 0x01 ∷ 0x00 ∷ 0x00 ∷ 0x00 ∷ 0x00 ∷ 0x00 ∷ 0x00 ∷ 0x00 ∷ 0x00 ∷ 0x00 ∷ []) (M.Index 1 (record { repository = span 8 0; files = span 8 4; count = 0; end = 12 }))
+    ∷ answers (0x00 ∷ 0x01 ∷ 0x01 ∷ 0x00 ∷ 0x00 ∷ 0x00 ∷ 0x00 ∷ 0x01 ∷ 0x61 ∷ 0x00 ∷ 0x00 ∷ 0x01 ∷ []) (refusal 6 4)
+    ∷ answers (0x00 ∷ 0x02 ∷ 0x03 ∷ 0x00 ∷ 0x00 ∷ 0x00 ∷ 0x00 ∷ 0x00 ∷ []) (M.Response 2 (record { «data» = span 8 0; end = 8 }))
     -- Modified 0 and -1, the second as its 64 bits
     ∷ newer 0 0xFFFFFFFFFFFFFFFF
     ∷ []

@@ -7,6 +7,7 @@ pub mod Arrays
 pub mod OutlineLaws
 pub mod StringLaws
 pub mod OptionLaws
+mod MissingLaws
 pub mod BlockLaws
 pub mod FileLaws
 pub mod Sizes

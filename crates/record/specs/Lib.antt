@@ -5,6 +5,7 @@ pub mod Modified
 pub mod KeyValue
 pub mod Outline
 pub mod OptionOutline
+pub mod Missing
 pub mod Answers
 pub mod Rising
 pub mod Steps

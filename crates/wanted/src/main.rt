@@ -1,8 +1,11 @@
 // Prints which blocks to request and from whom, by the tables in the files `local` and `peer1` to `peer4`: a line a block and a closing
 // line, or only `refused` and the number.
+mod entry;
 mod file;
 mod print;
+mod request;
 
+use request::Sizes;
 use xdr::Filling;
 
 fn main() {
@@ -12,22 +15,20 @@ fn main() {
     let mut peer2 = [0u8; 65537];
     let mut peer3 = [0u8; 65537];
     let mut peer4 = [0u8; 65537];
-    let l = file::load(b"local", &mut local);
-    let a = file::load(b"peer1", &mut peer1);
-    let b = file::load(b"peer2", &mut peer2);
-    let c = file::load(b"peer3", &mut peer3);
-    let d = file::load(b"peer4", &mut peer4);
+    let sizes = Sizes {
+        local: file::load(b"local", &mut local),
+        peer1: file::load(b"peer1", &mut peer1),
+        peer2: file::load(b"peer2", &mut peer2),
+        peer3: file::load(b"peer3", &mut peer3),
+        peer4: file::load(b"peer4", &mut peer4),
+    };
     let mut out = [0u8; 65536];
-    let answer = want::request_list(
-        &local[0..l],
-        &peer1[0..a],
-        &peer2[0..b],
-        &peer3[0..c],
-        &peer4[0..d],
-        &mut out,
-    );
-    match answer {
+    let answer = request::list(&local, &peer1, &peer2, &peer3, &peer4, sizes, &mut out);
+    let written = match answer {
         Filling::Filled(n) => print::list(&out, n),
         Filling::Refused(r) => print::refused(r.number),
+    };
+    if !written {
+        os::fail(b"standard output");
     }
 }

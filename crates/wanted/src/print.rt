@@ -1,60 +1,51 @@
 // The lines.
+ghost use Prim.Native.Nat.{_/_};
+ghost use mathlib.Core.Path.{_≡_};
+use crate::entry::BYTES;
+use crate::entry::Entry;
+use crate::entry::entry_of;
 use libc::STDOUT_FILENO;
-use xdr::Hyper;
-use xdr::Word;
 
-// Bytes of an entry: file, block, offset, length and peer.
-const ENTRY_BYTES: usize = 24;
-
-fn text(s: &[u8]) {
-    io::write_all(STDOUT_FILENO, s);
+// Each function that prints tells whether all was written.
+fn text(s: &[u8]) -> bool {
+    io::write_all(STDOUT_FILENO, s)
 }
 
-fn labelled(label: &[u8], n: u64) {
-    text(label);
-    io::print_decimal(STDOUT_FILENO, n);
+fn labelled(label: &[u8], n: u64) -> bool {
+    text(label) && io::print_decimal(STDOUT_FILENO, n)
 }
 
-fn word(label: &[u8], list: &[u8], at: usize) {
-    if let Word::Taken(n, _) = xdr::read_word(list, at) {
-        labelled(label, n as u64);
-    }
+fn show(e: Entry) -> bool {
+    labelled(b"file ", e.file as u64)
+        && labelled(b" block ", e.block as u64)
+        && labelled(b" offset ", e.offset)
+        && labelled(b" length ", e.size as u64)
+        && labelled(b" peer ", e.peer as u64)
+        && text(b"\n")
 }
 
-fn hyper(label: &[u8], list: &[u8], at: usize) {
-    if let Hyper::Taken(n, _) = xdr::read_hyper(list, at) {
-        labelled(label, n);
-    }
-}
-
-fn entry(list: &[u8], i: usize) {
-    // so that the product can't overflow; a list has at most 2,730
-    if i < 100000 {
-        let at = i * ENTRY_BYTES;
-        word(b"file ", list, at);
-        word(b" block ", list, at + 4);
-        hyper(b" offset ", list, at + 8);
-        word(b" length ", list, at + 16);
-        word(b" peer ", list, at + 20);
-        text(b"\n");
-    }
+// How many entries a list of so many bytes has.
+fn count_in(bytes: usize) -> usize
+    ensures { λ r. ⌜ r ≡ bytes / 24 ⌝ }
+{
+    bytes / BYTES
 }
 
 // A list of so many bytes.
-pub fn list(list: &[u8], bytes: usize) {
-    let count = bytes / ENTRY_BYTES;
-    entries(list, count);
-    labelled(b"wanted ", count as u64);
-    text(b"\n");
+pub fn list(list: &[u8], bytes: usize) -> bool {
+    let count = count_in(bytes);
+    entries(list, count) && labelled(b"wanted ", count as u64) && text(b"\n")
 }
 
-fn entries(list: &[u8], count: usize) {
+fn entries(list: &[u8], count: usize) -> bool {
     for i in 0..count {
-        entry(list, i);
+        if !show(entry_of(list, i)) {
+            return false;
+        }
     }
+    true
 }
 
-pub fn refused(number: u32) {
-    labelled(b"refused ", number as u64);
-    text(b"\n");
+pub fn refused(number: u32) -> bool {
+    labelled(b"refused ", number as u64) && text(b"\n")
 }

@@ -36,7 +36,7 @@ static int tables(void)
 
     CHECK(bep_check_table(files, 72) == 0 && bep_check_table(files, 71) == 15);
     CHECK(bep_compare(files, 72, 4, files, 72, 4, length) == 0 && length[0] == 1);
-    CHECK(bep_compare(files, 72, 4, files, 72, 72, length) == 1 && length[0] == 0);
+    CHECK(bep_compare(files, 72, 4, files, 72, 72, length) == 1 && length[0] == 72);
     CHECK(bep_merge(out, 100, files, 72, empty, 4, length) == 0);
     CHECK(length[0] == 72 && memcmp(out, files, 72) == 0);
     CHECK(bep_merge(out, 71, files, 72, empty, 4, length) == 14 && length[0] == 0);
@@ -68,6 +68,7 @@ static int queues(void)
 
     CHECK(bep_queue_open(queue, 17) == 22 && queue[0] == 0);
     CHECK(bep_queue_drop(queue) == 22);
+    CHECK(bep_queue_open_default(queue) == 0 && queue[0] == 16);
     CHECK(bep_queue_open(queue, 2) == 0 && queue[0] == 2);
     CHECK(bep_queue_issue(out, 67, queue, data, 1, data, 1, 0, 5, hash, 32, issued) == 14);
     CHECK(bep_queue_issue(out, 68, queue, data, 1, data, 1, 0, 5, hash, 32, issued) == 0);
@@ -153,7 +154,9 @@ int main(void)
     CHECK(file[0] == 72 && file[1] == 8 && file[2] == 1 && file[3] == 0644);
     CHECK(file[4] == UINT64_MAX - 1 && file[5] == 3 && file[6] == 1 && file[7] == 32);
     CHECK(bep_file(files, 72, 72, file) == 1);
-    CHECK(file[0] == 0 && file[7] == 0);
+    CHECK(file[0] == 72 && file[7] == 0);
+    CHECK(bep_file(files, 71, 4, file) == 1 && file[0] == 36);
+    CHECK(bep_file(files, 31, 4, file) == 1 && file[0] == 28);
 
     CHECK(bep_write_index_update(out, 83, 7, repository, 2, files, 72, length) == 14);
     CHECK(length[0] == 0);
@@ -187,6 +190,7 @@ int main(void)
     CHECK(bep_option(options, 20, 4, option) == 0);
     CHECK(option[0] == 20 && option[1] == 8 && option[2] == 1);
     CHECK(option[3] == 16 && option[4] == 2);
-    CHECK(bep_option(options, 20, 20, option) == 1);
+    CHECK(bep_option(options, 20, 20, option) == 1 && option[0] == 20);
+    CHECK(bep_option(options, 19, 4, option) == 1 && option[0] == 12);
     return tables() || queues() || requests();
 }

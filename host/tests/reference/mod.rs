@@ -16,7 +16,7 @@ mod write;
 
 pub use queue::{Answered, Outcome, Queue, Request as Outstanding};
 pub use read::{read, Body, Message};
-pub use records::{file_at, option_at, File, KeyValue};
+pub use records::{file_at, file_or_missing, option_at, option_or_missing, File, KeyValue};
 pub use table::{accept, compare, is_good, merge, step, MAX_TABLE};
 pub use want::{find_local, request_list, serve, Serving};
 pub use write::{

@@ -96,22 +96,29 @@ pub struct File {
 }
 
 /// The record at the place `at`, or none where its fields aren't wholly there.
-///
-/// It looks at bounds alone, since the array has been read before.
 pub fn file_at(array: &[u8], at: usize) -> Option<File> {
-    let mut reader = Reader::new(array.get(at..)?, at);
+    file_or_missing(array, at).ok()
+}
+
+/// The record at the place `at`, or the first byte of the field that isn't wholly there.
+pub fn file_or_missing(array: &[u8], at: usize) -> Result<File, usize> {
+    let mut reader = Reader::new(array.get(at..).ok_or(at)?, at);
     let name = unchecked_opaque(&mut reader)?;
-    let flags = reader.word().ok()?;
-    let modified = reader.hyper().ok()? as i64;
-    let version = reader.word().ok()?;
-    let blocks = reader.word().ok()?;
+    let flags = reader.word().map_err(place)?;
+    let modified = reader.hyper().map_err(place)? as i64;
+    let version = reader.word().map_err(place)?;
+    let blocks = reader.word().map_err(place)?;
     let first_block = reader.place();
-    let len = (blocks as usize).checked_mul(BLOCK_LEN)?;
-    if reader.rest().len() < len {
-        return None;
+    for _ in 0..blocks {
+        reader.word().map_err(place)?;
+        let hash = reader.place();
+        if reader.rest().len() < BLOCK_LEN - 4 {
+            return Err(hash);
+        }
+        reader.skip(BLOCK_LEN - 4);
     }
-    Some(File {
-        end: first_block + len,
+    Ok(File {
+        end: reader.place(),
         name,
         flags,
         modified,
@@ -119,6 +126,10 @@ pub fn file_at(array: &[u8], at: usize) -> Option<File> {
         blocks,
         first_block,
     })
+}
+
+fn place(refusal: Refusal) -> usize {
+    refusal.place
 }
 
 /// One option of an array.
@@ -132,24 +143,31 @@ pub struct KeyValue {
 
 /// The option at the place `at`, or none where its fields aren't wholly there.
 pub fn option_at(array: &[u8], at: usize) -> Option<KeyValue> {
-    let mut reader = Reader::new(array.get(at..)?, at);
+    option_or_missing(array, at).ok()
+}
+
+/// The option at the place `at`, or the first byte of the field that isn't wholly there.
+pub fn option_or_missing(array: &[u8], at: usize) -> Result<KeyValue, usize> {
+    let mut reader = Reader::new(array.get(at..).ok_or(at)?, at);
     let key = unchecked_opaque(&mut reader)?;
     let value = unchecked_opaque(&mut reader)?;
-    Some(KeyValue {
+    Ok(KeyValue {
         end: reader.place(),
         key,
         value,
     })
 }
 
-/// A string or opaque by bounds alone: of any length, with any contents and pad.
-fn unchecked_opaque(reader: &mut Reader) -> Option<Span> {
-    let len = reader.word().ok()? as usize;
-    let padded = len.checked_next_multiple_of(4)?;
+/// A string or opaque by bounds alone: of any length, with any contents and pad. Or its place, where it
+/// isn't wholly there.
+fn unchecked_opaque(reader: &mut Reader) -> Result<Span, usize> {
+    let at = reader.place();
+    let len = reader.word().map_err(place)? as usize;
+    let padded = len.checked_next_multiple_of(4).ok_or(at)?;
     if reader.rest().len() < padded {
-        return None;
+        return Err(at);
     }
     let start = reader.place();
     reader.skip(padded);
-    Some(Span { start, len })
+    Ok(Span { start, len })
 }

@@ -135,14 +135,14 @@ impl Comparison {
     /// The record at any place of an array.
     pub fn file(&mut self, array: &[u8], at: usize) -> Compared {
         self.calls += 1;
-        let expected = file_words(reference::file_at(array, at));
+        let expected = file_words(reference::file_or_missing(array, at));
         same("bep_file", &(self.library.file)(array, at), &expected)
     }
 
     /// The option at any place of an array.
     pub fn option(&mut self, array: &[u8], at: usize) -> Compared {
         self.calls += 1;
-        let expected = option_words(reference::option_at(array, at));
+        let expected = option_words(reference::option_or_missing(array, at));
         same("bep_option", &(self.library.option)(array, at), &expected)
     }
 
@@ -320,9 +320,10 @@ pub fn read_words(read: &Result<reference::Message, reference::Refusal>) -> Answ
     (0, answer)
 }
 
-pub fn file_words(file: Option<reference::File>) -> Answer<8> {
-    let Some(file) = file else {
-        return (1, [0; 8]);
+pub fn file_words(file: Result<reference::File, usize>) -> Answer<8> {
+    let file = match file {
+        Ok(file) => file,
+        Err(missing) => return (1, [missing as u64, 0, 0, 0, 0, 0, 0, 0]),
     };
     let words = [
         file.end as u64,
@@ -337,9 +338,10 @@ pub fn file_words(file: Option<reference::File>) -> Answer<8> {
     (0, words)
 }
 
-fn option_words(option: Option<reference::KeyValue>) -> Answer<5> {
-    let Some(option) = option else {
-        return (1, [0; 5]);
+fn option_words(option: Result<reference::KeyValue, usize>) -> Answer<5> {
+    let option = match option {
+        Ok(option) => option,
+        Err(missing) => return (1, [missing as u64, 0, 0, 0, 0]),
     };
     let words = [
         option.end as u64,

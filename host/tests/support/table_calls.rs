@@ -99,13 +99,13 @@ impl TableComparison {
 
     /// The records at two places.
     pub fn compare(&mut self, a: &[u8], i: usize, b: &[u8], j: usize) -> Compared {
-        let expected = match (reference::file_at(a, i), reference::file_at(b, j)) {
-            (Some(f), Some(g)) => match reference::compare(a, &f, b, &g) {
+        let expected = match (reference::file_or_missing(a, i), reference::file_or_missing(b, j)) {
+            (Ok(f), Ok(g)) => match reference::compare(a, &f, b, &g) {
                 Ordering::Less => (0, [0]),
                 Ordering::Equal => (0, [1]),
                 Ordering::Greater => (0, [2]),
             },
-            _ => (1, [0]),
+            (Err(missing), _) | (_, Err(missing)) => (1, [missing as u64]),
         };
         self.met("compare", expected.0);
         same("bep_compare", &(self.calls.compare)(a, i, b, j), &expected)
@@ -152,7 +152,7 @@ impl TableComparison {
     /// What stands at a place of a table.
     pub fn step(&mut self, table: &[u8], at: usize) -> Compared {
         let expected = match reference::step(table, at) {
-            Ok(Some(file)) => file_words(Some(file)),
+            Ok(Some(file)) => file_words(Ok(file)),
             Ok(None) => (0, [0; 8]),
             Err(refusal) => (refusal.number, [0; 8]),
         };

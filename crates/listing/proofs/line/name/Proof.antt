@@ -28,5 +28,6 @@ name-spec =
     (λ c κs. search needs)
     (λ c. search needs)
     (λ c. search needs)
+    (λ c. search needs)
     loop-again
     (λ c. search needs))

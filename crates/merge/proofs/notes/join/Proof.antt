@@ -1,5 +1,4 @@
 -- `merge::notes::join` meets its contract.
-use native.Mathlib.Omega.{arith}
 use mathlib.Core.Path.{refl}
 use borrow.Author.Tests.{le-leb, lt-leb, le-ltb, lt-ltb, eq-eqb, ne-eqb}
 use Rattle.merge.proofs.notes.join.Statement.{statement}
