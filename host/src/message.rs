@@ -29,7 +29,7 @@ pub fn read(input: &[u8]) -> Result<Read<'_>, Refusal> {
     let number = unsafe { ffi::bep_read(input.as_ptr(), input.len(), &mut answer) };
     if number != 0 {
         let place = size(answer[0]);
-        return Err(Refusal { number, place });
+        return Err(Refusal::new(number, place));
     }
     let id = word(answer[2]);
     let message = match answer[1] {

@@ -86,7 +86,7 @@ impl RequestQueue {
     /// use fordtrumpet::RequestQueue;
     ///
     /// assert!(RequestQueue::open_with(4).is_ok());
-    /// assert_eq!(RequestQueue::open_with(17).unwrap_err().number, 22);
+    /// assert_eq!(RequestQueue::open_with(17).unwrap_err().number(), 22);
     /// ```
     pub fn open_with(window: u32) -> Result<Self, Refusal> {
         let mut words = [0; 35];
@@ -112,7 +112,7 @@ impl RequestQueue {
     /// let mut out = [0; 100];
     /// queue.issue(&mut out, b"default", b"a", 0, 131_072, &[0xA7; 32])?;
     /// let again = queue.issue(&mut out, b"default", b"a", 131_072, 5, &[0xA8; 32]);
-    /// assert_eq!(again.unwrap_err().number, 16);
+    /// assert_eq!(again.unwrap_err().number(), 16);
     /// # Ok::<(), fordtrumpet::Refusal>(())
     /// ```
     pub fn issue(
@@ -165,7 +165,7 @@ impl RequestQueue {
     /// let id = queue.issue(&mut out, b"default", b"a", 0, 5, &[0xA7; 32])?.id;
     /// let length = write_response(&mut out, id, b"")?;
     /// assert_eq!(queue.answer(&out[..length])?.outcome, Outcome::NotAvailable);
-    /// assert_eq!(queue.answer(&out[..length]).unwrap_err().number, 20);
+    /// assert_eq!(queue.answer(&out[..length]).unwrap_err().number(), 20);
     /// # Ok::<(), fordtrumpet::Refusal>(())
     /// ```
     pub fn answer<'a>(&mut self, message: &'a [u8]) -> Result<Answered<'a>, Refusal> {
@@ -247,9 +247,6 @@ impl RequestQueue {
 fn accepted(number: u32, place: u64) -> Result<(), Refusal> {
     match number {
         0 => Ok(()),
-        _ => Err(Refusal {
-            number,
-            place: size(place),
-        }),
+        _ => Err(Refusal::new(number, size(place))),
     }
 }

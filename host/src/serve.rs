@@ -77,9 +77,6 @@ pub fn serve<'a>(
             offset,
             length: word(length),
         }),
-        (number, [place, ..]) => Err(Refusal {
-            number,
-            place: size(place),
-        }),
+        (number, [place, ..]) => Err(Refusal::new(number, size(place))),
     }
 }

@@ -38,13 +38,13 @@ impl<'a> Table<'a> {
     /// use fordtrumpet::Table;
     ///
     /// assert!(Table::new(Table::EMPTY).is_ok());
-    /// assert_eq!(Table::new(&[]).unwrap_err().number, 15);
+    /// assert_eq!(Table::new(&[]).unwrap_err().number(), 15);
     /// ```
     pub fn new(bytes: &'a [u8]) -> Result<Self, Refusal> {
         // SAFETY: pointer and length are those of one slice.
         let number = unsafe { ffi::bep_check_table(bytes.as_ptr(), bytes.len()) };
         if number != 0 {
-            return Err(Refusal { number, place: 0 });
+            return Err(Refusal::new(number, 0));
         }
         let count = u32::from_be_bytes([bytes[0], bytes[1], bytes[2], bytes[3]]);
         Ok(Table {

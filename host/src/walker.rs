@@ -50,7 +50,7 @@ impl<'a> Walker<'a> {
     /// ```
     /// use fordtrumpet::Walker;
     ///
-    /// assert_eq!(Walker::open(b"").step().unwrap_err().number, 15);
+    /// assert_eq!(Walker::open(b"").step().unwrap_err().number(), 15);
     /// ```
     pub fn step(&mut self) -> Result<Option<FileInfo<'a>>, Refusal> {
         let table = self.table;
@@ -58,7 +58,7 @@ impl<'a> Walker<'a> {
         // SAFETY: pointer and length are those of one slice, and the answer has the size asked for.
         let number = unsafe { ffi::bep_step(table.as_ptr(), table.len(), self.at, &mut answer) };
         if number != 0 {
-            return Err(Refusal { number, place: 0 });
+            return Err(Refusal::new(number, 0));
         }
         if answer[0] == 0 {
             return Ok(None);

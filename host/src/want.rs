@@ -231,6 +231,6 @@ pub fn find_local(table: &[u8], length: u32, hash: &[u8]) -> Result<Option<(u32,
     match (number, size(answer[0])) {
         (0, 0) => Ok(None),
         (0, _) => Ok(Some((word(answer[1]), word(answer[2])))),
-        _ => Err(Refusal { number, place: 0 }),
+        _ => Err(Refusal::new(number, 0)),
     }
 }

@@ -108,7 +108,7 @@ pub fn write_index_update(
 /// assert_eq!(length, 80);
 ///
 /// let refusal = write_request(&mut out, 7, b"default", b"", 0, 5, &[0xAB; 32]).unwrap_err();
-/// assert_eq!((refusal.number, refusal.place), (8, 16));
+/// assert_eq!((refusal.number(), refusal.place()), (8, 16));
 /// # Ok::<(), fordtrumpet::Refusal>(())
 /// ```
 pub fn write_request(

@@ -38,7 +38,7 @@ fn refuses(draft: &Draft, number: u32, place: usize) {
         let refusal = draft.write_with_reference(&mut out).unwrap_err();
         assert_eq!(refusal, Refusal { number, place });
         let refusal = draft.write_with_library(&mut out).unwrap_err();
-        assert_eq!((refusal.number, refusal.place), (number, place));
+        assert_eq!((refusal.number(), refusal.place()), (number, place));
         assert!(out.iter().all(|&byte| byte == 0xD7));
     }
 }
@@ -69,7 +69,7 @@ fn with_reference(draft: &Draft, out: &mut [u8]) -> Result<usize, (u32, usize)> 
 
 fn with_library(draft: &Draft, out: &mut [u8]) -> Result<usize, (u32, usize)> {
     let written = draft.write_with_library(out);
-    written.map_err(|refusal| (refusal.number, refusal.place))
+    written.map_err(|refusal| (refusal.number(), refusal.place()))
 }
 
 const NOTHING: Span = Span { start: 8, len: 0 };

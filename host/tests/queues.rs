@@ -281,7 +281,7 @@ fn the_safe_queue_goes_the_same_way() {
                         };
                         (answered.request.id, answered.request.length, data)
                     });
-                    let refused = |refusal: fordtrumpet::Refusal| (refusal.number, refusal.place);
+                    let refused = |refusal: fordtrumpet::Refusal| (refusal.number(), refusal.place());
                     let known = |refusal: reference::Refusal| (refusal.number, refusal.place);
                     assert_eq!(given.map_err(refused), expected.map_err(known));
                 }
@@ -300,7 +300,7 @@ fn the_safe_queue_goes_the_same_way() {
                         }
                         (Err(given), Err(expected)) => {
                             assert_eq!(
-                                (given.number, given.place),
+                                (given.number(), given.place()),
                                 (expected.number, expected.place)
                             );
                         }

@@ -34,12 +34,12 @@ fn list(tables: [&[u8]; 5], out: &mut [u8]) -> Answer<1> {
     let [local, peers @ ..] = tables;
     match fordtrumpet::request_list(local, peers, out) {
         Ok(list) => (0, [list.as_bytes().len() as u64]),
-        Err(refusal) => (refusal.number, [refusal.place as u64]),
+        Err(refusal) => (refusal.number(), [refusal.place() as u64]),
     }
 }
 
 fn find(table: &[u8], length: u32, hash: &[u8]) -> Result<Option<(u32, u32)>, u32> {
-    fordtrumpet::find_local(table, length, hash).map_err(|refusal| refusal.number)
+    fordtrumpet::find_local(table, length, hash).map_err(|refusal| refusal.number())
 }
 
 /// What a ruling came to, in words that both sides share.
@@ -61,7 +61,7 @@ fn serve(table: &[u8], repository: &[u8], message: &[u8], out: &mut [u8]) -> Rul
             Ruling::Served(start, name.len(), offset, length)
         }
         Ok(fordtrumpet::Serving::Replied(len)) => Ruling::Replied(len),
-        Err(refusal) => Ruling::Refused(refusal.number, refusal.place),
+        Err(refusal) => Ruling::Refused(refusal.number(), refusal.place()),
     }
 }
 

@@ -56,7 +56,7 @@ fn option(array: &[u8], at: usize) -> Answer<5> {
 fn write(draft: &Draft, out: &mut [u8]) -> Answer<1> {
     match draft.write_with_library(out) {
         Ok(len) => (0, [len as u64]),
-        Err(Refusal { number, place }) => (number, [place as u64]),
+        Err(refusal) => (refusal.number(), [refusal.place() as u64]),
     }
 }
 
@@ -66,8 +66,8 @@ fn read_safely(input: &[u8]) -> Answer<11> {
     let Read { message, used } = match fordtrumpet::read(input) {
         Ok(read) => read,
         Err(refusal) => {
-            answer[0] = refusal.place as u64;
-            return (refusal.number, answer);
+            answer[0] = refusal.place() as u64;
+            return (refusal.number(), answer);
         }
     };
     let mut put = |at: usize, field: &[u8]| {

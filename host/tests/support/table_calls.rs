@@ -56,7 +56,7 @@ fn step(table: &[u8], at: usize) -> Answer<8> {
 fn filled(answer: Result<usize, fordtrumpet::Refusal>) -> Answer<1> {
     match answer {
         Ok(len) => (0, [len as u64]),
-        Err(refusal) => (refusal.number, [refusal.place as u64]),
+        Err(refusal) => (refusal.number(), [refusal.place() as u64]),
     }
 }
 
@@ -173,7 +173,7 @@ impl TableComparison {
                 Ok(Some(file)) => file,
                 Ok(None) => return same("the walker's end", &safe.map(|f| f.is_none()), &Ok(true)),
                 Err(refusal) => {
-                    let number = safe.map(|_| ()).map_err(|refusal| refusal.number);
+                    let number = safe.map(|_| ()).map_err(|refusal| refusal.number());
                     return same("the walker's refusal", &number, &Err(refusal.number));
                 }
             };
