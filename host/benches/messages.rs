@@ -133,7 +133,7 @@ fn compare_reading(what: &str, draft: &Draft) {
 fn compare_writing(what: &str, draft: &Draft) {
     let len = draft.encode().bytes.len();
     let mut out = vec![0; len];
-    type Library = fn(&Draft, &mut [u8]) -> Result<usize, fordtrumpet::Refusal>;
+    type Library = fn(&Draft, &mut [u8]) -> Result<usize, (u32, usize)>;
     type Reference = fn(&Draft, &mut [u8]) -> Result<usize, reference::Refusal>;
     let library: Library = black_box(Draft::write_with_library);
     let reference: Reference = black_box(Draft::write_with_reference);

@@ -18,7 +18,7 @@ use crate::{Block, Flags};
 /// files.push(b"a.txt", Flags(0o644), 1_700_000_000, 0, [Block { length: 5, hash: &hash }]);
 /// files.push(b"b.txt", Flags(Flags::DELETED), 1_700_000_000, 3, []);
 /// let mut out = [0; 200];
-/// let length = write_index(&mut out, 0, b"default", files.as_bytes())?;
+/// let length = write_index(0, b"default", files.as_bytes(), &mut out)?;
 /// # assert_eq!(length, 124);
 /// # Ok::<(), fordtrumpet::Refusal>(())
 /// ```
@@ -81,7 +81,7 @@ impl FilesBuilder {
     ///
     /// let files = FilesBuilder::new();
     /// let mut out = [0; 12];
-    /// write_index(&mut out, 0, b"", files.as_bytes())?;
+    /// write_index(0, b"", files.as_bytes(), &mut out)?;
     /// # Ok::<(), fordtrumpet::Refusal>(())
     /// ```
     pub fn as_bytes(&self) -> &[u8] {
@@ -121,7 +121,7 @@ impl Default for FilesBuilder {
 /// options.push(b"clientId", b"fordtrumpet");
 /// options.push(b"clientVersion", b"v0.1.0");
 /// let mut out = [0; 100];
-/// let length = write_options(&mut out, 0, options.as_bytes())?;
+/// let length = write_options(0, options.as_bytes(), &mut out)?;
 /// # assert_eq!(length, 68);
 /// # Ok::<(), fordtrumpet::Refusal>(())
 /// ```
@@ -162,7 +162,7 @@ impl OptionsBuilder {
     ///
     /// let options = OptionsBuilder::new();
     /// let mut out = [0; 8];
-    /// write_options(&mut out, 0, options.as_bytes())?;
+    /// write_options(0, options.as_bytes(), &mut out)?;
     /// # Ok::<(), fordtrumpet::Refusal>(())
     /// ```
     pub fn as_bytes(&self) -> &[u8] {

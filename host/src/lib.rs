@@ -22,7 +22,7 @@
 //! let mut files = FilesBuilder::new();
 //! files.push(b"notes.txt", Flags(0o644), 1_700_000_000, 0, []);
 //! let mut out = [0; 100];
-//! let length = write_index(&mut out, 1, b"default", files.as_bytes())?;
+//! let length = write_index(1, b"default", files.as_bytes(), &mut out)?;
 //!
 //! let read = read(&out[..length])?;
 //! assert_eq!(read.used, length);
@@ -39,7 +39,7 @@
 //!
 //! ```compile_fail,E0502
 //! let mut bytes = [0; 100];
-//! fordtrumpet::write_response(&mut bytes[..50], 0, &bytes[20..30]);
+//! fordtrumpet::write_response(0, &bytes[20..30], &mut bytes[..50]);
 //! ```
 
 #![deny(missing_docs)]

@@ -13,9 +13,9 @@ use crate::{ffi, Refusal};
 ///
 /// let mut queue = RequestQueue::open();
 /// let mut out = [0; 100];
-/// let issued = queue.issue(&mut out, b"default", b"notes.txt", 0, 3, &[0xA7; 32])?;
+/// let issued = queue.issue(b"default", b"notes.txt", 0, 3, &[0xA7; 32], &mut out)?;
 /// // Send `out[..issued.written]`, and there comes the answer:
-/// let length = write_response(&mut out, issued.id, b"abc")?;
+/// let length = write_response(issued.id, b"abc", &mut out)?;
 /// let answered = queue.answer(&out[..length])?;
 /// assert_eq!(answered.outcome, Outcome::Data(b"abc"));
 /// assert_eq!(queue.outstanding(), 0);
@@ -110,19 +110,19 @@ impl RequestQueue {
     ///
     /// let mut queue = RequestQueue::open_with(1)?;
     /// let mut out = [0; 100];
-    /// queue.issue(&mut out, b"default", b"a", 0, 131_072, &[0xA7; 32])?;
-    /// let again = queue.issue(&mut out, b"default", b"a", 131_072, 5, &[0xA8; 32]);
+    /// queue.issue(b"default", b"a", 0, 131_072, &[0xA7; 32], &mut out)?;
+    /// let again = queue.issue(b"default", b"a", 131_072, 5, &[0xA8; 32], &mut out);
     /// assert_eq!(again.unwrap_err().number(), 16);
     /// # Ok::<(), fordtrumpet::Refusal>(())
     /// ```
     pub fn issue(
         &mut self,
-        out: &mut [u8],
         repository: &[u8],
         name: &[u8],
         offset: u64,
         length: u32,
-        hash: &[u8],
+        hash: &[u8; 32],
+        out: &mut [u8],
     ) -> Result<Issued, Refusal> {
         let mut answer = [0; 2];
         // SAFETY: each pointer and length are those of one slice, `out` and the queue are borrowed for
@@ -162,8 +162,8 @@ impl RequestQueue {
     ///
     /// let mut queue = RequestQueue::open();
     /// let mut out = [0; 100];
-    /// let id = queue.issue(&mut out, b"default", b"a", 0, 5, &[0xA7; 32])?.id;
-    /// let length = write_response(&mut out, id, b"")?;
+    /// let id = queue.issue(b"default", b"a", 0, 5, &[0xA7; 32], &mut out)?.id;
+    /// let length = write_response(id, b"", &mut out)?;
     /// assert_eq!(queue.answer(&out[..length])?.outcome, Outcome::NotAvailable);
     /// assert_eq!(queue.answer(&out[..length]).unwrap_err().number(), 20);
     /// # Ok::<(), fordtrumpet::Refusal>(())
@@ -199,10 +199,10 @@ impl RequestQueue {
     /// # use fordtrumpet::RequestQueue;
     /// # let mut queue = RequestQueue::open();
     /// # let mut out = [0; 100];
-    /// queue.issue(&mut out, b"default", b"a", 0, 5, &[0xA7; 32])?;
+    /// queue.issue(b"default", b"a", 0, 5, &[0xA7; 32], &mut out)?;
     /// queue.drop_link();
     /// assert_eq!(queue.outstanding_bytes(), 0);
-    /// assert_eq!(queue.issue(&mut out, b"default", b"a", 0, 5, &[0xA7; 32])?.id, 1);
+    /// assert_eq!(queue.issue(b"default", b"a", 0, 5, &[0xA7; 32], &mut out)?.id, 1);
     /// # Ok::<(), fordtrumpet::Refusal>(())
     /// ```
     pub fn drop_link(&mut self) {
@@ -217,7 +217,7 @@ impl RequestQueue {
     /// # use fordtrumpet::RequestQueue;
     /// # let mut queue = RequestQueue::open();
     /// # let mut out = [0; 100];
-    /// queue.issue(&mut out, b"default", b"a", 0, 5, &[0xA7; 32])?;
+    /// queue.issue(b"default", b"a", 0, 5, &[0xA7; 32], &mut out)?;
     /// assert_eq!((queue.outstanding(), queue.outstanding_bytes()), (1, 5));
     /// # Ok::<(), fordtrumpet::Refusal>(())
     /// ```

@@ -19,7 +19,7 @@ const BLOCK_LEN: usize = 40;
 /// # array.push(b"a", Flags(0o644), 5, 0, []);
 /// # array.push(b"b", Flags(Flags::DELETED), 6, 0, []);
 /// # let mut out = [0; 100];
-/// # let used = write_index(&mut out, 0, b"", array.as_bytes()).unwrap();
+/// # let used = write_index(0, b"", array.as_bytes(), &mut out).unwrap();
 /// # let input = &out[..used];
 /// let Message::Index(index) = read(input)?.message else { panic!("not an Index") };
 /// assert_eq!(index.files.len(), 2);
@@ -73,7 +73,7 @@ impl<'a> Files<'a> {
     /// # let input = [0, 1, 1, 0, 0, 0, 0, 0, 0, 0, 0, 0];
     /// # let Message::Index(index) = read(&input).unwrap().message else { panic!() };
     /// let mut out = [0; 12];
-    /// write_index_update(&mut out, 2, index.repository, index.files.as_bytes())?;
+    /// write_index_update(2, index.repository, index.files.as_bytes(), &mut out)?;
     /// # Ok::<(), Refusal>(())
     /// ```
     pub fn as_bytes(&self) -> &'a [u8] {
@@ -87,7 +87,7 @@ impl<'a> Files<'a> {
     /// # let mut array = FilesBuilder::new();
     /// # array.push(b"a", Flags(Flags::DELETED), 5, 0, []);
     /// # let mut out = [0; 100];
-    /// # write_index(&mut out, 0, b"", array.as_bytes()).unwrap();
+    /// # write_index(0, b"", array.as_bytes(), &mut out).unwrap();
     /// # let Message::Index(index) = read(&out).unwrap().message else { panic!() };
     /// let deleted = index.files.iter().filter(|file| file.flags.is_deleted());
     /// assert_eq!(deleted.count(), 1);
@@ -254,7 +254,7 @@ impl Flags {
 /// # let mut array = FilesBuilder::new();
 /// # array.push(b"a", Flags(0o644), 5, 0, [Block { length: 9, hash: &hash }]);
 /// # let mut out = [0; 100];
-/// # write_index(&mut out, 0, b"", array.as_bytes()).unwrap();
+/// # write_index(0, b"", array.as_bytes(), &mut out).unwrap();
 /// # let Message::Index(index) = read(&out).unwrap().message else { panic!() };
 /// # let file = index.files.iter().next().unwrap();
 /// let size: u64 = file.blocks.iter().map(|block| u64::from(block.length)).sum();
@@ -274,7 +274,7 @@ impl<'a> Blocks<'a> {
     /// # let mut array = FilesBuilder::new();
     /// # array.push(b"a", Flags(Flags::DELETED), 5, 0, []);
     /// # let mut out = [0; 100];
-    /// # write_index(&mut out, 0, b"", array.as_bytes()).unwrap();
+    /// # write_index(0, b"", array.as_bytes(), &mut out).unwrap();
     /// # let Message::Index(index) = read(&out).unwrap().message else { panic!() };
     /// # let deleted = index.files.iter().next().unwrap();
     /// assert_eq!(deleted.blocks.len(), 0);
@@ -290,7 +290,7 @@ impl<'a> Blocks<'a> {
     /// # let mut array = FilesBuilder::new();
     /// # array.push(b"a", Flags(Flags::DELETED), 5, 0, []);
     /// # let mut out = [0; 100];
-    /// # write_index(&mut out, 0, b"", array.as_bytes()).unwrap();
+    /// # write_index(0, b"", array.as_bytes(), &mut out).unwrap();
     /// # let Message::Index(index) = read(&out).unwrap().message else { panic!() };
     /// # let deleted = index.files.iter().next().unwrap();
     /// assert!(deleted.blocks.is_empty());
@@ -307,7 +307,7 @@ impl<'a> Blocks<'a> {
     /// # let mut array = FilesBuilder::new();
     /// # array.push(b"a", Flags(0o644), 5, 0, [Block { length: 9, hash: &hash }]);
     /// # let mut out = [0; 100];
-    /// # write_index(&mut out, 0, b"", array.as_bytes()).unwrap();
+    /// # write_index(0, b"", array.as_bytes(), &mut out).unwrap();
     /// # let Message::Index(index) = read(&out).unwrap().message else { panic!() };
     /// # let file = index.files.iter().next().unwrap();
     /// assert!(file.blocks.iter().any(|block| block.hash == &[7; 32]));
@@ -377,7 +377,7 @@ pub struct Block<'a> {
 /// # let mut array = OptionsBuilder::new();
 /// # array.push(b"clientId", b"syncthing");
 /// # let mut out = [0; 100];
-/// # write_options(&mut out, 0, array.as_bytes()).unwrap();
+/// # write_options(0, array.as_bytes(), &mut out).unwrap();
 /// # let Message::Options(message) = read(&out).unwrap().message else { panic!() };
 /// for option in message.options {
 ///     if option.key == b"clientId" {
@@ -430,7 +430,7 @@ impl<'a> KeyValues<'a> {
     /// # let input = [0, 1, 7, 0, 0, 0, 0, 0];
     /// # let Message::Options(message) = read(&input).unwrap().message else { panic!() };
     /// let mut out = [0; 8];
-    /// write_options(&mut out, 2, message.options.as_bytes())?;
+    /// write_options(2, message.options.as_bytes(), &mut out)?;
     /// # Ok::<(), Refusal>(())
     /// ```
     pub fn as_bytes(&self) -> &'a [u8] {
@@ -444,7 +444,7 @@ impl<'a> KeyValues<'a> {
     /// # let mut array = OptionsBuilder::new();
     /// # array.push(b"clientId", b"syncthing");
     /// # let mut out = [0; 100];
-    /// # write_options(&mut out, 0, array.as_bytes()).unwrap();
+    /// # write_options(0, array.as_bytes(), &mut out).unwrap();
     /// # let Message::Options(message) = read(&out).unwrap().message else { panic!() };
     /// let client = message.options.iter().find(|option| option.key == b"clientId");
     /// assert_eq!(client.unwrap().value, b"syncthing");

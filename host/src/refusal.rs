@@ -104,9 +104,11 @@ impl Refusal {
             Refusal::Version(place) => (2, place, "the version isn't 0"),
             Refusal::Type(place) => (3, place, "the type isn't 1 to 7"),
             Refusal::Reserved(place) => (4, place, "the reserved bits aren't 0"),
-            Refusal::AboveLimit(place) => {
-                (5, place, "a length, a count or a Message ID is above its limit")
-            }
+            Refusal::AboveLimit(place) => (
+                5,
+                place,
+                "a length, a count or a Message ID is above its limit",
+            ),
             Refusal::Pad(place) => (6, place, "a pad byte isn't zero"),
             Refusal::Text(place) => (7, place, "a string breaks the text rule"),
             Refusal::EmptyName(place) => (8, place, "the Name is empty"),
@@ -120,10 +122,16 @@ impl Refusal {
             Refusal::WindowFull => (16, 0, "the window is full"),
             Refusal::AllowanceFull => (17, 0, "the byte allowance is exceeded"),
             Refusal::OtherType => (18, 0, "the message is of another type than the call takes"),
-            Refusal::TableTooLarge => {
-                (19, 0, "the resulting table is above 512 records or 65,536 bytes")
-            }
-            Refusal::NotOldest => (20, 0, "the Response isn't to the oldest outstanding request"),
+            Refusal::TableTooLarge => (
+                19,
+                0,
+                "the resulting table is above 512 records or 65,536 bytes",
+            ),
+            Refusal::NotOldest => (
+                20,
+                0,
+                "the Response isn't to the oldest outstanding request",
+            ),
             Refusal::OtherRepository => (21, 0, "the message is for another Repository"),
             Refusal::Unsound => (22, 0, "the window isn't 1 to 16, or the queue isn't sound"),
         }

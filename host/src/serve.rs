@@ -38,7 +38,7 @@ pub enum Serving<'a> {
 /// table.push(b"a", Flags(0), 0, 0, [Block { length: 9, hash: &hash }]);
 ///
 /// let mut request = [0; 380];
-/// let length = write_request(&mut request, 5, b"default", b"a", 0, 9, &hash)?;
+/// let length = write_request(5, b"default", b"a", 0, 9, &hash, &mut request)?;
 /// let mut out = [0; 8];
 /// let serving = serve(table.as_bytes(), b"default", &request[..length], &mut out)?;
 /// assert_eq!(serving, Serving::Served { name: b"a", offset: 0, length: 9 });

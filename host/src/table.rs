@@ -182,7 +182,7 @@ pub fn merge(a: &[u8], b: &[u8], out: &mut [u8]) -> Result<usize, Refusal> {
 /// old.push(b"a", Flags(0o644), 1_700_000_000, 0, []);
 /// sent.push(b"b", Flags(0o644), 1_700_000_000, 0, []);
 /// let (mut message, mut out) = ([0; 100], [0; 100]);
-/// let length = write_index_update(&mut message, 0, b"default", sent.as_bytes())?;
+/// let length = write_index_update(0, b"default", sent.as_bytes(), &mut message)?;
 /// let length = accept(old.as_bytes(), &message[..length], b"default", &mut out)?;
 /// let table = Table::new(&out[..length])?;
 /// assert!(table.files().iter().map(|file| file.name).eq([b"a", b"b"]));

@@ -290,7 +290,10 @@ fn a_merge_is_refused_in_one_grouping_and_not_in_another() {
     let b = encode(&[file("b", 0, 1_000)]);
     let newer = encode(&[file("a", 1, 0)]);
     let mut out = vec![0; 65_536];
-    assert_eq!(fordtrumpet::merge(&a, &b, &mut out).unwrap_err().number(), 19);
+    assert_eq!(
+        fordtrumpet::merge(&a, &b, &mut out).unwrap_err().number(),
+        19
+    );
     let length = fordtrumpet::merge(&a, &newer, &mut out).unwrap();
     let shorter = out[..length].to_vec();
     let length = fordtrumpet::merge(&shorter, &b, &mut out).unwrap();

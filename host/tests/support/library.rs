@@ -56,7 +56,7 @@ fn option(array: &[u8], at: usize) -> Answer<5> {
 fn write(draft: &Draft, out: &mut [u8]) -> Answer<1> {
     match draft.write_with_library(out) {
         Ok(len) => (0, [len as u64]),
-        Err(refusal) => (refusal.number(), [refusal.place() as u64]),
+        Err((number, place)) => (number, [place as u64]),
     }
 }
 

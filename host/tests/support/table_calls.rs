@@ -99,7 +99,10 @@ impl TableComparison {
 
     /// The records at two places.
     pub fn compare(&mut self, a: &[u8], i: usize, b: &[u8], j: usize) -> Compared {
-        let expected = match (reference::file_or_missing(a, i), reference::file_or_missing(b, j)) {
+        let expected = match (
+            reference::file_or_missing(a, i),
+            reference::file_or_missing(b, j),
+        ) {
             (Ok(f), Ok(g)) => match reference::compare(a, &f, b, &g) {
                 Ordering::Less => (0, [0]),
                 Ordering::Equal => (0, [1]),
