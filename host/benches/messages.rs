@@ -116,7 +116,7 @@ fn options(count: usize) -> Draft {
 
 fn compare_reading(what: &str, draft: &Draft) {
     let message = draft.encode().bytes;
-    type Library = fn(&[u8]) -> Result<fordtrumpet::Read<'_>, fordtrumpet::Refusal>;
+    type Library = fn(&[u8]) -> Result<fordtrumpet::ReadMessage<'_>, fordtrumpet::Refusal>;
     type Reference = fn(&[u8]) -> Result<reference::Message, reference::Refusal>;
     let library: Library = black_box(fordtrumpet::read);
     let reference: Reference = black_box(reference::read);

@@ -37,9 +37,11 @@ fn compare_pairs(what: &str, others: usize) {
     let mut out = vec![0; 400];
     for _ in 0..others {
         let (queue, _) = &mut *library.borrow_mut();
-        queue
-            .issue(b"default", NAME, 0, 5, &HASH, &mut out)
-            .unwrap();
+        keep(
+            &queue
+                .issue(b"default", NAME, 0, 5, &HASH, &mut out)
+                .unwrap(),
+        );
         let (queue, _) = &mut *reference.borrow_mut();
         queue
             .issue(b"default", NAME, 0, 5, &HASH, &mut out)

@@ -25,7 +25,7 @@ fn main() -> Result<(), Box<dyn Error>> {
         2,
         [first, second],
     );
-    files.push(b"notes/b.txt", Flags(Flags::DELETED), 1_700_000_100, 0, []);
+    files.push(b"notes/b.txt", Flags::DELETED, 1_700_000_100, 0, []);
 
     let mut out = [0; 1024];
     let length = write_index(1, b"default", files.as_bytes(), &mut out)?;

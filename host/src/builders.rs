@@ -16,7 +16,7 @@ use crate::{Block, Flags};
 /// let hash = [0xAB; 32];
 /// let mut files = FilesBuilder::new();
 /// files.push(b"a.txt", Flags(0o644), 1_700_000_000, 0, [Block { length: 5, hash: &hash }]);
-/// files.push(b"b.txt", Flags(Flags::DELETED), 1_700_000_000, 3, []);
+/// files.push(b"b.txt", Flags::DELETED, 1_700_000_000, 3, []);
 /// let mut out = [0; 200];
 /// let length = write_index(0, b"default", files.as_bytes(), &mut out)?;
 /// # assert_eq!(length, 124);
@@ -236,7 +236,7 @@ mod tests {
         };
         let mut files = FilesBuilder::default();
         files.push(b"abcde", Flags(0o644), -2, 9, [block, block]);
-        files.push(b"four", Flags(Flags::DELETED), 3, 0, []);
+        files.push(b"four", Flags::DELETED, 3, 0, []);
 
         let mut expected = Vec::new();
         expected.extend_from_slice(b"\0\0\0\x02");

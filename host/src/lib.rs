@@ -57,13 +57,14 @@ mod queue;
 mod records;
 mod refusal;
 mod serve;
+mod show;
 mod table;
 mod walker;
 mod want;
 mod write;
 
 pub use builders::{FilesBuilder, OptionsBuilder};
-pub use message::{read, Index, Message, Options, Ping, Pong, Read, Request, Response};
+pub use message::{read, Index, Message, Options, Ping, Pong, ReadMessage, Request, Response};
 pub use queue::{Answered, Issued, Outcome, RequestQueue};
 pub use records::{
     Block, Blocks, BlocksIter, FileInfo, Files, FilesIter, Flags, KeyValue, KeyValues,

@@ -1,12 +1,14 @@
 //! Reading a message, and what it holds.
 
 use crate::answer::{size, span, word};
+use crate::show::{Hex, Text};
 use crate::{ffi, Files, KeyValues, Refusal};
+use core::fmt;
 
 /// Reads the message at the start of `input`.
 ///
 /// The fields borrow from `input`. There is no message length on the wire, so `input` may hold more
-/// than the message: [`Read::used`] says where the next one begins, and bytes after that change no
+/// than the message: [`ReadMessage::used`] says where the next one begins, and bytes after that change no
 /// answer. A message that is cut short is refused with number 1; a host that reads from a stream can
 /// wait for more bytes and read again.
 ///
@@ -23,7 +25,7 @@ use crate::{ffi, Files, KeyValues, Refusal};
 /// assert_eq!(read.message.id(), 7);
 /// assert!(matches!(read.message, Message::Ping(_)));
 /// ```
-pub fn read(input: &[u8]) -> Result<Read<'_>, Refusal> {
+pub fn read(input: &[u8]) -> Result<ReadMessage<'_>, Refusal> {
     let mut answer = [0; 11];
     // SAFETY: pointer and length are those of one slice, and the answer has the size asked for.
     let number = unsafe { ffi::bep_read(input.as_ptr(), input.len(), &mut answer) };
@@ -57,7 +59,7 @@ pub fn read(input: &[u8]) -> Result<Read<'_>, Refusal> {
         }),
         kind => unreachable!("an accepted message has no type {kind}"),
     };
-    Ok(Read {
+    Ok(ReadMessage {
         message,
         used: size(answer[0]),
     })
@@ -72,8 +74,9 @@ fn index<'a>(input: &'a [u8], id: u32, answer: &[u64; 11]) -> Index<'a> {
 }
 
 /// A message and the number of bytes it was read from.
-#[derive(Clone, Copy, Debug)]
-pub struct Read<'a> {
+#[derive(Clone, Copy, Debug, PartialEq, Eq)]
+#[must_use]
+pub struct ReadMessage<'a> {
     /// The message.
     pub message: Message<'a>,
     /// The number of bytes the message occupies. Later bytes belong to the next message.
@@ -81,7 +84,7 @@ pub struct Read<'a> {
 }
 
 /// A message of one of the seven types.
-#[derive(Clone, Copy, Debug)]
+#[derive(Clone, Copy, Debug, PartialEq, Eq)]
 pub enum Message<'a> {
     /// The whole contents of the sender's repository.
     Index(Index<'a>),
@@ -119,7 +122,7 @@ impl Message<'_> {
 }
 
 /// An Index or an IndexUpdate; both have the same fields.
-#[derive(Clone, Copy, Debug)]
+#[derive(Clone, Copy, PartialEq, Eq)]
 pub struct Index<'a> {
     /// The Message ID.
     pub id: u32,
@@ -130,7 +133,7 @@ pub struct Index<'a> {
 }
 
 /// A Request for one block.
-#[derive(Clone, Copy, Debug)]
+#[derive(Clone, Copy, PartialEq, Eq)]
 pub struct Request<'a> {
     /// The Message ID.
     pub id: u32,
@@ -147,7 +150,7 @@ pub struct Request<'a> {
 }
 
 /// A Response to a Request.
-#[derive(Clone, Copy, Debug)]
+#[derive(Clone, Copy, PartialEq, Eq)]
 pub struct Response<'a> {
     /// The ID of the Request it answers.
     pub id: u32,
@@ -156,24 +159,56 @@ pub struct Response<'a> {
 }
 
 /// A Ping.
-#[derive(Clone, Copy, Debug)]
+#[derive(Clone, Copy, Debug, PartialEq, Eq)]
 pub struct Ping {
     /// The Message ID.
     pub id: u32,
 }
 
 /// A Pong.
-#[derive(Clone, Copy, Debug)]
+#[derive(Clone, Copy, Debug, PartialEq, Eq)]
 pub struct Pong {
     /// The ID of the Ping it answers.
     pub id: u32,
 }
 
 /// An Options message.
-#[derive(Clone, Copy, Debug)]
+#[derive(Clone, Copy, Debug, PartialEq, Eq)]
 pub struct Options<'a> {
     /// The Message ID.
     pub id: u32,
     /// The options, in the order they were sent in.
     pub options: KeyValues<'a>,
+}
+
+impl fmt::Debug for Index<'_> {
+    fn fmt(&self, f: &mut fmt::Formatter<'_>) -> fmt::Result {
+        f.debug_struct("Index")
+            .field("id", &self.id)
+            .field("repository", &Text(self.repository))
+            .field("files", &self.files)
+            .finish()
+    }
+}
+
+impl fmt::Debug for Request<'_> {
+    fn fmt(&self, f: &mut fmt::Formatter<'_>) -> fmt::Result {
+        f.debug_struct("Request")
+            .field("id", &self.id)
+            .field("repository", &Text(self.repository))
+            .field("name", &Text(self.name))
+            .field("offset", &self.offset)
+            .field("length", &self.length)
+            .field("hash", &Hex(self.hash))
+            .finish()
+    }
+}
+
+impl fmt::Debug for Response<'_> {
+    fn fmt(&self, f: &mut fmt::Formatter<'_>) -> fmt::Result {
+        f.debug_struct("Response")
+            .field("id", &self.id)
+            .field("data", &format_args!("{} bytes", self.data.len()))
+            .finish()
+    }
 }

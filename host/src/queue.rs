@@ -2,6 +2,7 @@
 
 use crate::answer::{size, span, word};
 use crate::{ffi, Refusal};
+use std::fmt;
 
 /// The requests of one link that were issued and not answered yet, oldest first.
 ///
@@ -21,13 +22,14 @@ use crate::{ffi, Refusal};
 /// assert_eq!(queue.outstanding(), 0);
 /// # Ok::<(), fordtrumpet::Refusal>(())
 /// ```
-#[derive(Clone, Debug, PartialEq, Eq)]
+#[derive(Clone, PartialEq, Eq)]
 pub struct RequestQueue {
     words: [u32; 35],
 }
 
 /// A request that was issued.
 #[derive(Clone, Copy, Debug, PartialEq, Eq)]
+#[must_use]
 pub struct Issued {
     /// The ID of the Request.
     pub id: u32,
@@ -37,6 +39,7 @@ pub struct Issued {
 
 /// A request that was answered, and how.
 #[derive(Clone, Copy, Debug, PartialEq, Eq)]
+#[must_use]
 pub struct Answered<'a> {
     /// The ID of the Request and of its Response.
     pub id: u32,
@@ -248,5 +251,42 @@ fn accepted(number: u32, place: u64) -> Result<(), Refusal> {
     match number {
         0 => Ok(()),
         _ => Err(Refusal::new(number, size(place))),
+    }
+}
+
+/// With the default window.
+///
+/// ```
+/// use fordtrumpet::RequestQueue;
+///
+/// assert_eq!(RequestQueue::default(), RequestQueue::open());
+/// ```
+impl Default for RequestQueue {
+    fn default() -> Self {
+        Self::open()
+    }
+}
+
+/// Shows the requests, the oldest first, as ID and length.
+impl fmt::Debug for RequestQueue {
+    fn fmt(&self, f: &mut fmt::Formatter<'_>) -> fmt::Result {
+        let [window, next, _, entries @ ..] = &self.words;
+        let requests: &[[u32; 2]] = entries.as_chunks().0;
+        let requests = &requests[..self.outstanding()];
+        f.debug_struct("RequestQueue")
+            .field("window", window)
+            .field("next_id", next)
+            .field("outstanding", &Outstanding(requests))
+            .finish()
+    }
+}
+
+struct Outstanding<'a>(&'a [[u32; 2]]);
+
+impl fmt::Debug for Outstanding<'_> {
+    fn fmt(&self, f: &mut fmt::Formatter<'_>) -> fmt::Result {
+        f.debug_map()
+            .entries(self.0.iter().map(|[id, length]| (id, length)))
+            .finish()
     }
 }

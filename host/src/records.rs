@@ -2,8 +2,10 @@
 
 use crate::answer::{size, span, word};
 use crate::ffi;
+use crate::show::{Hex, Text};
 use std::fmt;
 use std::iter::FusedIterator;
+use std::ops::BitOr;
 
 /// The place of the first record of an array, after its count word.
 const FIRST: usize = 4;
@@ -17,7 +19,7 @@ const BLOCK_LEN: usize = 40;
 /// # use fordtrumpet::*;
 /// # let mut array = FilesBuilder::new();
 /// # array.push(b"a", Flags(0o644), 5, 0, []);
-/// # array.push(b"b", Flags(Flags::DELETED), 6, 0, []);
+/// # array.push(b"b", Flags::DELETED, 6, 0, []);
 /// # let mut out = [0; 100];
 /// # let used = write_index(0, b"", array.as_bytes(), &mut out).unwrap();
 /// # let input = &out[..used];
@@ -28,7 +30,7 @@ const BLOCK_LEN: usize = 40;
 /// }
 /// # Ok::<(), Refusal>(())
 /// ```
-#[derive(Clone, Copy)]
+#[derive(Clone, Copy, PartialEq, Eq)]
 pub struct Files<'a> {
     bytes: &'a [u8],
     count: usize,
@@ -85,7 +87,7 @@ impl<'a> Files<'a> {
     /// ```
     /// # use fordtrumpet::*;
     /// # let mut array = FilesBuilder::new();
-    /// # array.push(b"a", Flags(Flags::DELETED), 5, 0, []);
+    /// # array.push(b"a", Flags::DELETED, 5, 0, []);
     /// # let mut out = [0; 100];
     /// # write_index(0, b"", array.as_bytes(), &mut out).unwrap();
     /// # let Message::Index(index) = read(&out).unwrap().message else { panic!() };
@@ -108,6 +110,15 @@ impl fmt::Debug for Files<'_> {
 }
 
 impl<'a> IntoIterator for Files<'a> {
+    type Item = FileInfo<'a>;
+    type IntoIter = FilesIter<'a>;
+
+    fn into_iter(self) -> FilesIter<'a> {
+        self.iter()
+    }
+}
+
+impl<'a> IntoIterator for &Files<'a> {
     type Item = FileInfo<'a>;
     type IntoIter = FilesIter<'a>;
 
@@ -149,7 +160,7 @@ impl ExactSizeIterator for FilesIter<'_> {}
 impl FusedIterator for FilesIter<'_> {}
 
 /// One file of an Index or IndexUpdate.
-#[derive(Clone, Copy, Debug)]
+#[derive(Clone, Copy, PartialEq, Eq)]
 pub struct FileInfo<'a> {
     /// The name, 1 to 255 bytes. The protocol's text rule is wider than UTF-8.
     pub name: &'a [u8],
@@ -187,7 +198,7 @@ impl<'a> FileInfo<'a> {
     /// ```
     /// # use fordtrumpet::*;
     /// # let mut array = FilesBuilder::new();
-    /// # array.push(b"a", Flags(Flags::DELETED), 5, 0, []);
+    /// # array.push(b"a", Flags::DELETED, 5, 0, []);
     /// # let table = Table::new(array.as_bytes()).unwrap();
     /// # let file = table.files().iter().next().unwrap();
     /// assert_eq!(file.as_bytes().len(), 28);
@@ -202,7 +213,7 @@ impl<'a> FileInfo<'a> {
 /// ```
 /// use fordtrumpet::Flags;
 ///
-/// let flags = Flags(Flags::INVALID | 0o644);
+/// let flags = Flags::INVALID | Flags(0o644);
 /// assert!(flags.is_invalid());
 /// assert!(!flags.is_deleted());
 /// assert_eq!(flags.mode(), 0o644);
@@ -212,11 +223,11 @@ pub struct Flags(pub u32);
 
 impl Flags {
     /// The flag D of a deleted file.
-    pub const DELETED: u32 = 4096;
+    pub const DELETED: Flags = Flags(4096);
     /// The flag I of a file that is invalid and can't be had for now.
-    pub const INVALID: u32 = 8192;
+    pub const INVALID: Flags = Flags(8192);
     /// The bits of the Unix mode.
-    pub const MODE: u32 = 4095;
+    pub const MODE: Flags = Flags(4095);
 
     /// Whether the file is deleted.
     ///
@@ -224,7 +235,7 @@ impl Flags {
     /// assert!(fordtrumpet::Flags(4096).is_deleted());
     /// ```
     pub fn is_deleted(self) -> bool {
-        self.0 & Flags::DELETED != 0
+        self.0 & Flags::DELETED.0 != 0
     }
 
     /// Whether the file is invalid.
@@ -233,7 +244,7 @@ impl Flags {
     /// assert!(fordtrumpet::Flags(8192).is_invalid());
     /// ```
     pub fn is_invalid(self) -> bool {
-        self.0 & Flags::INVALID != 0
+        self.0 & Flags::INVALID.0 != 0
     }
 
     /// The Unix mode.
@@ -242,7 +253,22 @@ impl Flags {
     /// assert_eq!(fordtrumpet::Flags(4096 | 0o755).mode(), 0o755);
     /// ```
     pub fn mode(self) -> u32 {
-        self.0 & Flags::MODE
+        self.0 & Flags::MODE.0
+    }
+}
+
+/// The flags of both.
+///
+/// ```
+/// use fordtrumpet::Flags;
+///
+/// assert_eq!(Flags::DELETED | Flags(0o600), Flags(4096 + 0o600));
+/// ```
+impl BitOr for Flags {
+    type Output = Flags;
+
+    fn bitor(self, other: Flags) -> Flags {
+        Flags(self.0 | other.0)
     }
 }
 
@@ -260,7 +286,7 @@ impl Flags {
 /// let size: u64 = file.blocks.iter().map(|block| u64::from(block.length)).sum();
 /// # assert_eq!(size, 9);
 /// ```
-#[derive(Clone, Copy)]
+#[derive(Clone, Copy, PartialEq, Eq)]
 pub struct Blocks<'a> {
     /// The blocks without a count word.
     bytes: &'a [u8],
@@ -272,7 +298,7 @@ impl<'a> Blocks<'a> {
     /// ```
     /// # use fordtrumpet::*;
     /// # let mut array = FilesBuilder::new();
-    /// # array.push(b"a", Flags(Flags::DELETED), 5, 0, []);
+    /// # array.push(b"a", Flags::DELETED, 5, 0, []);
     /// # let mut out = [0; 100];
     /// # write_index(0, b"", array.as_bytes(), &mut out).unwrap();
     /// # let Message::Index(index) = read(&out).unwrap().message else { panic!() };
@@ -288,7 +314,7 @@ impl<'a> Blocks<'a> {
     /// ```
     /// # use fordtrumpet::*;
     /// # let mut array = FilesBuilder::new();
-    /// # array.push(b"a", Flags(Flags::DELETED), 5, 0, []);
+    /// # array.push(b"a", Flags::DELETED, 5, 0, []);
     /// # let mut out = [0; 100];
     /// # write_index(0, b"", array.as_bytes(), &mut out).unwrap();
     /// # let Message::Index(index) = read(&out).unwrap().message else { panic!() };
@@ -334,6 +360,15 @@ impl<'a> IntoIterator for Blocks<'a> {
     }
 }
 
+impl<'a> IntoIterator for &Blocks<'a> {
+    type Item = Block<'a>;
+    type IntoIter = BlocksIter<'a>;
+
+    fn into_iter(self) -> BlocksIter<'a> {
+        self.iter()
+    }
+}
+
 /// Goes through [`Blocks`].
 #[derive(Clone, Debug)]
 pub struct BlocksIter<'a> {
@@ -362,7 +397,7 @@ impl ExactSizeIterator for BlocksIter<'_> {}
 impl FusedIterator for BlocksIter<'_> {}
 
 /// One block of a file.
-#[derive(Clone, Copy, Debug, PartialEq, Eq, Hash)]
+#[derive(Clone, Copy, PartialEq, Eq, Hash)]
 pub struct Block<'a> {
     /// The length, 1 to 131,072.
     pub length: u32,
@@ -385,7 +420,7 @@ pub struct Block<'a> {
 ///     }
 /// }
 /// ```
-#[derive(Clone, Copy)]
+#[derive(Clone, Copy, PartialEq, Eq)]
 pub struct KeyValues<'a> {
     bytes: &'a [u8],
     count: usize,
@@ -473,6 +508,15 @@ impl<'a> IntoIterator for KeyValues<'a> {
     }
 }
 
+impl<'a> IntoIterator for &KeyValues<'a> {
+    type Item = KeyValue<'a>;
+    type IntoIter = KeyValuesIter<'a>;
+
+    fn into_iter(self) -> KeyValuesIter<'a> {
+        self.iter()
+    }
+}
+
 /// Goes through [`KeyValues`].
 #[derive(Clone, Debug)]
 pub struct KeyValuesIter<'a> {
@@ -509,10 +553,37 @@ impl ExactSizeIterator for KeyValuesIter<'_> {}
 impl FusedIterator for KeyValuesIter<'_> {}
 
 /// One option: a key and its value.
-#[derive(Clone, Copy, Debug, PartialEq, Eq, Hash)]
+#[derive(Clone, Copy, PartialEq, Eq, Hash)]
 pub struct KeyValue<'a> {
     /// The key, up to 64 bytes.
     pub key: &'a [u8],
     /// The value, up to 255 bytes.
     pub value: &'a [u8],
+}
+
+impl fmt::Debug for FileInfo<'_> {
+    fn fmt(&self, f: &mut fmt::Formatter<'_>) -> fmt::Result {
+        f.debug_struct("FileInfo")
+            .field("name", &Text(self.name))
+            .field("flags", &format_args!("{:#o}", self.flags.0))
+            .field("modified", &self.modified)
+            .field("version", &self.version)
+            .field("blocks", &self.blocks)
+            .finish()
+    }
+}
+
+impl fmt::Debug for Block<'_> {
+    fn fmt(&self, f: &mut fmt::Formatter<'_>) -> fmt::Result {
+        f.debug_struct("Block")
+            .field("length", &self.length)
+            .field("hash", &Hex(self.hash))
+            .finish()
+    }
+}
+
+impl fmt::Debug for KeyValue<'_> {
+    fn fmt(&self, f: &mut fmt::Formatter<'_>) -> fmt::Result {
+        write!(f, "{:?}: {:?}", Text(self.key), Text(self.value))
+    }
 }

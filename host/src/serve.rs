@@ -5,9 +5,12 @@ use crate::{ffi, Refusal};
 
 /// What is to be done about an incoming Request.
 #[derive(Clone, Copy, Debug, PartialEq, Eq)]
+#[must_use]
 pub enum Serving<'a> {
     /// The block is ours: send its bytes in a Response. Nothing was written.
     Served {
+        /// The ID of the Request, which the Response has too.
+        id: u32,
         /// The name of the file, as the Request has it.
         name: &'a [u8],
         /// Where the block begins in the file.
@@ -41,7 +44,7 @@ pub enum Serving<'a> {
 /// let length = write_request(5, b"default", b"a", 0, 9, &hash, &mut request)?;
 /// let mut out = [0; 8];
 /// let serving = serve(table.as_bytes(), b"default", &request[..length], &mut out)?;
-/// assert_eq!(serving, Serving::Served { name: b"a", offset: 0, length: 9 });
+/// assert_eq!(serving, Serving::Served { id: 5, name: b"a", offset: 0, length: 9 });
 ///
 /// let serving = serve(table.as_bytes(), b"another", &request[..length], &mut out)?;
 /// assert_eq!(serving, Serving::Replied(8));
@@ -73,6 +76,8 @@ pub fn serve<'a>(
     match (number, answer) {
         (0, [0, len, ..]) => Ok(Serving::Replied(size(len))),
         (0, [_, start, len, offset, length]) => Ok(Serving::Served {
+            // A message that was accepted has the ID in the low 12 bits of its first two bytes.
+            id: u32::from(u16::from_be_bytes([message[0], message[1]]) & 0x0FFF),
             name: span(message, start, len),
             offset,
             length: word(length),

@@ -26,7 +26,8 @@ pub struct Wanted {
 /// The blocks to request, by name and then by block.
 ///
 /// [`request_list`] gives one.
-#[derive(Clone, Copy)]
+#[derive(Clone, Copy, PartialEq, Eq)]
+#[must_use]
 pub struct RequestList<'a> {
     bytes: &'a [u8],
 }
@@ -97,6 +98,15 @@ impl fmt::Debug for RequestList<'_> {
 }
 
 impl<'a> IntoIterator for RequestList<'a> {
+    type Item = Wanted;
+    type IntoIter = RequestListIter<'a>;
+
+    fn into_iter(self) -> RequestListIter<'a> {
+        self.iter()
+    }
+}
+
+impl<'a> IntoIterator for &RequestList<'a> {
     type Item = Wanted;
     type IntoIter = RequestListIter<'a>;
 

@@ -62,7 +62,7 @@ pub fn write_index(
 /// use fordtrumpet::{write_index_update, FilesBuilder, Flags};
 ///
 /// let mut files = FilesBuilder::new();
-/// files.push(b"notes.txt", Flags(Flags::DELETED), 1_700_000_000, 1, []);
+/// files.push(b"notes.txt", Flags::DELETED, 1_700_000_000, 1, []);
 /// let mut out = [0; 100];
 /// let length = write_index_update(1, b"default", files.as_bytes(), &mut out)?;
 /// assert_eq!(length, 56);

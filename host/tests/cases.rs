@@ -66,7 +66,6 @@ fn with_reference(draft: &Draft, out: &mut [u8]) -> Result<usize, (u32, usize)> 
     written.map_err(|refusal| (refusal.number, refusal.place))
 }
 
-
 const NOTHING: Span = Span { start: 8, len: 0 };
 
 #[test]

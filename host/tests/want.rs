@@ -45,7 +45,7 @@ fn find(table: &[u8], length: u32, hash: &[u8]) -> Result<Option<(u32, u32)>, u3
 /// What a ruling came to, in words that both sides share.
 #[derive(Clone, Copy, Debug, PartialEq, Eq)]
 enum Ruling {
-    Served(usize, usize, u64, u32),
+    Served(u32, usize, usize, u64, u32),
     Replied(usize),
     Refused(u32, usize),
 }
@@ -53,12 +53,13 @@ enum Ruling {
 fn serve(table: &[u8], repository: &[u8], message: &[u8], out: &mut [u8]) -> Ruling {
     match fordtrumpet::serve(table, repository, message, out) {
         Ok(fordtrumpet::Serving::Served {
+            id,
             name,
             offset,
             length,
         }) => {
             let start = name.as_ptr() as usize - message.as_ptr() as usize;
-            Ruling::Served(start, name.len(), offset, length)
+            Ruling::Served(id, start, name.len(), offset, length)
         }
         Ok(fordtrumpet::Serving::Replied(len)) => Ruling::Replied(len),
         Err(refusal) => Ruling::Refused(refusal.number(), refusal.place()),
@@ -68,10 +69,11 @@ fn serve(table: &[u8], repository: &[u8], message: &[u8], out: &mut [u8]) -> Rul
 fn serve_by_reference(table: &[u8], repository: &[u8], message: &[u8], out: &mut [u8]) -> Ruling {
     match reference::serve(table, repository, message, out) {
         Ok(reference::Serving::Served {
+            id,
             name,
             offset,
             length,
-        }) => Ruling::Served(name.start, name.len, offset, length),
+        }) => Ruling::Served(id, name.start, name.len, offset, length),
         Ok(reference::Serving::Replied(len)) => Ruling::Replied(len),
         Err(refusal) => Ruling::Refused(refusal.number, refusal.place),
     }
