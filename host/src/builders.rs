@@ -25,6 +25,8 @@ use crate::{Block, Flags};
 #[derive(Clone, Debug)]
 pub struct FilesBuilder {
     array: Array,
+    /// Where each record begins.
+    starts: Vec<usize>,
 }
 
 impl FilesBuilder {
@@ -36,6 +38,7 @@ impl FilesBuilder {
     pub fn new() -> Self {
         FilesBuilder {
             array: Array::new(),
+            starts: Vec::new(),
         }
     }
 
@@ -57,6 +60,7 @@ impl FilesBuilder {
         blocks: impl IntoIterator<Item = Block<'b>>,
     ) {
         let array = &mut self.array;
+        self.starts.push(array.bytes.len());
         array.count();
         array.string(name);
         array.word(flags.0);
@@ -88,6 +92,20 @@ impl FilesBuilder {
         &self.array.bytes
     }
 
+    /// The encoded records, one by one.
+    pub(crate) fn records(&self) -> impl Iterator<Item = &[u8]> {
+        let ends = self
+            .starts
+            .iter()
+            .skip(1)
+            .copied()
+            .chain([self.array.bytes.len()]);
+        self.starts
+            .iter()
+            .zip(ends)
+            .map(|(&start, end)| &self.array.bytes[start..end])
+    }
+
     /// Removes all files, so that the memory can be used again.
     ///
     /// ```
@@ -100,6 +118,7 @@ impl FilesBuilder {
     /// ```
     pub fn clear(&mut self) {
         self.array.clear();
+        self.starts.clear();
     }
 }
 

@@ -54,6 +54,7 @@ mod builders;
 mod ffi;
 mod message;
 mod queue;
+pub mod raw;
 mod records;
 mod refusal;
 mod serve;
@@ -72,9 +73,8 @@ pub use records::{
 };
 pub use refusal::Refusal;
 pub use serve::{serve, Serving};
-pub use table::{accept, compare, is_good, merge, Table, MAX_TABLE};
-pub use walker::Walker;
-pub use want::{find_local, request_list, RequestList, RequestListIter, Wanted};
+pub use table::{accept, compare, merge, Table, TableBuf, TableError, MAX_RECORDS, MAX_TABLE};
+pub use want::{find_local, request_list, RequestList, RequestListIter, Wanted, MAX_REQUEST_LIST};
 pub use write::{
     write_index, write_index_update, write_options, write_ping, write_pong, write_request,
     write_response,

@@ -38,7 +38,7 @@ pub struct Files<'a> {
 
 impl<'a> Files<'a> {
     /// `bytes` is an array whose reading was accepted, and `count` its number of records.
-    pub(crate) fn new(bytes: &'a [u8], count: usize) -> Self {
+    pub(crate) const fn new(bytes: &'a [u8], count: usize) -> Self {
         Files { bytes, count }
     }
 

@@ -13,7 +13,7 @@ use support::damage;
 use support::draft::{Body, Draft};
 use support::encode::{Block, File};
 use support::generate;
-use support::library::Answer;
+use support::library::{ffi, Answer};
 use support::random::Random;
 use support::table_calls::{expected, TableComparison, TABLE_CALLS};
 use support::tables::{encode, Pool};
@@ -32,14 +32,35 @@ const CALLS: Calls = Calls { list, find };
 
 fn list(tables: [&[u8]; 5], out: &mut [u8]) -> Answer<1> {
     let [local, peers @ ..] = tables;
-    match fordtrumpet::request_list(local, peers, out) {
+    match fordtrumpet::raw::request_list(local, peers, out) {
         Ok(list) => (0, [list.as_bytes().len() as u64]),
         Err(refusal) => (refusal.number(), [refusal.place() as u64]),
     }
 }
 
 fn find(table: &[u8], length: u32, hash: &[u8]) -> Result<Option<(u32, u32)>, u32> {
-    fordtrumpet::find_local(table, length, hash).map_err(|refusal| refusal.number())
+    if let Ok(hash) = hash.try_into() {
+        let found = fordtrumpet::raw::find_local(table, length, hash);
+        return found.map_err(|refusal| refusal.number());
+    }
+    // A hash of another length, which the safe call can't be given.
+    let mut answer = [0; 3];
+    // SAFETY: each pointer and length are those of one slice, and the answer has the size asked for.
+    let number = unsafe {
+        ffi::bep_find(
+            table.as_ptr(),
+            table.len(),
+            length,
+            hash.as_ptr(),
+            hash.len(),
+            &mut answer,
+        )
+    };
+    match (number, answer) {
+        (0, [0, ..]) => Ok(None),
+        (0, [_, record, block]) => Ok(Some((record as u32, block as u32))),
+        _ => Err(number),
+    }
 }
 
 /// What a ruling came to, in words that both sides share.
@@ -51,7 +72,7 @@ enum Ruling {
 }
 
 fn serve(table: &[u8], repository: &[u8], message: &[u8], out: &mut [u8]) -> Ruling {
-    match fordtrumpet::serve(table, repository, message, out) {
+    match fordtrumpet::raw::serve(table, repository, message, out) {
         Ok(fordtrumpet::Serving::Served {
             id,
             name,

@@ -22,7 +22,7 @@ pub struct TableCalls {
 
 /// The library as it is.
 pub const TABLE_CALLS: TableCalls = TableCalls {
-    is_good: fordtrumpet::is_good,
+    is_good: fordtrumpet::raw::is_good,
     compare,
     merge,
     accept,
@@ -38,11 +38,11 @@ fn compare(a: &[u8], i: usize, b: &[u8], j: usize) -> Answer<1> {
 }
 
 fn merge(a: &[u8], b: &[u8], out: &mut [u8]) -> Answer<1> {
-    filled(fordtrumpet::merge(a, b, out))
+    filled(fordtrumpet::raw::merge(a, b, out))
 }
 
 fn accept(old: &[u8], message: &[u8], repository: &[u8], out: &mut [u8]) -> Answer<1> {
-    filled(fordtrumpet::accept(old, message, repository, out))
+    filled(fordtrumpet::raw::accept(old, message, repository, out))
 }
 
 fn step(table: &[u8], at: usize) -> Answer<8> {
@@ -165,7 +165,7 @@ impl TableComparison {
 
     /// Steps through a table, safely too, and looks at a place beside each record.
     pub fn walk(&mut self, table: &[u8], random: &mut Random) -> Compared {
-        let mut walker = fordtrumpet::Walker::open(table);
+        let mut walker = fordtrumpet::raw::Walker::open(table);
         let mut at = 4;
         loop {
             self.step(table, at)?;
