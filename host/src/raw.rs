@@ -21,7 +21,7 @@ pub fn is_good(table: &[u8]) -> bool {
 
 /// Fills `out` with the merged table of two tables and gives its length.
 ///
-/// The merged table has the newest record of each name. A buffer of [`MAX_TABLE`] bytes has room for
+/// The merged table has the newest record of each name. A buffer of [`MAX_TABLE`](crate::MAX_TABLE) bytes has room for
 /// any. Only the bytes of the table change in `out`.
 ///
 /// # Errors

@@ -21,11 +21,14 @@ use support::tables::{encode, Pool};
 const INPUTS: u64 = 60_000;
 const SEED: u64 = 0x3A47_ED00_0000_0000;
 
+/// The numbers of a record and of its block, or none; or the number of the refusal.
+type Found = Result<Option<(u32, u32)>, u32>;
+
 /// The calls under test. Faults are planted by exchanging one of them.
 #[derive(Clone, Copy)]
 struct Calls {
     list: fn([&[u8]; 5], &mut [u8]) -> Answer<1>,
-    find: fn(&[u8], u32, &[u8]) -> Result<Option<(u32, u32)>, u32>,
+    find: fn(&[u8], u32, &[u8]) -> Found,
 }
 
 const CALLS: Calls = Calls { list, find };
@@ -38,7 +41,7 @@ fn list(tables: [&[u8]; 5], out: &mut [u8]) -> Answer<1> {
     }
 }
 
-fn find(table: &[u8], length: u32, hash: &[u8]) -> Result<Option<(u32, u32)>, u32> {
+fn find(table: &[u8], length: u32, hash: &[u8]) -> Found {
     if let Ok(hash) = hash.try_into() {
         let found = fordtrumpet::raw::find_local(table, length, hash);
         return found.map_err(|refusal| refusal.number());
