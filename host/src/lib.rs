@@ -16,6 +16,24 @@
 //!
 //! Names and other strings are bytes: the protocol's text rule lets through some that aren't UTF-8.
 //!
+//! # Buffers, stack and threads
+//!
+//! No call allocates but those of the types that own bytes ([`FilesBuilder`], [`OptionsBuilder`],
+//! [`TableBuf`]). Messages and tables go into lent buffers; there is a constant for each:
+//! [`MAX_REQUEST`], [`MAX_RESPONSE`], [`MAX_TABLE`], [`MAX_REQUEST_LIST`] and so on. On the stack
+//! [`accept`] takes about 13 KB, [`merge`] about 9 KB, all other calls under 2 KB. Calls share nothing,
+//! so any thread may call at any time.
+//!
+//! # Linking
+//!
+//! The build script looks for `libbep.a`, which `rt staticlib bep` makes in the repository's root, in
+//! `target/staticlib` there, or in the folder that `FORDTRUMPET_LIB_DIR` names. A host depends on it so:
+//!
+//! ```toml
+//! [dependencies]
+//! fordtrumpet = { path = "fordtrumpet/host" }
+//! ```
+//!
 //! ```
 //! use fordtrumpet::{read, write_index, FilesBuilder, Flags, Message};
 //!
@@ -59,6 +77,7 @@ mod records;
 mod refusal;
 mod serve;
 mod show;
+mod sizes;
 mod table;
 mod walker;
 mod want;
@@ -73,6 +92,10 @@ pub use records::{
 };
 pub use refusal::Refusal;
 pub use serve::{serve, Serving};
+pub use sizes::{
+    MAX_BLOCK, MAX_BLOCKS, MAX_FILES, MAX_INDEX, MAX_NAME, MAX_OPTIONS, MAX_REPOSITORY,
+    MAX_REQUEST, MAX_RESPONSE, MAX_TABLE_INDEX, PING, REPLY,
+};
 pub use table::{accept, compare, merge, Table, TableBuf, TableError, MAX_RECORDS, MAX_TABLE};
 pub use want::{find_local, request_list, RequestList, RequestListIter, Wanted, MAX_REQUEST_LIST};
 pub use write::{

@@ -291,7 +291,9 @@ fn a_merge_is_refused_in_one_grouping_and_not_in_another() {
     let newer = encode(&[file("a", 1, 0)]);
     let mut out = vec![0; 65_536];
     assert_eq!(
-        fordtrumpet::raw::merge(&a, &b, &mut out).unwrap_err().number(),
+        fordtrumpet::raw::merge(&a, &b, &mut out)
+            .unwrap_err()
+            .number(),
         19
     );
     let length = fordtrumpet::raw::merge(&a, &newer, &mut out).unwrap();
