@@ -3,6 +3,8 @@
 //! The builders hold the fields to no rule: the writers check what was made.
 
 use crate::{Block, Flags};
+use alloc::vec;
+use alloc::vec::Vec;
 
 /// Makes the encoded FileInfo array that [`write_index`](crate::write_index) and
 /// [`write_index_update`](crate::write_index_update) expect.

@@ -34,6 +34,9 @@
 //! fordtrumpet = { path = "fordtrumpet/host" }
 //! ```
 //!
+//! Without the default feature `std` the crate needs `alloc` alone; what it lacks then is the way from a
+//! [`Refusal`] to a `std::io::Error`.
+//!
 //! ```
 //! use fordtrumpet::{read, write_index, FilesBuilder, Flags, Message};
 //!
@@ -61,6 +64,9 @@
 //! ```
 
 #![deny(missing_docs)]
+#![cfg_attr(not(feature = "std"), no_std)]
+
+extern crate alloc;
 
 // The examples of the README are compiled with the others.
 #[cfg(doctest)]

@@ -2,7 +2,7 @@
 
 use crate::answer::{size, span, word};
 use crate::{ffi, Refusal};
-use std::fmt;
+use core::fmt;
 
 /// The requests of one link that were issued and not answered yet, oldest first.
 ///

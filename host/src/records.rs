@@ -3,9 +3,9 @@
 use crate::answer::{size, span, word};
 use crate::ffi;
 use crate::show::{Hex, Text};
-use std::fmt;
-use std::iter::FusedIterator;
-use std::ops::BitOr;
+use core::fmt;
+use core::iter::FusedIterator;
+use core::ops::BitOr;
 
 /// The place of the first record of an array, after its count word.
 const FIRST: usize = 4;
@@ -372,7 +372,7 @@ impl<'a> IntoIterator for &Blocks<'a> {
 /// Goes through [`Blocks`].
 #[derive(Clone, Debug)]
 pub struct BlocksIter<'a> {
-    rest: std::slice::Iter<'a, [u8; BLOCK_LEN]>,
+    rest: core::slice::Iter<'a, [u8; BLOCK_LEN]>,
 }
 
 impl<'a> Iterator for BlocksIter<'a> {

@@ -1,7 +1,8 @@
 //! Why a call was refused.
 
-use std::error::Error;
-use std::fmt;
+use core::error::Error;
+use core::fmt;
+#[cfg(feature = "std")]
 use std::io;
 
 /// Why a call was refused: a case for each number of the protocol's rules.
@@ -192,6 +193,7 @@ impl Error for Refusal {}
 /// assert_eq!(first(&[0, 0, 4]).unwrap_err().kind(), io::ErrorKind::UnexpectedEof);
 /// assert_eq!(first(&[0, 0, 8, 0]).unwrap_err().kind(), io::ErrorKind::InvalidData);
 /// ```
+#[cfg(feature = "std")]
 impl From<Refusal> for io::Error {
     fn from(refusal: Refusal) -> Self {
         let kind = match refusal.number() {

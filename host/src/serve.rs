@@ -2,7 +2,7 @@
 
 use crate::show::Text;
 use crate::{raw, Refusal, Table};
-use std::fmt;
+use core::fmt;
 
 /// What is to be done about an incoming Request.
 #[derive(Clone, Copy, PartialEq, Eq)]

@@ -1,10 +1,12 @@
 //! Tables: good ones, which of two records is newer, merging, and accepting a sender's records.
 
 use crate::{ffi, raw, FileInfo, Files, FilesBuilder, FilesIter, Refusal};
-use std::cmp::Ordering;
-use std::error::Error;
-use std::fmt;
-use std::iter::Enumerate;
+use alloc::vec;
+use alloc::vec::Vec;
+use core::cmp::Ordering;
+use core::error::Error;
+use core::fmt;
+use core::iter::Enumerate;
 
 /// The longest table there is, in bytes: a buffer of this length holds any.
 pub const MAX_TABLE: usize = 65_536;

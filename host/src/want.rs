@@ -1,8 +1,8 @@
 //! Which blocks to request, and where a table lists a block.
 
 use crate::{raw, Refusal, Table};
-use std::fmt;
-use std::iter::FusedIterator;
+use core::fmt;
+use core::iter::FusedIterator;
 
 /// Bytes of one entry of a request list.
 const ENTRY_LEN: usize = 24;
@@ -126,7 +126,7 @@ impl<'a> IntoIterator for &RequestList<'a> {
 /// Goes through a [`RequestList`].
 #[derive(Clone, Debug)]
 pub struct RequestListIter<'a> {
-    rest: std::slice::Iter<'a, [u8; ENTRY_LEN]>,
+    rest: core::slice::Iter<'a, [u8; ENTRY_LEN]>,
 }
 
 impl Iterator for RequestListIter<'_> {
