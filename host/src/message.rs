@@ -74,6 +74,14 @@ fn index<'a>(input: &'a [u8], id: u32, answer: &[u64; 11]) -> Index<'a> {
 }
 
 /// A message and the number of bytes it was read from.
+///
+/// ```
+/// let input = [0, 7, 4, 0, 0, 8, 4, 0];
+/// let first = fordtrumpet::read(&input)?;
+/// let second = fordtrumpet::read(&input[first.used..])?;
+/// assert_eq!((first.message.id(), second.message.id()), (7, 8));
+/// # Ok::<(), fordtrumpet::Refusal>(())
+/// ```
 #[derive(Clone, Copy, Debug, PartialEq, Eq)]
 #[must_use]
 pub struct ReadMessage<'a> {
@@ -84,6 +92,16 @@ pub struct ReadMessage<'a> {
 }
 
 /// A message of one of the seven types.
+///
+/// ```
+/// use fordtrumpet::{read, Message, Response};
+///
+/// match read(&[0, 2, 3, 0, 0, 0, 0, 0])?.message {
+///     Message::Response(Response { id: 2, data: [] }) => {}
+///     other => panic!("{other:?}"),
+/// }
+/// # Ok::<(), fordtrumpet::Refusal>(())
+/// ```
 #[derive(Clone, Copy, Debug, PartialEq, Eq)]
 pub enum Message<'a> {
     /// The whole contents of the sender's repository.
@@ -122,6 +140,14 @@ impl Message<'_> {
 }
 
 /// An Index or an IndexUpdate; both have the same fields.
+///
+/// ```
+/// use fordtrumpet::{read, Message};
+///
+/// let Message::Index(index) = read(&[0, 1, 1, 0, 0, 0, 0, 0, 0, 0, 0, 0])?.message else { panic!() };
+/// assert_eq!((index.id, index.repository, index.files.len()), (1, &b""[..], 0));
+/// # Ok::<(), fordtrumpet::Refusal>(())
+/// ```
 #[derive(Clone, Copy, PartialEq, Eq)]
 pub struct Index<'a> {
     /// The Message ID.
@@ -133,6 +159,16 @@ pub struct Index<'a> {
 }
 
 /// A Request for one block.
+///
+/// ```
+/// use fordtrumpet::{read, write_request, Message, MAX_REQUEST};
+///
+/// let mut out = [0; MAX_REQUEST];
+/// let length = write_request(3, b"default", b"a", 131_072, 5, &[7; 32], &mut out)?;
+/// let Message::Request(request) = read(&out[..length])?.message else { panic!() };
+/// assert_eq!((request.name, request.offset, request.hash), (&b"a"[..], 131_072, &[7; 32]));
+/// # Ok::<(), fordtrumpet::Refusal>(())
+/// ```
 #[derive(Clone, Copy, PartialEq, Eq)]
 pub struct Request<'a> {
     /// The Message ID.
@@ -150,6 +186,14 @@ pub struct Request<'a> {
 }
 
 /// A Response to a Request.
+///
+/// ```
+/// use fordtrumpet::{read, Message};
+///
+/// let Message::Response(response) = read(&[0, 2, 3, 0, 0, 0, 0, 1, b'x', 0, 0, 0])?.message else { panic!() };
+/// assert_eq!(response.data, b"x");
+/// # Ok::<(), fordtrumpet::Refusal>(())
+/// ```
 #[derive(Clone, Copy, PartialEq, Eq)]
 pub struct Response<'a> {
     /// The ID of the Request it answers.
@@ -159,6 +203,13 @@ pub struct Response<'a> {
 }
 
 /// A Ping.
+///
+/// ```
+/// use fordtrumpet::{read, Message, Ping};
+///
+/// assert_eq!(read(&[0, 0, 4, 0])?.message, Message::Ping(Ping { id: 0 }));
+/// # Ok::<(), fordtrumpet::Refusal>(())
+/// ```
 #[derive(Clone, Copy, Debug, PartialEq, Eq)]
 pub struct Ping {
     /// The Message ID.
@@ -166,6 +217,13 @@ pub struct Ping {
 }
 
 /// A Pong.
+///
+/// ```
+/// use fordtrumpet::{read, Message, Pong};
+///
+/// assert_eq!(read(&[0x0F, 0xFF, 5, 0])?.message, Message::Pong(Pong { id: 4095 }));
+/// # Ok::<(), fordtrumpet::Refusal>(())
+/// ```
 #[derive(Clone, Copy, Debug, PartialEq, Eq)]
 pub struct Pong {
     /// The ID of the Ping it answers.
@@ -173,6 +231,14 @@ pub struct Pong {
 }
 
 /// An Options message.
+///
+/// ```
+/// use fordtrumpet::{read, Message};
+///
+/// let Message::Options(message) = read(&[0, 0, 7, 0, 0, 0, 0, 0])?.message else { panic!() };
+/// assert!(message.options.is_empty());
+/// # Ok::<(), fordtrumpet::Refusal>(())
+/// ```
 #[derive(Clone, Copy, Debug, PartialEq, Eq)]
 pub struct Options<'a> {
     /// The Message ID.

@@ -28,6 +28,14 @@ pub struct RequestQueue {
 }
 
 /// A request that was issued.
+///
+/// ```
+/// use fordtrumpet::{Issued, RequestQueue};
+///
+/// let issued = RequestQueue::open().issue(b"default", b"a", 0, 5, &[7; 32], &mut [0; 100])?;
+/// assert_eq!(issued, Issued { id: 0, written: 72 });
+/// # Ok::<(), fordtrumpet::Refusal>(())
+/// ```
 #[derive(Clone, Copy, Debug, PartialEq, Eq)]
 #[must_use]
 pub struct Issued {
@@ -38,6 +46,16 @@ pub struct Issued {
 }
 
 /// A request that was answered, and how.
+///
+/// ```
+/// use fordtrumpet::{Answered, Outcome, RequestQueue};
+///
+/// let mut queue = RequestQueue::open();
+/// let _ = queue.issue(b"default", b"a", 0, 5, &[7; 32], &mut [0; 100])?;
+/// let answered = queue.answer(&[0, 0, 3, 0, 0, 0, 0, 0])?;
+/// assert_eq!(answered, Answered { id: 0, length: 5, outcome: Outcome::NotAvailable });
+/// # Ok::<(), fordtrumpet::Refusal>(())
+/// ```
 #[derive(Clone, Copy, Debug, PartialEq, Eq)]
 #[must_use]
 pub struct Answered<'a> {
@@ -50,6 +68,19 @@ pub struct Answered<'a> {
 }
 
 /// What an answer brought.
+///
+/// ```
+/// use fordtrumpet::{Outcome, RequestQueue};
+///
+/// let mut queue = RequestQueue::open();
+/// let _ = queue.issue(b"default", b"a", 0, 5, &[7; 32], &mut [0; 100])?;
+/// match queue.answer(&[0, 0, 3, 0, 0, 0, 0, 1, b'x', 0, 0, 0])?.outcome {
+///     Outcome::Data(data) => println!("{} bytes", data.len()),
+///     Outcome::NotAvailable => println!("ask another peer"),
+///     Outcome::WrongSize => println!("one byte for five"),
+/// }
+/// # Ok::<(), fordtrumpet::Refusal>(())
+/// ```
 #[derive(Clone, Copy, Debug, PartialEq, Eq)]
 pub enum Outcome<'a> {
     /// Data, as long as asked for.
@@ -62,6 +93,13 @@ pub enum Outcome<'a> {
 
 impl RequestQueue {
     /// The largest window.
+    ///
+    /// ```
+    /// use fordtrumpet::RequestQueue;
+    ///
+    /// assert!(RequestQueue::open_with(RequestQueue::WINDOW).is_ok());
+    /// assert!(RequestQueue::open_with(RequestQueue::WINDOW + 1).is_err());
+    /// ```
     pub const WINDOW: u32 = 16;
 
     /// An empty queue with the default window.

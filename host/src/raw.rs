@@ -1,5 +1,11 @@
 //! The calls on tables for those who have only bytes: each checks the tables that it is given, and
 //! refuses those that aren't good with 15.
+//!
+//! ```
+//! use fordtrumpet::{raw, Refusal};
+//!
+//! assert_eq!(raw::merge(b"", b"\0\0\0\0", &mut [0; 100]), Err(Refusal::BadTable));
+//! ```
 
 use crate::answer::{size, span, word, written};
 use crate::{ffi, Refusal, RequestList, Serving};

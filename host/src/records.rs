@@ -128,6 +128,12 @@ impl<'a> IntoIterator for &Files<'a> {
 }
 
 /// Goes through [`Files`].
+///
+/// ```
+/// let mut files = fordtrumpet::Table::EMPTY.files().iter();
+/// assert_eq!(files.len(), 0);
+/// assert!(files.next().is_none());
+/// ```
 #[derive(Clone, Debug)]
 pub struct FilesIter<'a> {
     bytes: &'a [u8],
@@ -160,6 +166,16 @@ impl ExactSizeIterator for FilesIter<'_> {}
 impl FusedIterator for FilesIter<'_> {}
 
 /// One file of an Index or IndexUpdate.
+///
+/// ```
+/// use fordtrumpet::{FilesBuilder, Flags, Table};
+///
+/// let mut files = FilesBuilder::new();
+/// files.push(b"a", Flags(0o600), -1, 2, []);
+/// let file = Table::new(files.as_bytes())?.get(0).unwrap();
+/// assert_eq!((file.name, file.modified, file.version), (&b"a"[..], -1, 2));
+/// # Ok::<(), fordtrumpet::Refusal>(())
+/// ```
 #[derive(Clone, Copy, PartialEq, Eq)]
 pub struct FileInfo<'a> {
     /// The name, 1 to 255 bytes. The protocol's text rule is wider than UTF-8.
@@ -223,10 +239,22 @@ pub struct Flags(pub u32);
 
 impl Flags {
     /// The flag D of a deleted file.
+    ///
+    /// ```
+    /// assert!(fordtrumpet::Flags::DELETED.is_deleted());
+    /// ```
     pub const DELETED: Flags = Flags(4096);
     /// The flag I of a file that is invalid and can't be had for now.
+    ///
+    /// ```
+    /// assert!(fordtrumpet::Flags::INVALID.is_invalid());
+    /// ```
     pub const INVALID: Flags = Flags(8192);
     /// The bits of the Unix mode.
+    ///
+    /// ```
+    /// assert_eq!(fordtrumpet::Flags::MODE.mode(), 0o7777);
+    /// ```
     pub const MODE: Flags = Flags(4095);
 
     /// Whether the file is deleted.
@@ -370,6 +398,16 @@ impl<'a> IntoIterator for &Blocks<'a> {
 }
 
 /// Goes through [`Blocks`].
+///
+/// ```
+/// # use fordtrumpet::*;
+/// # let mut files = FilesBuilder::new();
+/// # files.push(b"a", Flags(0), 0, 0, [Block { length: 9, hash: &[7; 32] }]);
+/// # let table = Table::new(files.as_bytes()).unwrap();
+/// let mut blocks = table.get(0).unwrap().blocks.iter();
+/// assert_eq!(blocks.next().unwrap().length, 9);
+/// assert!(blocks.next().is_none());
+/// ```
 #[derive(Clone, Debug)]
 pub struct BlocksIter<'a> {
     rest: core::slice::Iter<'a, [u8; BLOCK_LEN]>,
@@ -397,6 +435,14 @@ impl ExactSizeIterator for BlocksIter<'_> {}
 impl FusedIterator for BlocksIter<'_> {}
 
 /// One block of a file.
+///
+/// ```
+/// use fordtrumpet::{Block, FilesBuilder, Flags};
+///
+/// let mut files = FilesBuilder::new();
+/// files.push(b"a", Flags(0o600), 0, 0, [Block { length: 9, hash: &[7; 32] }]);
+/// assert_eq!(files.as_bytes().len(), 4 + 28 + 40);
+/// ```
 #[derive(Clone, Copy, PartialEq, Eq, Hash)]
 pub struct Block<'a> {
     /// The length, 1 to 131,072.
@@ -518,6 +564,12 @@ impl<'a> IntoIterator for &KeyValues<'a> {
 }
 
 /// Goes through [`KeyValues`].
+///
+/// ```
+/// # use fordtrumpet::*;
+/// # let Message::Options(message) = read(&[0, 0, 7, 0, 0, 0, 0, 0]).unwrap().message else { panic!() };
+/// assert_eq!(message.options.iter().len(), 0);
+/// ```
 #[derive(Clone, Debug)]
 pub struct KeyValuesIter<'a> {
     bytes: &'a [u8],
@@ -553,6 +605,19 @@ impl ExactSizeIterator for KeyValuesIter<'_> {}
 impl FusedIterator for KeyValuesIter<'_> {}
 
 /// One option: a key and its value.
+///
+/// ```
+/// use fordtrumpet::{read, write_options, KeyValue, Message, OptionsBuilder};
+///
+/// let mut options = OptionsBuilder::new();
+/// options.push(b"name", b"truck");
+/// let mut out = [0; 100];
+/// let length = write_options(0, options.as_bytes(), &mut out)?;
+/// let Message::Options(message) = read(&out[..length])?.message else { panic!() };
+/// let expected = KeyValue { key: b"name", value: b"truck" };
+/// assert!(message.options.iter().eq([expected]));
+/// # Ok::<(), fordtrumpet::Refusal>(())
+/// ```
 #[derive(Clone, Copy, PartialEq, Eq, Hash)]
 pub struct KeyValue<'a> {
     /// The key, up to 64 bytes.

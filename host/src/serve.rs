@@ -5,6 +5,19 @@ use crate::{raw, Refusal, Table};
 use core::fmt;
 
 /// What is to be done about an incoming Request.
+///
+/// ```
+/// use fordtrumpet::Serving;
+///
+/// fn reply(serving: Serving<'_>) {
+///     match serving {
+///         Serving::Served { id, name, offset, length } => {
+///             println!("send {length} bytes of {} at {offset} as {id}", name.escape_ascii());
+///         }
+///         Serving::Replied(length) => println!("send the {length} bytes that were written"),
+///     }
+/// }
+/// ```
 #[derive(Clone, Copy, PartialEq, Eq)]
 #[must_use]
 pub enum Serving<'a> {

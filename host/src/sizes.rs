@@ -1,40 +1,88 @@
 //! How long messages can be: a buffer of these bytes holds any of its kind.
 
 /// The longest Repository, in bytes.
+///
+/// ```
+/// assert_eq!(fordtrumpet::MAX_REPOSITORY, 64);
+/// ```
 pub const MAX_REPOSITORY: usize = 64;
 
 /// The longest Name, in bytes.
+///
+/// ```
+/// assert_eq!(fordtrumpet::MAX_NAME, 255);
+/// ```
 pub const MAX_NAME: usize = 255;
 
 /// The most files in an Index or IndexUpdate.
+///
+/// ```
+/// assert_eq!(fordtrumpet::MAX_FILES, 512);
+/// ```
 pub const MAX_FILES: usize = 512;
 
 /// The most blocks of a file.
+///
+/// ```
+/// assert_eq!(fordtrumpet::MAX_BLOCKS, 1024);
+/// ```
 pub const MAX_BLOCKS: usize = 1024;
 
 /// The longest block, in bytes, and so the most data of a Response.
+///
+/// ```
+/// assert_eq!(fordtrumpet::MAX_BLOCK, 131_072);
+/// ```
 pub const MAX_BLOCK: usize = 131_072;
 
 /// The longest Index or IndexUpdate: some 21 MB. One of a good table takes at most [`MAX_TABLE_INDEX`].
+///
+/// ```
+/// assert_eq!(fordtrumpet::MAX_INDEX, 21_114_956);
+/// ```
 pub const MAX_INDEX: usize = HEADER + string(MAX_REPOSITORY) + 4 + MAX_FILES * MAX_RECORD;
 
 /// The longest Index or IndexUpdate that has the records of a good table.
+///
+/// ```
+/// assert_eq!(fordtrumpet::MAX_TABLE_INDEX, 65_608);
+/// ```
 pub const MAX_TABLE_INDEX: usize = HEADER + string(MAX_REPOSITORY) + crate::MAX_TABLE;
 
 /// The longest Request.
+///
+/// ```
+/// assert_eq!(fordtrumpet::MAX_REQUEST, 380);
+/// ```
 pub const MAX_REQUEST: usize =
     HEADER + string(MAX_REPOSITORY) + string(MAX_NAME) + 8 + 4 + string(32);
 
 /// The longest Response.
+///
+/// ```
+/// assert_eq!(fordtrumpet::MAX_RESPONSE, 131_080);
+/// ```
 pub const MAX_RESPONSE: usize = HEADER + string(MAX_BLOCK);
 
 /// A Ping or a Pong.
+///
+/// ```
+/// assert_eq!(fordtrumpet::PING, 4);
+/// ```
 pub const PING: usize = HEADER;
 
 /// A Response without data, which is what [`serve`](crate::serve) replies.
+///
+/// ```
+/// assert_eq!(fordtrumpet::REPLY, 8);
+/// ```
 pub const REPLY: usize = HEADER + string(0);
 
 /// The longest Options.
+///
+/// ```
+/// assert_eq!(fordtrumpet::MAX_OPTIONS, 21_000);
+/// ```
 pub const MAX_OPTIONS: usize = HEADER + 4 + 64 * (string(64) + string(255));
 
 const HEADER: usize = 4;

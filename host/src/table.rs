@@ -9,9 +9,27 @@ use core::fmt;
 use core::iter::Enumerate;
 
 /// The longest table there is, in bytes: a buffer of this length holds any.
+///
+/// ```
+/// use fordtrumpet::{merge, Table, MAX_TABLE};
+///
+/// let mut out = [0; MAX_TABLE];
+/// assert!(merge(Table::EMPTY, Table::EMPTY, &mut out)?.is_empty());
+/// # Ok::<(), fordtrumpet::Refusal>(())
+/// ```
 pub const MAX_TABLE: usize = 65_536;
 
 /// The most records that a table has.
+///
+/// ```
+/// use fordtrumpet::{FilesBuilder, Flags, TableBuf, TableError, MAX_RECORDS};
+///
+/// let mut files = FilesBuilder::new();
+/// for number in 0..=MAX_RECORDS {
+///     files.push(number.to_string().as_bytes(), Flags(0), 0, 0, []);
+/// }
+/// assert_eq!(TableBuf::from_files(&files), Err(TableError::TooManyRecords(513)));
+/// ```
 pub const MAX_RECORDS: usize = 512;
 
 /// A good table: a FileInfo array whose names rise, of at most 512 records and 65,536 bytes.
@@ -35,6 +53,10 @@ pub struct Table<'a> {
 
 impl<'a> Table<'a> {
     /// The empty table.
+    ///
+    /// ```
+    /// assert!(fordtrumpet::Table::EMPTY.is_empty());
+    /// ```
     pub const EMPTY: Table<'static> = Table {
         files: Files::new(&[0, 0, 0, 0], 0),
     };

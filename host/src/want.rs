@@ -9,9 +9,24 @@ const ENTRY_LEN: usize = 24;
 
 /// Bytes that are enough for the request list of any four peers: an entry for each block that four full
 /// tables can hold.
+///
+/// ```
+/// use fordtrumpet::{request_list, Table, MAX_REQUEST_LIST};
+///
+/// let mut out = vec![0; MAX_REQUEST_LIST];
+/// assert!(request_list(Table::EMPTY, [Table::EMPTY; 4], &mut out)?.is_empty());
+/// # Ok::<(), fordtrumpet::Refusal>(())
+/// ```
 pub const MAX_REQUEST_LIST: usize = 4 * 1636 * ENTRY_LEN;
 
 /// A block to request.
+///
+/// ```
+/// use fordtrumpet::Wanted;
+///
+/// let wanted = Wanted { file: 1, block: 0, offset: 0, length: 5, peer: 2 };
+/// assert_eq!(wanted.peer, 2);
+/// ```
 #[derive(Clone, Copy, Debug, PartialEq, Eq, Hash)]
 pub struct Wanted {
     /// The number of the file among all names of the five tables, from 0.
@@ -29,6 +44,15 @@ pub struct Wanted {
 /// The blocks to request, by name and then by block.
 ///
 /// [`request_list`] gives one.
+///
+/// ```
+/// use fordtrumpet::{request_list, Table};
+///
+/// let mut out = [0; 24];
+/// let list = request_list(Table::EMPTY, [Table::EMPTY; 4], &mut out)?;
+/// assert_eq!(list.len(), 0);
+/// # Ok::<(), fordtrumpet::Refusal>(())
+/// ```
 #[derive(Clone, Copy, PartialEq, Eq)]
 #[must_use]
 pub struct RequestList<'a> {
@@ -124,6 +148,14 @@ impl<'a> IntoIterator for &RequestList<'a> {
 }
 
 /// Goes through a [`RequestList`].
+///
+/// ```
+/// use fordtrumpet::{request_list, Table};
+///
+/// let mut out = [0; 24];
+/// assert!(request_list(Table::EMPTY, [Table::EMPTY; 4], &mut out)?.iter().next().is_none());
+/// # Ok::<(), fordtrumpet::Refusal>(())
+/// ```
 #[derive(Clone, Debug)]
 pub struct RequestListIter<'a> {
     rest: core::slice::Iter<'a, [u8; ENTRY_LEN]>,
