@@ -305,3 +305,126 @@ fn the_header_has_the_sizes_and_the_version() {
     expected += concat!(env!("CARGO_PKG_VERSION"), "\n");
     assert_eq!(run_text("sizes", &text), expected);
 }
+
+/// Runs `make` for the library that these tests are linked with; nothing is proved or built.
+fn make(target: &str, variables: &[String]) {
+    let mut make = tool("MAKE", "make");
+    // A `make` that runs these tests would hand down its own variables.
+    for inherited in ["MAKEFLAGS", "MFLAGS", "MAKELEVEL", "PREFIX", "DESTDIR"] {
+        make.env_remove(inherited);
+    }
+    run(make
+        .arg(target)
+        .arg(concat!("LIB=", env!("FORDTRUMPET_LIB")))
+        .args(variables)
+        .current_dir(Path::new(MANIFEST).join("..")));
+}
+
+/// A new folder.
+fn folder(name: &str) -> PathBuf {
+    let folder = scratch(name);
+    let _ = fs::remove_dir_all(&folder);
+    fs::create_dir_all(&folder).unwrap();
+    folder
+}
+
+/// The files of a folder and those below it, by their paths in it.
+fn files(folder: &Path) -> Vec<String> {
+    let mut files = Vec::new();
+    for entry in fs::read_dir(folder).unwrap() {
+        let entry = entry.unwrap();
+        let name = entry.file_name().into_string().unwrap();
+        if entry.file_type().unwrap().is_dir() {
+            let below = self::files(&entry.path());
+            files.extend(below.iter().map(|file| format!("{name}/{file}")));
+        } else {
+            files.push(name);
+        }
+    }
+    files.sort();
+    files
+}
+
+const INSTALLED: [&str; 3] = [
+    "include/fordtrumpet.h",
+    "lib/libbep.a",
+    "lib/pkgconfig/fordtrumpet.pc",
+];
+
+/// What the compiler has to be told, by `pkg-config` if it is there.
+fn flags(prefix: &Path) -> Vec<String> {
+    let pkg_config = |arguments: &[&str]| {
+        let output = tool("PKG_CONFIG", "pkg-config")
+            .env("PKG_CONFIG_PATH", prefix.join("lib/pkgconfig"))
+            .args(arguments)
+            .output();
+        output.ok().map(|output| {
+            let errors = String::from_utf8_lossy(&output.stderr);
+            assert!(output.status.success(), "{errors}");
+            String::from_utf8(output.stdout).unwrap()
+        })
+    };
+    let prefix = prefix.display();
+    let plain = format!("-I{prefix}/include -L{prefix}/lib -lbep");
+    let flags = pkg_config(&["--cflags", "--libs", "fordtrumpet"]).unwrap_or(plain);
+    let version = pkg_config(&["--modversion", "fordtrumpet"]);
+    assert!(version.is_none_or(|version| version.trim() == env!("CARGO_PKG_VERSION")));
+    flags.split_whitespace().map(str::to_string).collect()
+}
+
+#[test]
+fn the_example_needs_only_what_is_installed() {
+    let prefix = folder("installed");
+    make("install", &[format!("PREFIX={}", prefix.display())]);
+    assert_eq!(files(&prefix), INSTALLED);
+
+    let elsewhere = folder("elsewhere");
+    let example = Path::new(MANIFEST).join("examples/example.c");
+    fs::copy(&example, elsewhere.join("example.c")).unwrap();
+    fs::copy(&example, elsewhere.join("example.cpp")).unwrap();
+    let c = ["-std=c99", "-pedantic", "example.c"];
+    let cpp = ["-std=c++17", "-pedantic", "example.cpp"];
+    for (mut compiler, arguments) in [(tool("CC", "cc"), c), (tool("CXX", "c++"), cpp)] {
+        run(compiler
+            .args(["-Wall", "-Wextra", "-Werror", "-g"])
+            .args(["-fsanitize=address,undefined", "-fno-sanitize-recover=all"])
+            .args(arguments)
+            .args(flags(&prefix))
+            .args(["-o", "example"])
+            .current_dir(&elsewhere));
+        let expected = concat!(
+            "fordtrumpet ",
+            env!("CARGO_PKG_VERSION"),
+            "\n\
+             message of type 1, 116 bytes\n\
+             message of type 4, 4 bytes\n\
+             2 bytes wait for more\n\
+             a: version 2, 1 blocks\n\
+             b: version 0, deleted\n\
+             ask peer 1 for 5 bytes of file 0 at 0\n"
+        );
+        assert_eq!(run(&mut Command::new(elsewhere.join("example"))), expected);
+    }
+    make("uninstall", &[format!("PREFIX={}", prefix.display())]);
+    assert!(files(&prefix).is_empty());
+}
+
+#[test]
+fn a_staged_installation_knows_where_it_goes() {
+    let stage = folder("stage");
+    let variables = [
+        format!("DESTDIR={}", stage.display()),
+        "PREFIX=/opt/bep".to_string(),
+    ];
+    make("install", &variables);
+    assert_eq!(
+        files(&stage),
+        INSTALLED.map(|file| format!("opt/bep/{file}"))
+    );
+    let pc = fs::read_to_string(stage.join("opt/bep/lib/pkgconfig/fordtrumpet.pc")).unwrap();
+    assert!(pc.starts_with("prefix=/opt/bep\n"), "{pc}");
+    let version = concat!("\nVersion: ", env!("CARGO_PKG_VERSION"), "\n");
+    assert!(pc.contains(version) && !pc.contains('@'), "{pc}");
+    make("uninstall", &variables);
+    assert!(files(&stage).is_empty());
+}
