@@ -1,4 +1,4 @@
-/* Calls every function of the header once, so that its declarations are those of the library. */
+/* Calls every function of the header: its declarations and names are those of the library. */
 #include <stdio.h>
 #include <string.h>
 
@@ -19,6 +19,16 @@ static const uint8_t files[72] = {
     0, 0, 0, 5, 0, 0, 0, 32, 1, 2, 3, 4, 5, 6, 7, 8
 };
 
+/* A table with "a", modified 1, of no blocks, and "b" of two that differ in their length. */
+static const uint8_t two_files[140] = {
+    0, 0, 0, 2,
+    0, 0, 0, 1, 'a', 0, 0, 0, 0, 0, 0, 0, 0, 0, 0, 0, 0, 0, 0, 1, 0, 0, 0, 0, 0, 0, 0, 0,
+    0, 0, 0, 1, 'b', 0, 0, 0, 0, 0, 0, 0, 0, 0, 0, 0, 0, 0, 0, 1, 0, 0, 0, 0, 0, 0, 0, 2,
+    0, 0, 0, 1, 0, 0, 0, 32, 0, 0, 0, 0, 0, 0, 0, 0, 0, 0, 0, 0, 0, 0, 0, 0,
+    0, 0, 0, 0, 0, 0, 0, 0, 0, 0, 0, 0, 0, 0, 0, 0,
+    0, 0, 0, 2, 0, 0, 0, 32
+};
+
 /* An array with one option, "k" and "vw". */
 static const uint8_t options[20] = {
     0, 0, 0, 1, 0, 0, 0, 1, 'k', 0, 0, 0, 0, 0, 0, 2, 'v', 'w', 0, 0
@@ -37,6 +47,8 @@ static int tables(void)
     CHECK(bep_check_table(files, 72) == 0 && bep_check_table(files, 71) == BEP_REFUSED_BAD_TABLE);
     CHECK(bep_compare(files, 72, 4, files, 72, 4, length) == 0);
     CHECK(length[0] == BEP_EQUAL);
+    CHECK(bep_compare(files, 72, 4, two_files, 140, 4, length) == 0 && length[0] == BEP_OLDER);
+    CHECK(bep_compare(two_files, 140, 4, files, 72, 4, length) == 0 && length[0] == BEP_NEWER);
     CHECK(bep_compare(files, 72, 4, files, 72, 72, length) == BEP_REFUSED_INCOMPLETE);
     CHECK(length[BEP_PLACE] == 72);
     CHECK(bep_merge(out, 100, files, 72, empty, 4, length) == 0);
@@ -159,6 +171,10 @@ static int requests(void)
     CHECK(bep_find(files, 72, size, files + 40, 32, found) == 0);
     CHECK(found[BEP_FIND_FOUND] == 1);
     CHECK(found[BEP_FIND_RECORD] == 0 && found[BEP_FIND_BLOCK] == 0);
+    CHECK(bep_find(two_files, 140, 1, two_files + 68, 32, found) == 0);
+    CHECK(found[BEP_FIND_RECORD] == 1 && found[BEP_FIND_BLOCK] == 0);
+    CHECK(bep_find(two_files, 140, 2, two_files + 68, 32, found) == 0);
+    CHECK(found[BEP_FIND_RECORD] == 1 && found[BEP_FIND_BLOCK] == 1);
     CHECK(bep_find(files, 72, size + 1, files + 40, 32, found) == 0);
     CHECK(found[BEP_FIND_FOUND] == 0);
     CHECK(bep_find(files, 71, size, files + 40, 32, found) == BEP_REFUSED_BAD_TABLE);
@@ -178,6 +194,60 @@ static int requests(void)
     CHECK(bep_serve(out, 8, empty, 4, repository, 1, request, length[0], served) == 0);
     CHECK(served[BEP_SERVE_SERVED] == 0 && served[BEP_SERVE_REPLY_LENGTH] == BEP_REPLY_BYTES);
     CHECK(memcmp(out, "\0\6\3\0\0\0\0\0", 8) == 0);
+    return 0;
+}
+
+enum {
+    MOST_WORDS = 12,
+    UNTOUCHED = 0xA7
+};
+
+static uint64_t *untouched(uint64_t answer[MOST_WORDS])
+{
+    for (int i = 0; i < MOST_WORDS; i++)
+        answer[i] = UNTOUCHED;
+    return answer;
+}
+
+/* Whether a call that was refused filled so many words and no more. */
+static int filled(const uint64_t answer[MOST_WORDS], int count)
+{
+    for (int i = 0; i < MOST_WORDS; i++)
+        if ((answer[i] == UNTOUCHED) != (i >= count))
+            return 0;
+    return 1;
+}
+
+/* Answers and queues have the sizes that the header gives. */
+static int words(void)
+{
+    uint64_t answer[MOST_WORDS];
+    uint32_t queue[BEP_QUEUE_WORDS + 1];
+    uint8_t out[1];
+
+    CHECK(bep_read(NULL, 0, untouched(answer)) != 0 && filled(answer, BEP_READ_WORDS));
+    CHECK(bep_write_ping(NULL, 0, 0, untouched(answer)) != 0 && filled(answer, 1));
+    CHECK(bep_file(NULL, 0, 0, untouched(answer)) != 0 && filled(answer, BEP_FILE_WORDS));
+    CHECK(bep_step(NULL, 0, 0, untouched(answer)) != 0 && filled(answer, BEP_FILE_WORDS));
+    CHECK(bep_option(NULL, 0, 0, untouched(answer)) != 0 && filled(answer, BEP_OPTION_WORDS));
+    CHECK(bep_compare(NULL, 0, 0, NULL, 0, 0, untouched(answer)) != 0 && filled(answer, 1));
+    CHECK(bep_merge(out, 1, NULL, 0, NULL, 0, untouched(answer)) != 0 && filled(answer, 1));
+    CHECK(bep_accept(out, 1, NULL, 0, NULL, 0, NULL, 0, untouched(answer)) != 0);
+    CHECK(filled(answer, 1));
+    CHECK(bep_find(NULL, 0, 0, NULL, 0, untouched(answer)) != 0);
+    CHECK(filled(answer, BEP_FIND_WORDS));
+    CHECK(bep_serve(out, 1, NULL, 0, NULL, 0, NULL, 0, untouched(answer)) != 0);
+    CHECK(filled(answer, BEP_SERVE_WORDS));
+
+    for (int i = 0; i <= BEP_QUEUE_WORDS; i++)
+        queue[i] = UNTOUCHED;
+    CHECK(bep_queue_open_default(queue) == 0);
+    CHECK(queue[BEP_QUEUE_WORDS - 1] == 0 && queue[BEP_QUEUE_WORDS] == UNTOUCHED);
+    CHECK(bep_queue_issue(out, 1, queue, NULL, 0, NULL, 0, 0, 0, NULL, 0, untouched(answer)) != 0);
+    CHECK(filled(answer, BEP_ISSUED_WORDS));
+    CHECK(bep_queue_answer(queue, NULL, 0, untouched(answer)) != 0);
+    CHECK(filled(answer, BEP_ANSWERED_WORDS));
+    CHECK(bep_queue_totals(queue, untouched(answer)) == 0 && filled(answer, BEP_TOTALS_WORDS));
     return 0;
 }
 
@@ -245,10 +315,12 @@ int main(void)
     CHECK(answer[BEP_RESPONSE_DATA_AT] == 8 && answer[BEP_RESPONSE_DATA_LENGTH] == 3);
     CHECK(bep_write_ping(out, 100, 3, length) == 0);
     CHECK(length[0] == 4 && memcmp(out, "\0\3\4\0", 4) == 0);
+    CHECK(bep_read(out, 4, answer) == 0 && answer[BEP_READ_TYPE] == BEP_PING);
     CHECK(bep_write_pong(out, 100, 4096, length) == BEP_REFUSED_ABOVE_LIMIT);
     CHECK(length[BEP_PLACE] == 0);
     CHECK(bep_write_pong(out, 100, 4, length) == 0);
     CHECK(length[0] == 4 && memcmp(out, "\0\4\5\0", 4) == 0);
+    CHECK(bep_read(out, 4, answer) == 0 && answer[BEP_READ_TYPE] == BEP_PONG);
 
     CHECK(bep_write_options(out, 100, 5, options, 20, length) == 0);
     CHECK(length[0] == 24 && memcmp(out + 4, options, 20) == 0);
@@ -263,5 +335,5 @@ int main(void)
     CHECK(option[BEP_PLACE] == 20);
     CHECK(bep_option(options, 19, 4, option) == BEP_REFUSED_INCOMPLETE);
     CHECK(option[BEP_PLACE] == 12);
-    return tables() || queues() || requests();
+    return tables() || queues() || requests() || words();
 }
