@@ -405,6 +405,14 @@ impl fmt::Display for TableError {
 
 impl Error for TableError {}
 
+/// What a caller handed over is no table: invalid input.
+#[cfg(feature = "std")]
+impl From<TableError> for std::io::Error {
+    fn from(error: TableError) -> Self {
+        std::io::Error::new(std::io::ErrorKind::InvalidInput, error)
+    }
+}
+
 /// Fills `out` with the merged table of two tables and gives it.
 ///
 /// The merged table has the newest record of each name. A buffer of [`MAX_TABLE`] bytes has room for

@@ -29,7 +29,8 @@ pub const MAX_REQUEST_LIST: usize = 4 * 1636 * ENTRY_LEN;
 /// ```
 #[derive(Clone, Copy, Debug, PartialEq, Eq, Hash)]
 pub struct Wanted {
-    /// The number of the file among all names of the five tables, from 0.
+    /// The number of the file among all names of the five tables, from 0: that of its record in the
+    /// merged table of the five.
     pub file: u32,
     /// The number of the block in its file, from 0.
     pub block: u32,
