@@ -133,9 +133,9 @@ fn compare_reading(what: &str, draft: &Draft) {
 fn compare_writing(what: &str, draft: &Draft) {
     let len = draft.encode().bytes.len();
     let mut out = vec![0; len];
-    type Library = fn(&Draft, &mut [u8]) -> Result<usize, (u32, usize)>;
+    type Library = fn(&Draft, &mut [u8]) -> Result<usize, fordtrumpet::Refusal>;
     type Reference = fn(&Draft, &mut [u8]) -> Result<usize, reference::Refusal>;
-    let library: Library = black_box(Draft::write_with_library);
+    let library: Library = black_box(Draft::write_safely);
     let reference: Reference = black_box(Draft::write_with_reference);
     assert_eq!(library(draft, &mut out), Ok(len));
     assert_eq!(reference(draft, &mut out), Ok(len));

@@ -69,7 +69,9 @@ pub enum Refusal {
 }
 
 impl Refusal {
-    /// The refusal with a number that the library gave, which is none but these.
+    /// The refusal with a number that the library gave, which is none but these. It stays out of the way
+    /// of calls that are accepted.
+    #[cold]
     pub(crate) fn new(number: u32, place: usize) -> Self {
         match number {
             1 => Refusal::Incomplete(place),

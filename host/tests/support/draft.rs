@@ -115,7 +115,18 @@ impl Draft {
     /// Writes it with the library: by way of the safe functions, but for a hash that these can't be
     /// given. A refusal is its number and its place.
     pub fn write_with_library(&self, out: &mut [u8]) -> Result<usize, (u32, usize)> {
-        let written = match &self.body {
+        match &self.body {
+            Body::Request { hash, .. } if hash.len() != 32 => self.write_with_any_hash(out),
+            _ => {
+                let written = self.write_safely(out);
+                written.map_err(|refusal| (refusal.number(), refusal.place()))
+            }
+        }
+    }
+
+    /// Writes it by way of the safe functions.
+    pub fn write_safely(&self, out: &mut [u8]) -> Result<usize, fordtrumpet::Refusal> {
+        match &self.body {
             Body::Index {
                 update,
                 repository,
@@ -134,17 +145,14 @@ impl Draft {
                 length,
                 hash,
             } => {
-                let Ok(hash) = hash.as_slice().try_into() else {
-                    return self.write_with_any_hash(out);
-                };
+                let hash = hash.as_slice().try_into().expect("a hash has 32 bytes");
                 fordtrumpet::write_request(self.id, repository, name, *offset, *length, hash, out)
             }
             Body::Response { data } => fordtrumpet::write_response(self.id, data, out),
             Body::Ping => fordtrumpet::write_ping(self.id, out),
             Body::Pong => fordtrumpet::write_pong(self.id, out),
             Body::Options { options } => fordtrumpet::write_options(self.id, &options.bytes, out),
-        };
-        written.map_err(|refusal| (refusal.number(), refusal.place()))
+        }
     }
 
     /// Writes a Request whose hash has any length.
