@@ -1,11 +1,14 @@
 # run: the request list of the tables in DIR      list: the records of the table in DIR      (an example's, where DIR isn't given)
 # show: what a sample message holds      cases: the worked cases, a line each      test: the whole gate
 # bench: library and reference side by side      soak N=..: that many generated inputs compared
-.PHONY: run list show cases test bench soak
+# install PREFIX=.. DESTDIR=..: header, library and pkg-config file      uninstall: takes them away
+# LIB=..: a library that is there already, instead of proving and building this one
+.PHONY: run list show cases test bench soak install uninstall
 SHELL := bash
 .SHELLFLAGS := -eu -o pipefail -c
 
-LIB := target/staticlib/libbep.a
+BUILT := target/staticlib/libbep.a
+LIB := $(BUILT)
 DIR ?= crates/wanted/data
 
 # A line for each crate, once it is proved.
@@ -42,6 +45,23 @@ N ?= 1000000
 soak: $(LIB)
 	@cd host && SOAK=$(N) cargo test --quiet --release --offline -- generated lists --nocapture
 
-$(LIB): $(wildcard crates/*/src/*.rt)
+# Only the library that is built here has a rule: another one is taken as it is.
+$(BUILT): $(wildcard crates/*/src/*.rt)
 	@echo "proving the library, some minutes the first time"
 	@rt staticlib bep | $(PROGRESS)
+
+PREFIX ?= /usr/local
+VERSION = $(shell sed -n 's/^version = "\(.*\)"$$/\1/p' host/Cargo.toml)
+HEADER = $(DESTDIR)$(PREFIX)/include/fordtrumpet.h
+ARCHIVE = $(DESTDIR)$(PREFIX)/lib/libbep.a
+PC = $(DESTDIR)$(PREFIX)/lib/pkgconfig/fordtrumpet.pc
+
+install: $(LIB)
+	@mkdir -p '$(dir $(HEADER))' '$(dir $(PC))'
+	@install -m 644 host/include/fordtrumpet.h '$(HEADER)'
+	@install -m 644 '$(LIB)' '$(ARCHIVE)'
+	@sed 's|@PREFIX@|$(abspath $(PREFIX))|; s|@VERSION@|$(VERSION)|' host/fordtrumpet.pc.in >'$(PC)'
+	@chmod 644 '$(PC)'
+
+uninstall:
+	@rm -f '$(HEADER)' '$(ARCHIVE)' '$(PC)'

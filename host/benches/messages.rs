@@ -116,7 +116,7 @@ fn options(count: usize) -> Draft {
 
 fn compare_reading(what: &str, draft: &Draft) {
     let message = draft.encode().bytes;
-    type Library = fn(&[u8]) -> Result<fordtrumpet::Read<'_>, fordtrumpet::Refusal>;
+    type Library = fn(&[u8]) -> Result<fordtrumpet::ReadMessage<'_>, fordtrumpet::Refusal>;
     type Reference = fn(&[u8]) -> Result<reference::Message, reference::Refusal>;
     let library: Library = black_box(fordtrumpet::read);
     let reference: Reference = black_box(reference::read);
@@ -135,7 +135,7 @@ fn compare_writing(what: &str, draft: &Draft) {
     let mut out = vec![0; len];
     type Library = fn(&Draft, &mut [u8]) -> Result<usize, fordtrumpet::Refusal>;
     type Reference = fn(&Draft, &mut [u8]) -> Result<usize, reference::Refusal>;
-    let library: Library = black_box(Draft::write_with_library);
+    let library: Library = black_box(Draft::write_safely);
     let reference: Reference = black_box(Draft::write_with_reference);
     assert_eq!(library(draft, &mut out), Ok(len));
     assert_eq!(reference(draft, &mut out), Ok(len));

@@ -37,9 +37,11 @@ fn compare_pairs(what: &str, others: usize) {
     let mut out = vec![0; 400];
     for _ in 0..others {
         let (queue, _) = &mut *library.borrow_mut();
-        queue
-            .issue(&mut out, b"default", NAME, 0, 5, &HASH)
-            .unwrap();
+        keep(
+            &queue
+                .issue(b"default", NAME, 0, 5, &HASH, &mut out)
+                .unwrap(),
+        );
         let (queue, _) = &mut *reference.borrow_mut();
         queue
             .issue(b"default", NAME, 0, 5, &HASH, &mut out)
@@ -51,7 +53,7 @@ fn compare_pairs(what: &str, others: usize) {
         |out| {
             let (queue, oldest) = &mut *library.borrow_mut();
             let queue = black_box(queue);
-            keep(&queue.issue(out, b"default", NAME, 0, 5, &HASH).unwrap());
+            keep(&queue.issue(b"default", NAME, 0, 5, &HASH, out).unwrap());
             keep(&queue.answer(&responses[*oldest]).unwrap());
             *oldest = (*oldest + 1) % 4096;
         },

@@ -6,7 +6,8 @@ mod reference;
 mod support;
 mod timing;
 
-use fordtrumpet::{FileInfo, Table, Walker};
+use fordtrumpet::raw::Walker;
+use fordtrumpet::{FileInfo, Table};
 use std::cmp::Ordering;
 use std::hint::black_box;
 use support::encode::{Block, Encoding, File};
@@ -91,7 +92,7 @@ fn files(first: usize, count: usize, blocks: usize, version: u32) -> Vec<File> {
 }
 
 fn compare_checking(what: &str, table: &[u8]) {
-    let library: fn(&[u8]) -> bool = black_box(fordtrumpet::is_good);
+    let library: fn(&[u8]) -> bool = black_box(fordtrumpet::raw::is_good);
     let reference: fn(&[u8]) -> bool = black_box(reference::is_good);
     assert!(library(table) && reference(table));
     compare(
@@ -132,7 +133,7 @@ fn compare_merging(what: &str, first: &[File], second: &[File]) {
     let (a, b) = (encode(first), encode(second));
     type Library = fn(&[u8], &[u8], &mut [u8]) -> Result<usize, fordtrumpet::Refusal>;
     type Reference = fn(&[u8], &[u8], &mut [u8]) -> Result<usize, reference::Refusal>;
-    let library: Library = black_box(fordtrumpet::merge);
+    let library: Library = black_box(fordtrumpet::raw::merge);
     let reference: Reference = black_box(reference::merge);
     let mut out = vec![0; 65_536];
     assert_eq!(
@@ -154,7 +155,7 @@ fn compare_accepting(what: &str, kind: u32, old: &[File], sent: &[File]) {
     let message = message.bytes;
     type Library = fn(&[u8], &[u8], &[u8], &mut [u8]) -> Result<usize, fordtrumpet::Refusal>;
     type Reference = fn(&[u8], &[u8], &[u8], &mut [u8]) -> Result<usize, reference::Refusal>;
-    let library: Library = black_box(fordtrumpet::accept);
+    let library: Library = black_box(fordtrumpet::raw::accept);
     let reference: Reference = black_box(reference::accept);
     let mut out = vec![0; 65_536];
     assert_eq!(

@@ -67,7 +67,7 @@ fn compare_lists(what: &str, local: &[File], peers: [&[File]; 4]) {
     type Reference = fn([&[u8]; 5], &mut [u8]) -> Result<usize, reference::Refusal>;
     let list = |tables: [&[u8]; 5], out: &mut [u8]| {
         let [local, peers @ ..] = tables;
-        fordtrumpet::request_list(local, peers, out).map(|list| list.as_bytes().len())
+        fordtrumpet::raw::request_list(local, peers, out).map(|list| list.as_bytes().len())
     };
     let library: Library = black_box(list);
     let reference: Reference = black_box(reference::request_list);
@@ -87,7 +87,7 @@ fn compare_lists(what: &str, local: &[File], peers: [&[File]; 4]) {
 fn compare_finding(what: &str, local: &[File], number: u32) {
     let table = encode(local);
     let hash = hash(number);
-    let library = black_box(fordtrumpet::find_local);
+    let library = black_box(fordtrumpet::raw::find_local);
     let reference = black_box(reference::find_local);
     assert_eq!(
         library(&table, 131_072, &hash).unwrap(),

@@ -25,10 +25,10 @@ fn main() -> Result<(), Box<dyn Error>> {
         2,
         [first, second],
     );
-    files.push(b"notes/b.txt", Flags(Flags::DELETED), 1_700_000_100, 0, []);
+    files.push(b"notes/b.txt", Flags::DELETED, 1_700_000_100, 0, []);
 
     let mut out = [0; 1024];
-    let length = write_index(&mut out, 1, b"default", files.as_bytes())?;
+    let length = write_index(1, b"default", files.as_bytes(), &mut out)?;
     fs::write(&path, &out[..length])?;
     println!("{length} bytes written to {}", path.display());
     Ok(())

@@ -1,5 +1,5 @@
 /*
- * Shows the message in a file, one field a line, or `refused NUMBER at PLACE`.
+ * Shows the message in a file, one field a line, or `refused NUMBER at PLACE: MEANING`.
  *
  *   cc -std=c99 -Wall -Wextra -Werror -Iinclude examples/show.c PATH/libbep.a -o show
  *   ./show sample.bin
@@ -30,92 +30,92 @@ static void show_text(const char *field, const uint8_t *bytes, uint64_t len)
 static void show_hash(const char *field, const uint8_t *bytes)
 {
     printf("%s ", field);
-    for (int i = 0; i < 32; i++)
+    for (int i = 0; i < BEP_HASH_BYTES; i++)
         printf("%02x", (unsigned)bytes[i]);
     putchar('\n');
 }
 
-static uint32_t word(const uint8_t *bytes)
-{
-    return (uint32_t)bytes[0] << 24 | (uint32_t)bytes[1] << 16
-         | (uint32_t)bytes[2] << 8 | (uint32_t)bytes[3];
-}
-
 static void show_files(const uint8_t *files, size_t files_len, uint64_t count)
 {
-    size_t at = 4;
+    size_t at = BEP_FIRST;
 
     printf("files %" PRIu64 "\n", count);
     for (uint64_t i = 0; i < count; i++) {
-        uint64_t file[8];
+        uint64_t file[BEP_FILE_WORDS];
 
-        if (bep_file(files, files_len, at, file) != 0)
+        if (bep_file(files, files_len, at, file) != BEP_ACCEPTED)
             return;
-        show_text("  name", files + file[1], file[2]);
-        printf("  mode %04" PRIo64 "\n", file[3] & 4095);
-        printf("  deleted %s\n", file[3] & BEP_DELETED ? "yes" : "no");
-        printf("  invalid %s\n", file[3] & BEP_INVALID ? "yes" : "no");
-        printf("  modified %" PRId64 "\n", (int64_t)file[4]);
-        printf("  version %" PRIu64 "\n", file[5]);
-        printf("  blocks %" PRIu64 "\n", file[6]);
-        for (uint64_t j = 0; j < file[6]; j++) {
-            const uint8_t *block = files + file[7] + 40 * j;
+        show_text("  name", files + file[BEP_FILE_NAME_AT], file[BEP_FILE_NAME_LENGTH]);
+        printf("  mode %04" PRIo64 "\n", file[BEP_FILE_FLAGS] & BEP_MODE);
+        printf("  deleted %s\n", file[BEP_FILE_FLAGS] & BEP_DELETED ? "yes" : "no");
+        printf("  invalid %s\n", file[BEP_FILE_FLAGS] & BEP_INVALID ? "yes" : "no");
+        printf("  modified %" PRId64 "\n", (int64_t)file[BEP_FILE_MODIFIED]);
+        printf("  version %" PRIu64 "\n", file[BEP_FILE_VERSION]);
+        printf("  blocks %" PRIu64 "\n", file[BEP_FILE_BLOCKS_COUNT]);
+        for (uint64_t j = 0; j < file[BEP_FILE_BLOCKS_COUNT]; j++) {
+            const uint8_t *block = files + file[BEP_FILE_BLOCKS_AT] + BEP_BLOCK_BYTES * j;
 
-            printf("    length %" PRIu32 "\n", word(block));
+            printf("    length %" PRIu32 "\n", bep_word(block));
             show_hash("    hash", block + 8);
         }
-        at = (size_t)file[0];
+        at = (size_t)file[BEP_FILE_NEXT];
     }
 }
 
 static void show_options(const uint8_t *options, size_t options_len, uint64_t count)
 {
-    size_t at = 4;
+    size_t at = BEP_FIRST;
 
     printf("options %" PRIu64 "\n", count);
     for (uint64_t i = 0; i < count; i++) {
-        uint64_t option[5];
+        uint64_t option[BEP_OPTION_WORDS];
 
-        if (bep_option(options, options_len, at, option) != 0)
+        if (bep_option(options, options_len, at, option) != BEP_ACCEPTED)
             return;
-        show_text("  key", options + option[1], option[2]);
-        show_text("  value", options + option[3], option[4]);
-        at = (size_t)option[0];
+        show_text("  key", options + option[BEP_OPTION_KEY_AT], option[BEP_OPTION_KEY_LENGTH]);
+        show_text("  value", options + option[BEP_OPTION_VALUE_AT],
+                  option[BEP_OPTION_VALUE_LENGTH]);
+        at = (size_t)option[BEP_OPTION_NEXT];
     }
 }
 
 static void show_message(const uint8_t *input, size_t input_len)
 {
-    uint64_t answer[11];
+    uint64_t answer[BEP_READ_WORDS];
     uint32_t number = bep_read(input, input_len, answer);
 
-    if (number != 0) {
-        printf("refused %" PRIu32 " at %" PRIu64 "\n", number, answer[0]);
+    if (number != BEP_ACCEPTED) {
+        printf("refused %" PRIu32 " at %" PRIu64 ": %s\n", number, answer[BEP_PLACE],
+               bep_refusal_text(number));
         return;
     }
-    printf("type %s\n", type_names[answer[1]]);
-    printf("id %" PRIu64 "\n", answer[2]);
-    switch (answer[1]) {
+    printf("type %s\n", type_names[answer[BEP_READ_TYPE]]);
+    printf("id %" PRIu64 "\n", answer[BEP_READ_ID]);
+    switch (answer[BEP_READ_TYPE]) {
     case BEP_INDEX:
     case BEP_INDEX_UPDATE:
-        show_text("repository", input + answer[3], answer[4]);
-        show_files(input + answer[5], (size_t)answer[6], answer[7]);
+        show_text("repository", input + answer[BEP_INDEX_REPOSITORY_AT],
+                  answer[BEP_INDEX_REPOSITORY_LENGTH]);
+        show_files(input + answer[BEP_INDEX_FILES_AT], (size_t)answer[BEP_INDEX_FILES_LENGTH],
+                   answer[BEP_INDEX_FILES_COUNT]);
         break;
     case BEP_REQUEST:
-        show_text("repository", input + answer[3], answer[4]);
-        show_text("name", input + answer[5], answer[6]);
-        printf("offset %" PRIu64 "\n", answer[7]);
-        printf("length %" PRIu64 "\n", answer[8]);
-        show_hash("hash", input + answer[9]);
+        show_text("repository", input + answer[BEP_REQUEST_REPOSITORY_AT],
+                  answer[BEP_REQUEST_REPOSITORY_LENGTH]);
+        show_text("name", input + answer[BEP_REQUEST_NAME_AT], answer[BEP_REQUEST_NAME_LENGTH]);
+        printf("offset %" PRIu64 "\n", answer[BEP_REQUEST_OFFSET]);
+        printf("length %" PRIu64 "\n", answer[BEP_REQUEST_LENGTH]);
+        show_hash("hash", input + answer[BEP_REQUEST_HASH_AT]);
         break;
     case BEP_RESPONSE:
-        printf("data %" PRIu64 " bytes\n", answer[4]);
+        printf("data %" PRIu64 " bytes\n", answer[BEP_RESPONSE_DATA_LENGTH]);
         break;
     case BEP_OPTIONS:
-        show_options(input + answer[5], (size_t)answer[6], answer[7]);
+        show_options(input + answer[BEP_OPTIONS_ARRAY_AT],
+                     (size_t)answer[BEP_OPTIONS_ARRAY_LENGTH], answer[BEP_OPTIONS_ARRAY_COUNT]);
         break;
     }
-    printf("used %" PRIu64 " of %zu bytes\n", answer[0], input_len);
+    printf("used %" PRIu64 " of %zu bytes\n", answer[BEP_READ_USED], input_len);
 }
 
 /* Reads a whole file. The result isn't NULL for an empty one, and is NULL if it can't be read. */

@@ -2,48 +2,18 @@
  * Messages, tables and outstanding requests of the Block Exchange Protocol v1.0, as exported by
  * libbep.a.
  *
- * Slices. A run of bytes is given as a pointer and a length. The pointer must never be NULL, not
- * even where the length is 0: point at any byte then. A lent buffer (out) must not overlap any
- * input, and an answer or a queue none of them; both must have the size they are declared with.
+ * Slices. A run of bytes is given as a pointer and a length. NULL is allowed where the length is 0;
+ * this is tested, not proved, since the prover takes slices, which have an address. A lent buffer
+ * (out) must not overlap any input, and an answer or a queue none of them. An answer and a queue
+ * are never NULL and have the size that they are declared with.
  *
  * Answers. Every function returns 0 when it accepts, else the number of the refusal, and fills the
- * whole answer. A refusal comes with a place: the first byte of the field at fault, counted from
- * the start of the message that was read or would have been written. The header word is one field;
- * the place of a string or opaque is its length word; the place of a field that isn't there is
- * where it would begin. A refused call leaves the lent buffer as it was. An accepted one changes
- * only its first bytes, as many as it reports.
- *
- * Numbers. Each is given exactly when its check is the first to fail.
- *
- *    1  the field isn't wholly there
- *    2  version not 0
- *    3  type not 1 to 7
- *    4  reserved not 0
- *    5  a length or count is above its limit; in writing, first of all, a Message ID above 4095
- *       (place 0)
- *    6  a pad byte isn't zero
- *    7  text rule broken
- *    8  empty Name
- *    9  hash length isn't 32
- *   10  the Length of a block or Request is 0 or above 131,072
- *   11  a reserved flag is set
- *   12  a deleted file with a block count above 0 (the place is that of the block count)
- *   13  a name stands twice in the message (never in reading or writing)
- *   14  the answer is longer than the lent buffer (the place is 0, as for all that follow)
- *   15  bytes given as a table aren't a good table
- *   16  outstanding count equals the window
- *   17  outstanding bytes plus Length exceed the allowance
- *   18  the message is of another type than the call accepts
- *   19  the resulting table is above 512 records or 65,536 bytes
- *   20  the Response's ID isn't that of the oldest outstanding request, or none is outstanding
- *   21  another Repository than the call names
- *   22  window not 1 to 16, or the outstanding requests given aren't sound
- *
- * Reading gives 1 to 12, writing 1 and 5 to 12 and 14.
- *
- * Limits. Name 1 to 255 bytes, Repository up to 64, Key up to 64, Value up to 255; 512 files in a
- * message, 1,024 blocks in a file, 64 options; Length of a block or Request 1 to 131,072; Data up
- * to 131,072 bytes.
+ * whole answer; an enum before the function names the answer's words. A refusal comes with a place,
+ * answer[BEP_PLACE]: the first byte of the field at fault, counted from the start of the message
+ * that was read or would have been written. The header word is one field; the place of a string or
+ * opaque is its length word; the place of a field that isn't there is where it would begin. A
+ * refused call leaves the lent buffer as it was. An accepted one changes only its first bytes, as
+ * many as it reports.
  */
 #ifndef FORDTRUMPET_H
 #define FORDTRUMPET_H
@@ -51,9 +21,107 @@
 #include <stddef.h>
 #include <stdint.h>
 
+/* The version of this header and of the library that it was installed with. */
+#define BEP_VERSION_MAJOR 0
+#define BEP_VERSION_MINOR 1
+#define BEP_VERSION_PATCH 0
+#define BEP_VERSION "0.1.0"
+
+/* Of a function that can refuse: its result is to be looked at. */
+#if defined(__GNUC__) || defined(__clang__)
+#define BEP_CHECKED __attribute__((warn_unused_result))
+#else
+#define BEP_CHECKED
+#endif
+
 #ifdef __cplusplus
 extern "C" {
 #endif
+
+/*
+ * The numbers. Each is given exactly when its check is the first to fail. Reading gives 1 to 12,
+ * writing 1 and 5 to 12 and 14.
+ */
+enum {
+    BEP_ACCEPTED = 0,
+    /* the field isn't wholly there */
+    BEP_REFUSED_INCOMPLETE = 1,
+    /* version not 0 */
+    BEP_REFUSED_VERSION = 2,
+    /* type not 1 to 7 */
+    BEP_REFUSED_TYPE = 3,
+    /* reserved not 0 */
+    BEP_REFUSED_RESERVED = 4,
+    /* a length or count is above its limit; in writing, first of all, a Message ID above 4095
+       (place 0) */
+    BEP_REFUSED_ABOVE_LIMIT = 5,
+    /* a pad byte isn't zero */
+    BEP_REFUSED_PAD = 6,
+    /* text rule broken */
+    BEP_REFUSED_TEXT = 7,
+    /* empty Name */
+    BEP_REFUSED_EMPTY_NAME = 8,
+    /* hash length isn't 32 */
+    BEP_REFUSED_HASH_LENGTH = 9,
+    /* the Length of a block or Request is 0 or above 131,072 */
+    BEP_REFUSED_LENGTH = 10,
+    /* a reserved flag is set */
+    BEP_REFUSED_FLAG = 11,
+    /* a deleted file with a block count above 0 (the place is that of the block count) */
+    BEP_REFUSED_DELETED_WITH_BLOCKS = 12,
+    /* a name stands twice in the message (never in reading or writing) */
+    BEP_REFUSED_REPEATED_NAME = 13,
+    /* the answer is longer than the lent buffer (the place is 0, as for all that follow) */
+    BEP_REFUSED_NO_ROOM = 14,
+    /* bytes given as a table aren't a good table */
+    BEP_REFUSED_BAD_TABLE = 15,
+    /* outstanding count equals the window */
+    BEP_REFUSED_WINDOW_FULL = 16,
+    /* outstanding bytes plus Length exceed the allowance */
+    BEP_REFUSED_ALLOWANCE_FULL = 17,
+    /* the message is of another type than the call accepts */
+    BEP_REFUSED_OTHER_TYPE = 18,
+    /* the resulting table is above 512 records or 65,536 bytes */
+    BEP_REFUSED_TABLE_TOO_LARGE = 19,
+    /* the Response's ID isn't that of the oldest outstanding request, or none is outstanding */
+    BEP_REFUSED_NOT_OLDEST = 20,
+    /* another Repository than the call names */
+    BEP_REFUSED_OTHER_REPOSITORY = 21,
+    /* window not 1 to 16, or the outstanding requests given aren't sound */
+    BEP_REFUSED_UNSOUND = 22
+};
+
+/* What a number means, in a sentence for people. */
+static inline const char *bep_refusal_text(uint32_t number)
+{
+    switch (number) {
+    case BEP_ACCEPTED: return "accepted";
+    case BEP_REFUSED_INCOMPLETE: return "a field isn't wholly there";
+    case BEP_REFUSED_VERSION: return "the version isn't 0";
+    case BEP_REFUSED_TYPE: return "the type isn't 1 to 7";
+    case BEP_REFUSED_RESERVED: return "the reserved bits aren't 0";
+    case BEP_REFUSED_ABOVE_LIMIT: return "a length, a count or a Message ID is above its limit";
+    case BEP_REFUSED_PAD: return "a pad byte isn't zero";
+    case BEP_REFUSED_TEXT: return "a string breaks the text rule";
+    case BEP_REFUSED_EMPTY_NAME: return "the Name is empty";
+    case BEP_REFUSED_HASH_LENGTH: return "the hash isn't 32 bytes long";
+    case BEP_REFUSED_LENGTH: return "the Length is 0 or above 131,072";
+    case BEP_REFUSED_FLAG: return "a reserved flag is set";
+    case BEP_REFUSED_DELETED_WITH_BLOCKS: return "a deleted file has blocks";
+    case BEP_REFUSED_REPEATED_NAME: return "a name stands twice in the message";
+    case BEP_REFUSED_NO_ROOM: return "the answer is longer than the lent buffer";
+    case BEP_REFUSED_BAD_TABLE: return "the bytes aren't a good table";
+    case BEP_REFUSED_WINDOW_FULL: return "the window is full";
+    case BEP_REFUSED_ALLOWANCE_FULL: return "the byte allowance is exceeded";
+    case BEP_REFUSED_OTHER_TYPE: return "the message is of another type than the call takes";
+    case BEP_REFUSED_TABLE_TOO_LARGE:
+        return "the resulting table is above 512 records or 65,536 bytes";
+    case BEP_REFUSED_NOT_OLDEST: return "the Response isn't to the oldest outstanding request";
+    case BEP_REFUSED_OTHER_REPOSITORY: return "the message is for another Repository";
+    case BEP_REFUSED_UNSOUND: return "the window isn't 1 to 16, or the queue isn't sound";
+    default: return "unknown number";
+    }
+}
 
 /* The types of messages. */
 enum {
@@ -68,199 +136,338 @@ enum {
 
 /* Flags of a file. The low 12 bits are the Unix mode. */
 enum {
+    BEP_MODE = 4095,
     BEP_DELETED = 4096,
     BEP_INVALID = 8192
 };
 
 /*
- * Reads the message at the start of the input. Bytes after its end belong to the next message and
- * change no answer.
- *
- * Refused: answer[0] is the place, all others are 0.
- * Accepted: answer[0] is the number of bytes used, [1] the type, [2] the ID. By type follow these;
- * those not named are 0. A start is a place in the input, that of a string, hash or Data being its
- * first byte after the length word.
- *   Index, IndexUpdate:  [3] [4] start and length of the Repository
- *                        [5] [6] start and length of the FileInfo array, its count word included
- *                        [7]     number of files
- *   Request:             [3] [4] start and length of the Repository
- *                        [5] [6] start and length of the Name
- *                        [7]     Offset
- *                        [8]     Length
- *                        [9] [10] start and length of the hash (32)
- *   Response:            [3] [4] start and length of the Data
- *   Ping, Pong:          none
- *   Options:             [5] [6] start and length of the array, its count word included
- *                        [7]     number of options
+ * Limits, in bytes but for the counts. A Name has at least one byte, a Key up to 64 and a Value up
+ * to 255; there are up to 64 options. The Length of a block or Request is 1 to BEP_MAX_BLOCK.
  */
-uint32_t bep_read(const uint8_t *input, size_t input_len, uint64_t answer[11]);
+enum {
+    BEP_MAX_REPOSITORY = 64,
+    BEP_MAX_NAME = 255,
+    BEP_MAX_BLOCK = 131072,             /* and so the most data of a Response */
+    BEP_MAX_BLOCKS = 1024,              /* the count of a file */
+    BEP_MAX_FILES = 512,                /* the count of a message */
+    BEP_MAX_RECORDS = 512,              /* the count of a table */
+    BEP_MAX_WINDOW = 16                 /* the count of outstanding requests */
+};
+
+/* How long things can be, in bytes: a buffer of that size has room for any. */
+enum {
+    BEP_MAX_TABLE = 65536,              /* a good table */
+    BEP_MAX_INDEX = 21114956,           /* an Index or IndexUpdate */
+    BEP_MAX_TABLE_INDEX = 65608,        /* one that has the records of a good table */
+    BEP_MAX_REQUEST = 380,
+    BEP_MAX_RESPONSE = 131080,
+    BEP_PING_BYTES = 4,                 /* a Ping or a Pong */
+    BEP_REPLY_BYTES = 8,                /* a Response without data */
+    BEP_MAX_OPTIONS = 21000,            /* an Options message */
+    BEP_HASH_BYTES = 32,
+    BEP_BLOCK_BYTES = 40,               /* a block in a FileInfo array */
+    BEP_LIST_ENTRY_BYTES = 24,          /* a block in a request list */
+    BEP_MAX_REQUEST_LIST = 157056       /* a request list of four peers */
+};
+
+/* The word of every answer that a refusal fills with its place, and a writer with its bytes. */
+enum {
+    BEP_PLACE = 0,
+    BEP_WRITTEN = 0
+};
+
+/* A word of 32 bits as messages, tables and lists have it, big-endian. */
+static inline uint32_t bep_word(const uint8_t *bytes)
+{
+    uint32_t word = bytes[0];
+
+    for (int i = 1; i < 4; i++)
+        word = word << 8 | bytes[i];
+    return word;
+}
+
+/*
+ * The words of a reading: three for every type, those of the type, and zeros. AT is a place in the
+ * input; that of a string, hash or Data is its first byte after the length word, that of an array
+ * its count word, which is included in the array's LENGTH.
+ */
+enum {
+    BEP_READ_USED = 0,                  /* the number of bytes used */
+    BEP_READ_TYPE = 1,
+    BEP_READ_ID = 2,
+
+    BEP_INDEX_REPOSITORY_AT = 3,        /* of an IndexUpdate too */
+    BEP_INDEX_REPOSITORY_LENGTH = 4,
+    BEP_INDEX_FILES_AT = 5,             /* the FileInfo array */
+    BEP_INDEX_FILES_LENGTH = 6,
+    BEP_INDEX_FILES_COUNT = 7,
+
+    BEP_REQUEST_REPOSITORY_AT = 3,
+    BEP_REQUEST_REPOSITORY_LENGTH = 4,
+    BEP_REQUEST_NAME_AT = 5,
+    BEP_REQUEST_NAME_LENGTH = 6,
+    BEP_REQUEST_OFFSET = 7,
+    BEP_REQUEST_LENGTH = 8,
+    BEP_REQUEST_HASH_AT = 9,
+    BEP_REQUEST_HASH_LENGTH = 10,       /* 32 */
+
+    BEP_RESPONSE_DATA_AT = 3,
+    BEP_RESPONSE_DATA_LENGTH = 4,
+
+    BEP_OPTIONS_ARRAY_AT = 5,
+    BEP_OPTIONS_ARRAY_LENGTH = 6,
+    BEP_OPTIONS_ARRAY_COUNT = 7,
+
+    BEP_READ_WORDS = 11
+};
+
+/*
+ * Reads the message at the start of the input. Bytes after its end belong to the next message and
+ * change no answer. Refused, all words but the place are 0.
+ */
+BEP_CHECKED uint32_t bep_read(const uint8_t *input, size_t input_len,
+                              uint64_t answer[BEP_READ_WORDS]);
 
 /*
  * The writers. Each checks the ID (5 at 0), then gives what reading the message would give, then 14
- * if it is longer than the lent buffer. answer[0] is the number of bytes written, or the place of
- * the refusal.
+ * if it is longer than the lent buffer. answer[BEP_WRITTEN] is the number of bytes written.
  */
 
 /*
  * Writes an Index. The files are an encoded FileInfo array, count word first, in any order; bytes
  * after its end don't count.
  */
-uint32_t bep_write_index(uint8_t *out, size_t out_len, uint32_t id,
-                         const uint8_t *repository, size_t repository_len,
-                         const uint8_t *files, size_t files_len, uint64_t answer[1]);
+BEP_CHECKED uint32_t bep_write_index(uint8_t *out, size_t out_len, uint32_t id,
+                                     const uint8_t *repository, size_t repository_len,
+                                     const uint8_t *files, size_t files_len, uint64_t answer[1]);
 
 /* Writes an IndexUpdate. Its fields are those of an Index. */
-uint32_t bep_write_index_update(uint8_t *out, size_t out_len, uint32_t id,
-                                const uint8_t *repository, size_t repository_len,
-                                const uint8_t *files, size_t files_len, uint64_t answer[1]);
+BEP_CHECKED uint32_t bep_write_index_update(uint8_t *out, size_t out_len, uint32_t id,
+                                            const uint8_t *repository, size_t repository_len,
+                                            const uint8_t *files, size_t files_len,
+                                            uint64_t answer[1]);
 
 /* Writes a Request. A hash of another length than 32 is refused (9). */
-uint32_t bep_write_request(uint8_t *out, size_t out_len, uint32_t id,
-                           const uint8_t *repository, size_t repository_len,
-                           const uint8_t *name, size_t name_len,
-                           uint64_t offset, uint32_t length,
-                           const uint8_t *hash, size_t hash_len, uint64_t answer[1]);
+BEP_CHECKED uint32_t bep_write_request(uint8_t *out, size_t out_len, uint32_t id,
+                                       const uint8_t *repository, size_t repository_len,
+                                       const uint8_t *name, size_t name_len,
+                                       uint64_t offset, uint32_t length,
+                                       const uint8_t *hash, size_t hash_len, uint64_t answer[1]);
 
 /* Writes a Response. No data says that the block isn't available. */
-uint32_t bep_write_response(uint8_t *out, size_t out_len, uint32_t id,
-                            const uint8_t *data, size_t data_len, uint64_t answer[1]);
+BEP_CHECKED uint32_t bep_write_response(uint8_t *out, size_t out_len, uint32_t id,
+                                        const uint8_t *data, size_t data_len, uint64_t answer[1]);
 
 /* Writes a Ping. */
-uint32_t bep_write_ping(uint8_t *out, size_t out_len, uint32_t id, uint64_t answer[1]);
+BEP_CHECKED uint32_t bep_write_ping(uint8_t *out, size_t out_len, uint32_t id, uint64_t answer[1]);
 
 /* Writes a Pong. */
-uint32_t bep_write_pong(uint8_t *out, size_t out_len, uint32_t id, uint64_t answer[1]);
+BEP_CHECKED uint32_t bep_write_pong(uint8_t *out, size_t out_len, uint32_t id, uint64_t answer[1]);
 
 /*
  * Writes an Options message. The options are an encoded array, count word first; bytes after its
  * end don't count.
  */
-uint32_t bep_write_options(uint8_t *out, size_t out_len, uint32_t id,
-                           const uint8_t *options, size_t options_len, uint64_t answer[1]);
+BEP_CHECKED uint32_t bep_write_options(uint8_t *out, size_t out_len, uint32_t id,
+                                       const uint8_t *options, size_t options_len,
+                                       uint64_t answer[1]);
+
+/* The words of a file. AT is a place in the array. */
+enum {
+    BEP_FILE_NEXT = 0,                  /* the place past the file */
+    BEP_FILE_NAME_AT = 1,
+    BEP_FILE_NAME_LENGTH = 2,
+    BEP_FILE_FLAGS = 3,
+    BEP_FILE_MODIFIED = 4,              /* the 64 bits of a signed number */
+    BEP_FILE_VERSION = 5,
+    BEP_FILE_BLOCKS_COUNT = 6,
+    BEP_FILE_BLOCKS_AT = 7,             /* each has BEP_BLOCK_BYTES: a word with its length, a word
+                                           with the hash's length, and the 32 bytes of the hash */
+    BEP_FILE_WORDS = 8
+};
+
+/* The place of the first element of an array, past the count word. */
+enum {
+    BEP_FIRST = 4
+};
 
 /*
  * The file at a place of a FileInfo array whose reading was accepted. The array is given from its
- * count word on, so the first file is at 4 and each next one at the place past the one before.
+ * count word on, so the first file is at BEP_FIRST and each next one at the BEP_FILE_NEXT of the
+ * one before.
  *
- *   [0]      the place past it
- *   [1] [2]  start and length of its name in the array
- *   [3]      flags
- *   [4]      modified, the 64 bits of a signed number
- *   [5]      version
- *   [6]      number of blocks
- *   [7]      the place of the first block; each has 40 bytes: a word with its length, a word with
- *            the hash's length, and the 32 bytes of the hash
- *
- * It checks bounds alone. Returns 0, or 1 where the fields aren't wholly there: answer[0] is then the
- * first byte of the field that isn't, and the others are zeros.
+ * It checks bounds alone. Returns 0, or 1 where the fields aren't wholly there: the place is then
+ * the first byte of the field that isn't, and the other words are zeros.
  */
-uint32_t bep_file(const uint8_t *files, size_t files_len, size_t at, uint64_t answer[8]);
+BEP_CHECKED uint32_t bep_file(const uint8_t *files, size_t files_len, size_t at,
+                              uint64_t answer[BEP_FILE_WORDS]);
+
+/* The words of an option. AT is a place in the array. */
+enum {
+    BEP_OPTION_NEXT = 0,                /* the place past the option */
+    BEP_OPTION_KEY_AT = 1,
+    BEP_OPTION_KEY_LENGTH = 2,
+    BEP_OPTION_VALUE_AT = 3,
+    BEP_OPTION_VALUE_LENGTH = 4,
+    BEP_OPTION_WORDS = 5
+};
+
+/* The option at a place of an array whose reading was accepted, as bep_file does for files. */
+BEP_CHECKED uint32_t bep_option(const uint8_t *options, size_t options_len, size_t at,
+                                uint64_t answer[BEP_OPTION_WORDS]);
 
 /*
- * The option at a place of an array whose reading was accepted, as bep_file does for files.
- *
- *   [0]      the place past it
- *   [1] [2]  start and length of its key in the array
- *   [3] [4]  start and length of its value in the array
- *
- * It checks bounds alone. Returns 0, or 1 where the fields aren't wholly there: answer[0] is then the
- * first byte of the field that isn't, and the others are zeros.
- */
-uint32_t bep_option(const uint8_t *options, size_t options_len, size_t at, uint64_t answer[5]);
-
-/*
- * Tables. A good table is a FileInfo array that exactly fills its bytes, names rising bytewise, of at
- * most 512 records and 65,536 bytes. The empty table is four zero bytes.
+ * Tables. A good table is a FileInfo array that exactly fills its bytes, names rising bytewise, of
+ * at most 512 records and 65,536 bytes. The empty table is four zero bytes.
  */
 
 /* Whether bytes are a good table. Returns 0, or 15. */
-uint32_t bep_check_table(const uint8_t *table, size_t table_len);
+BEP_CHECKED uint32_t bep_check_table(const uint8_t *table, size_t table_len);
+
+/* What a comparison finds, in answer[0]: the first is older than the second, equal, newer. */
+enum {
+    BEP_OLDER = 0,
+    BEP_EQUAL = 1,
+    BEP_NEWER = 2
+};
 
 /*
  * Compares the record at place i of one array with that at place j of another, by which is newer:
  * Modified as a signed number; then Version; then valid over invalid; then deleted over undeleted;
- * then the encoded bytes from Flags to the end. Names don't count. answer[0] is 0 where the first is
- * the older, 1 where they are equal, 2 where it is the newer.
+ * then the encoded bytes from Flags to the end. Names don't count.
  *
- * It checks bounds alone. Returns 0, or 1 where the fields of one aren't wholly there: answer[0] is then
- * the first byte of the field that isn't, of the first record that is cut short.
+ * It checks bounds alone. Returns 0, or 1 where the fields of one aren't wholly there: the place is
+ * then the first byte of the field that isn't, of the first record that is cut short.
  */
-uint32_t bep_compare(const uint8_t *a, size_t a_len, size_t i,
-                     const uint8_t *b, size_t b_len, size_t j, uint64_t answer[1]);
+BEP_CHECKED uint32_t bep_compare(const uint8_t *a, size_t a_len, size_t i,
+                                 const uint8_t *b, size_t b_len, size_t j, uint64_t answer[1]);
 
 /*
- * Fills the buffer with the merged table of two: the newest record of each name. The two may be one.
- * Refused with 15, 19 or 14, in this order. answer[0] is the number of bytes filled, or 0.
+ * Fills the buffer with the merged table of two: the newest record of each name. The two may be
+ * one. Refused with 15, 19 or 14, in this order. answer[BEP_WRITTEN] is the number of bytes filled.
  */
-uint32_t bep_merge(uint8_t *out, size_t out_len, const uint8_t *a, size_t a_len,
-                   const uint8_t *b, size_t b_len, uint64_t answer[1]);
+BEP_CHECKED uint32_t bep_merge(uint8_t *out, size_t out_len, const uint8_t *a, size_t a_len,
+                               const uint8_t *b, size_t b_len, uint64_t answer[1]);
 
 /*
  * Fills the buffer with a sender's new table, by its old one and a message of it: the records of an
- * Index, or those of an IndexUpdate and the old ones that it doesn't mention. The message must be of
- * the repository given. Refused with 15, what reading the message gives, 18, 21, 13, 19 or 14, in this
- * order. answer[0] is the number of bytes filled, or the place.
+ * Index, or those of an IndexUpdate and the old ones that it doesn't mention. The message must be
+ * of the repository given. Refused with 15, what reading the message gives, 18, 21, 13, 19 or 14,
+ * in this order. answer[BEP_WRITTEN] is the number of bytes filled.
  */
-uint32_t bep_accept(uint8_t *out, size_t out_len, const uint8_t *old, size_t old_len,
-                    const uint8_t *message, size_t message_len,
-                    const uint8_t *repository, size_t repository_len, uint64_t answer[1]);
+BEP_CHECKED uint32_t bep_accept(uint8_t *out, size_t out_len, const uint8_t *old, size_t old_len,
+                                const uint8_t *message, size_t message_len,
+                                const uint8_t *repository, size_t repository_len,
+                                uint64_t answer[1]);
 
 /*
- * A step through a table: the record at a place, with the answer of bep_file. The first record is at
- * 4, and answer[0] is the place of the next step. At the end it returns 0 and all zeros. Returns 15 and
- * all zeros where the table isn't good, or where the place starts no record and isn't the end.
+ * A step through a table: the record at a place, with the answer of bep_file. The first record is
+ * at BEP_FIRST, and BEP_FILE_NEXT is the place of the next step. At the end it returns 0 and all
+ * zeros. Returns 15 and all zeros where the table isn't good, or where the place starts no record
+ * and isn't the end.
  */
-uint32_t bep_step(const uint8_t *table, size_t table_len, size_t at, uint64_t answer[8]);
+BEP_CHECKED uint32_t bep_step(const uint8_t *table, size_t table_len, size_t at,
+                              uint64_t answer[BEP_FILE_WORDS]);
 
 /*
  * Fills the buffer with the blocks to request: of each name over the five tables the newest record
- * counts, and its blocks are wanted where it is valid and undeleted and no valid, undeleted record of
- * the local table has their length and hash. An absent peer is the empty table. 24 bytes a block,
- * big-endian, by name and then by block: the file's number among all names and the block's number,
- * from 0 (32 bits each), the offset (64), the length and the peer, 1 to 4 (32 each). Refused with 15
- * or 14. answer[0] is the number of bytes filled, or 0.
+ * counts, and its blocks are wanted where it is valid and undeleted and no valid, undeleted record
+ * of the local table has their length and hash. An absent peer is the empty table. There is an
+ * entry of BEP_LIST_ENTRY_BYTES for each block, by name and then by block; bep_list_entry reads
+ * one. Refused with 15 or 14. answer[BEP_WRITTEN] is the number of bytes filled.
  */
-uint32_t bep_request_list(uint8_t *out, size_t out_len, const uint8_t *local, size_t local_len,
-                          const uint8_t *peer1, size_t peer1_len,
-                          const uint8_t *peer2, size_t peer2_len,
-                          const uint8_t *peer3, size_t peer3_len,
-                          const uint8_t *peer4, size_t peer4_len, uint64_t answer[1]);
+BEP_CHECKED uint32_t bep_request_list(uint8_t *out, size_t out_len,
+                                      const uint8_t *local, size_t local_len,
+                                      const uint8_t *peer1, size_t peer1_len,
+                                      const uint8_t *peer2, size_t peer2_len,
+                                      const uint8_t *peer3, size_t peer3_len,
+                                      const uint8_t *peer4, size_t peer4_len, uint64_t answer[1]);
+
+/* An entry of a request list: a block to request, and from whom. */
+struct bep_wanted {
+    uint32_t file;                      /* the file's number among all names, from 0 */
+    uint32_t block;                     /* the block's number in its file, from 0 */
+    uint64_t offset;
+    uint32_t length;
+    uint32_t peer;                      /* 1 to 4 */
+};
 
 /*
- * Where a valid, undeleted record of a table first has a block with this length and hash: answer[0]
- * is 1, [1] the record's number and [2] the block's, from 0. All are 0 where none has. Refused with
- * 15.
+ * The entry with this number, from 0, of a list that bep_request_list filled. Its fields stand
+ * there in the order of the struct, big-endian. The list must have the entry: nothing is checked.
  */
-uint32_t bep_find(const uint8_t *table, size_t table_len, uint32_t length,
-                  const uint8_t *hash, size_t hash_len, uint64_t answer[3]);
+static inline struct bep_wanted bep_list_entry(const uint8_t *list, size_t number)
+{
+    const uint8_t *entry = list + number * BEP_LIST_ENTRY_BYTES;
+    struct bep_wanted wanted;
+
+    wanted.file = bep_word(entry);
+    wanted.block = bep_word(entry + 4);
+    wanted.offset = bep_word(entry + 8);
+    wanted.offset = wanted.offset << 32 | bep_word(entry + 12);
+    wanted.length = bep_word(entry + 16);
+    wanted.peer = bep_word(entry + 20);
+    return wanted;
+}
+
+/* The words of a search. */
+enum {
+    BEP_FIND_FOUND = 0,                 /* 1, or 0 and so are all others */
+    BEP_FIND_RECORD = 1,                /* the record's number, from 0 */
+    BEP_FIND_BLOCK = 2,                 /* the block's number in it, from 0 */
+    BEP_FIND_WORDS = 3
+};
+
+/*
+ * Where a valid, undeleted record of a table first has a block with this length and hash. Refused
+ * with 15.
+ */
+BEP_CHECKED uint32_t bep_find(const uint8_t *table, size_t table_len, uint32_t length,
+                              const uint8_t *hash, size_t hash_len,
+                              uint64_t answer[BEP_FIND_WORDS]);
+
+/* The words of a ruling. */
+enum {
+    BEP_SERVE_SERVED = 0,               /* 1 where it is served, 0 where it got the reply */
+
+    BEP_SERVE_NAME_AT = 1,              /* served: the name in the message, and what of it */
+    BEP_SERVE_NAME_LENGTH = 2,
+    BEP_SERVE_OFFSET = 3,
+    BEP_SERVE_LENGTH = 4,
+
+    BEP_SERVE_REPLY_LENGTH = 1,         /* not served: bytes of the reply; the others are 0 */
+
+    BEP_SERVE_WORDS = 5
+};
 
 /*
  * Rules on an incoming Request, by our own table and Repository. It is served where it names our
  * Repository and our table has a valid, undeleted record of that name with that length and hash at
- * that offset: answer[0] is 1, [1] and [2] start and length of the name in the message, [3] the
- * offset, [4] the length, and nothing is written. Otherwise the reply, a Response with the same ID and
- * no data (8 bytes), is written: answer[0] is 0 and [1] its length. Refused with 15, what reading the
- * message gives, 18 or 14: answer[0] is the place.
+ * that offset; nothing is written then. Otherwise the reply, a Response with the same ID and no
+ * data (BEP_REPLY_BYTES), is written. Refused with 15, what reading the message gives, 18 or 14.
  */
-uint32_t bep_serve(uint8_t *out, size_t out_len, const uint8_t *table, size_t table_len,
-                   const uint8_t *repository, size_t repository_len,
-                   const uint8_t *message, size_t message_len, uint64_t answer[5]);
+BEP_CHECKED uint32_t bep_serve(uint8_t *out, size_t out_len,
+                               const uint8_t *table, size_t table_len,
+                               const uint8_t *repository, size_t repository_len,
+                               const uint8_t *message, size_t message_len,
+                               uint64_t answer[BEP_SERVE_WORDS]);
 
 /*
  * Outstanding requests of one link, within a window of 1 to 16 requests and an allowance of 524,288
- * bytes. The caller keeps the queue:
+ * bytes. The caller keeps the queue, whose words these are.
  *
- *   [0]       the window
- *   [1]       the next ID
- *   [2]       how many requests are outstanding
- *   [3] [4]   ID and Length of the oldest; those of the others follow, 16 in all, the unused ones 0
- *
- * Each call but the totals returns 22 first, where the queue isn't sound: a window of 1 to 16, no more
- * requests than that, Lengths of 1 to 131,072 and together within the allowance, IDs that rise by one (0
- * after 4095) up to the next ID. The words of unused entries don't count. The place of 22 is 0. A
- * refused call leaves the queue as it was.
+ * Each call but the totals returns 22 first, where the queue isn't sound: a window of 1 to 16, no
+ * more requests than that, Lengths of 1 to 131,072 and together within the allowance, IDs that rise
+ * by one (0 after 4095) up to the next ID. The words of unused entries don't count. The place of 22
+ * is 0. A refused call leaves the queue as it was.
  */
 enum {
+    BEP_QUEUE_WINDOW = 0,
+    BEP_QUEUE_NEXT_ID = 1,
+    BEP_QUEUE_COUNT = 2,                /* how many requests are outstanding */
+    BEP_QUEUE_ENTRIES = 3,              /* ID and Length of the oldest; those of the others follow,
+                                           16 in all, the unused ones 0 */
     BEP_QUEUE_WORDS = 35
 };
 
@@ -268,43 +475,68 @@ enum {
  * Opens an empty queue with this window. Another window than 1 to 16 returns 22 and leaves an empty
  * queue of window 0, which every call but the totals refuses.
  */
-uint32_t bep_queue_open(uint32_t queue[BEP_QUEUE_WORDS], uint32_t window);
+BEP_CHECKED uint32_t bep_queue_open(uint32_t queue[BEP_QUEUE_WORDS], uint32_t window);
 
 /* Opens an empty queue with the default window, which is 16. Returns 0. */
 uint32_t bep_queue_open_default(uint32_t queue[BEP_QUEUE_WORDS]);
 
-/*
- * Writes a Request with the next ID and appends it to the queue. Refused with what the fields give, 16,
- * 17 or 14, in this order. answer[0] is the number of bytes written and [1] the ID, or [0] the place
- * and [1] 0.
- */
-uint32_t bep_queue_issue(uint8_t *out, size_t out_len, uint32_t queue[BEP_QUEUE_WORDS],
-                         const uint8_t *repository, size_t repository_len,
-                         const uint8_t *name, size_t name_len,
-                         uint64_t offset, uint32_t length,
-                         const uint8_t *hash, size_t hash_len, uint64_t answer[2]);
+/* The words of an issue. Refused, all but the place are 0. */
+enum {
+    BEP_ISSUED_WRITTEN = 0,
+    BEP_ISSUED_ID = 1,
+    BEP_ISSUED_WORDS = 2
+};
 
 /*
- * Releases the oldest request by the Response to it. Refused with what reading the message gives, 18 or
- * 20, in this order.
- *
- *   [0]      0: the data, as long as asked; 1: not available; 2: another length than asked
- *   [1] [2]  ID and Length of the request
- *   [3] [4]  start and length of the data in the message; 0 unless [0] is 0
- *
- * Refused, [0] is the place and the others are 0.
+ * Writes a Request with the next ID and appends it to the queue. Refused with what the fields give,
+ * 16, 17 or 14, in this order.
  */
-uint32_t bep_queue_answer(uint32_t queue[BEP_QUEUE_WORDS],
-                          const uint8_t *message, size_t message_len, uint64_t answer[5]);
+BEP_CHECKED uint32_t bep_queue_issue(uint8_t *out, size_t out_len,
+                                     uint32_t queue[BEP_QUEUE_WORDS],
+                                     const uint8_t *repository, size_t repository_len,
+                                     const uint8_t *name, size_t name_len,
+                                     uint64_t offset, uint32_t length,
+                                     const uint8_t *hash, size_t hash_len,
+                                     uint64_t answer[BEP_ISSUED_WORDS]);
+
+/* The words of an answered request. */
+enum {
+    BEP_ANSWERED_OUTCOME = 0,
+    BEP_ANSWERED_ID = 1,
+    BEP_ANSWERED_LENGTH = 2,            /* that of the request */
+    BEP_ANSWERED_DATA_AT = 3,           /* in the message; 0 unless the outcome is the data */
+    BEP_ANSWERED_DATA_LENGTH = 4,
+    BEP_ANSWERED_WORDS = 5
+};
+
+/* What came: the data, as long as asked; nothing; data of another length than asked. */
+enum {
+    BEP_OUTCOME_DATA = 0,
+    BEP_OUTCOME_NOT_AVAILABLE = 1,
+    BEP_OUTCOME_WRONG_SIZE = 2
+};
+
+/*
+ * Releases the oldest request by the Response to it. Refused with what reading the message gives,
+ * 18 or 20, in this order; all words but the place are 0 then.
+ */
+BEP_CHECKED uint32_t bep_queue_answer(uint32_t queue[BEP_QUEUE_WORDS],
+                                      const uint8_t *message, size_t message_len,
+                                      uint64_t answer[BEP_ANSWERED_WORDS]);
 
 /* Releases all requests: the link is gone. The next ID goes on. */
-uint32_t bep_queue_drop(uint32_t queue[BEP_QUEUE_WORDS]);
+BEP_CHECKED uint32_t bep_queue_drop(uint32_t queue[BEP_QUEUE_WORDS]);
 
-/*
- * answer[0] is how many requests are outstanding, [1] the sum of their Lengths: those of the entries
- * that count, whether the queue is sound or not. Returns 0.
- */
-uint32_t bep_queue_totals(const uint32_t queue[BEP_QUEUE_WORDS], uint64_t answer[2]);
+/* The words of the totals. */
+enum {
+    BEP_TOTALS_COUNT = 0,               /* how many requests are outstanding */
+    BEP_TOTALS_BYTES = 1,               /* the sum of their Lengths */
+    BEP_TOTALS_WORDS = 2
+};
+
+/* Totals the entries that count, whether the queue is sound or not. Returns 0. */
+uint32_t bep_queue_totals(const uint32_t queue[BEP_QUEUE_WORDS],
+                          uint64_t answer[BEP_TOTALS_WORDS]);
 
 #ifdef __cplusplus
 }

@@ -22,9 +22,6 @@ pub(crate) fn written(number: u32, answer: [u64; 1]) -> Result<usize, Refusal> {
     let size = size(answer[0]);
     match number {
         0 => Ok(size),
-        _ => Err(Refusal {
-            number,
-            place: size,
-        }),
+        _ => Err(Refusal::new(number, size)),
     }
 }

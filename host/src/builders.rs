@@ -3,6 +3,8 @@
 //! The builders hold the fields to no rule: the writers check what was made.
 
 use crate::{Block, Flags};
+use alloc::vec;
+use alloc::vec::Vec;
 
 /// Makes the encoded FileInfo array that [`write_index`](crate::write_index) and
 /// [`write_index_update`](crate::write_index_update) expect.
@@ -16,15 +18,17 @@ use crate::{Block, Flags};
 /// let hash = [0xAB; 32];
 /// let mut files = FilesBuilder::new();
 /// files.push(b"a.txt", Flags(0o644), 1_700_000_000, 0, [Block { length: 5, hash: &hash }]);
-/// files.push(b"b.txt", Flags(Flags::DELETED), 1_700_000_000, 3, []);
+/// files.push(b"b.txt", Flags::DELETED, 1_700_000_000, 3, []);
 /// let mut out = [0; 200];
-/// let length = write_index(&mut out, 0, b"default", files.as_bytes())?;
+/// let length = write_index(0, b"default", files.as_bytes(), &mut out)?;
 /// # assert_eq!(length, 124);
 /// # Ok::<(), fordtrumpet::Refusal>(())
 /// ```
 #[derive(Clone, Debug)]
 pub struct FilesBuilder {
     array: Array,
+    /// Where each record begins.
+    starts: Vec<usize>,
 }
 
 impl FilesBuilder {
@@ -36,6 +40,7 @@ impl FilesBuilder {
     pub fn new() -> Self {
         FilesBuilder {
             array: Array::new(),
+            starts: Vec::new(),
         }
     }
 
@@ -57,6 +62,7 @@ impl FilesBuilder {
         blocks: impl IntoIterator<Item = Block<'b>>,
     ) {
         let array = &mut self.array;
+        self.starts.push(array.bytes.len());
         array.count();
         array.string(name);
         array.word(flags.0);
@@ -81,11 +87,25 @@ impl FilesBuilder {
     ///
     /// let files = FilesBuilder::new();
     /// let mut out = [0; 12];
-    /// write_index(&mut out, 0, b"", files.as_bytes())?;
+    /// write_index(0, b"", files.as_bytes(), &mut out)?;
     /// # Ok::<(), fordtrumpet::Refusal>(())
     /// ```
     pub fn as_bytes(&self) -> &[u8] {
         &self.array.bytes
+    }
+
+    /// The encoded records, one by one.
+    pub(crate) fn records(&self) -> impl Iterator<Item = &[u8]> {
+        let ends = self
+            .starts
+            .iter()
+            .skip(1)
+            .copied()
+            .chain([self.array.bytes.len()]);
+        self.starts
+            .iter()
+            .zip(ends)
+            .map(|(&start, end)| &self.array.bytes[start..end])
     }
 
     /// Removes all files, so that the memory can be used again.
@@ -100,6 +120,7 @@ impl FilesBuilder {
     /// ```
     pub fn clear(&mut self) {
         self.array.clear();
+        self.starts.clear();
     }
 }
 
@@ -121,7 +142,7 @@ impl Default for FilesBuilder {
 /// options.push(b"clientId", b"fordtrumpet");
 /// options.push(b"clientVersion", b"v0.1.0");
 /// let mut out = [0; 100];
-/// let length = write_options(&mut out, 0, options.as_bytes())?;
+/// let length = write_options(0, options.as_bytes(), &mut out)?;
 /// # assert_eq!(length, 68);
 /// # Ok::<(), fordtrumpet::Refusal>(())
 /// ```
@@ -162,7 +183,7 @@ impl OptionsBuilder {
     ///
     /// let options = OptionsBuilder::new();
     /// let mut out = [0; 8];
-    /// write_options(&mut out, 0, options.as_bytes())?;
+    /// write_options(0, options.as_bytes(), &mut out)?;
     /// # Ok::<(), fordtrumpet::Refusal>(())
     /// ```
     pub fn as_bytes(&self) -> &[u8] {
@@ -236,7 +257,7 @@ mod tests {
         };
         let mut files = FilesBuilder::default();
         files.push(b"abcde", Flags(0o644), -2, 9, [block, block]);
-        files.push(b"four", Flags(Flags::DELETED), 3, 0, []);
+        files.push(b"four", Flags::DELETED, 3, 0, []);
 
         let mut expected = Vec::new();
         expected.extend_from_slice(b"\0\0\0\x02");

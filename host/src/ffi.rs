@@ -1,6 +1,6 @@
 //! What the static library exports. `include/fordtrumpet.h` says the same in C.
 //!
-//! A slice passes as its pointer and its length. The pointer of an empty slice must not be null; a
+//! A slice passes as its pointer and its length. The pointer of an empty slice is never used, so a
 //! dangling one such as Rust's own is fine. A lent buffer must not overlap any input, and an answer
 //! neither of them. Every call fills its whole answer and gives 0 when it accepts, else the number
 //! of the refusal.

@@ -16,13 +16,34 @@
 //!
 //! Names and other strings are bytes: the protocol's text rule lets through some that aren't UTF-8.
 //!
+//! # Buffers, stack and threads
+//!
+//! No call allocates but those of the types that own bytes ([`FilesBuilder`], [`OptionsBuilder`],
+//! [`TableBuf`]). Messages and tables go into lent buffers; there is a constant for each:
+//! [`MAX_REQUEST`], [`MAX_RESPONSE`], [`MAX_TABLE`], [`MAX_REQUEST_LIST`] and so on. On the stack
+//! [`accept`] takes about 13 KB, [`merge`] about 9 KB, all other calls under 2 KB. Calls share nothing,
+//! so any thread may call at any time.
+//!
+//! # Linking
+//!
+//! The build script looks for `libbep.a`, which `rt staticlib bep` makes in the repository's root, in
+//! `target/staticlib` there, or in the folder that `FORDTRUMPET_LIB_DIR` names. A host depends on it so:
+//!
+//! ```toml
+//! [dependencies]
+//! fordtrumpet = { path = "fordtrumpet/host" }
+//! ```
+//!
+//! Without the default feature `std` the crate needs `alloc` alone; what it lacks then is the way from a
+//! [`Refusal`] to a `std::io::Error`.
+//!
 //! ```
 //! use fordtrumpet::{read, write_index, FilesBuilder, Flags, Message};
 //!
 //! let mut files = FilesBuilder::new();
 //! files.push(b"notes.txt", Flags(0o644), 1_700_000_000, 0, []);
 //! let mut out = [0; 100];
-//! let length = write_index(&mut out, 1, b"default", files.as_bytes())?;
+//! let length = write_index(1, b"default", files.as_bytes(), &mut out)?;
 //!
 //! let read = read(&out[..length])?;
 //! assert_eq!(read.used, length);
@@ -39,10 +60,13 @@
 //!
 //! ```compile_fail,E0502
 //! let mut bytes = [0; 100];
-//! fordtrumpet::write_response(&mut bytes[..50], 0, &bytes[20..30]);
+//! fordtrumpet::write_response(0, &bytes[20..30], &mut bytes[..50]);
 //! ```
 
 #![deny(missing_docs)]
+#![cfg_attr(not(feature = "std"), no_std)]
+
+extern crate alloc;
 
 // The examples of the README are compiled with the others.
 #[cfg(doctest)]
@@ -54,16 +78,19 @@ mod builders;
 mod ffi;
 mod message;
 mod queue;
+pub mod raw;
 mod records;
 mod refusal;
 mod serve;
+mod show;
+mod sizes;
 mod table;
 mod walker;
 mod want;
 mod write;
 
 pub use builders::{FilesBuilder, OptionsBuilder};
-pub use message::{read, Index, Message, Options, Ping, Pong, Read, Request, Response};
+pub use message::{read, Index, Message, Options, Ping, Pong, ReadMessage, Request, Response};
 pub use queue::{Answered, Issued, Outcome, RequestQueue};
 pub use records::{
     Block, Blocks, BlocksIter, FileInfo, Files, FilesIter, Flags, KeyValue, KeyValues,
@@ -71,9 +98,12 @@ pub use records::{
 };
 pub use refusal::Refusal;
 pub use serve::{serve, Serving};
-pub use table::{accept, compare, is_good, merge, Table, MAX_TABLE};
-pub use walker::Walker;
-pub use want::{find_local, request_list, RequestList, RequestListIter, Wanted};
+pub use sizes::{
+    MAX_BLOCK, MAX_BLOCKS, MAX_FILES, MAX_INDEX, MAX_NAME, MAX_OPTIONS, MAX_REPOSITORY,
+    MAX_REQUEST, MAX_RESPONSE, MAX_TABLE_INDEX, PING, REPLY,
+};
+pub use table::{accept, compare, merge, Table, TableBuf, TableError, MAX_RECORDS, MAX_TABLE};
+pub use want::{find_local, request_list, RequestList, RequestListIter, Wanted, MAX_REQUEST_LIST};
 pub use write::{
     write_index, write_index_update, write_options, write_ping, write_pong, write_request,
     write_response,

@@ -1,12 +1,14 @@
 //! Reading a message, and what it holds.
 
 use crate::answer::{size, span, word};
+use crate::show::{Hex, Text};
 use crate::{ffi, Files, KeyValues, Refusal};
+use core::fmt;
 
 /// Reads the message at the start of `input`.
 ///
 /// The fields borrow from `input`. There is no message length on the wire, so `input` may hold more
-/// than the message: [`Read::used`] says where the next one begins, and bytes after that change no
+/// than the message: [`ReadMessage::used`] says where the next one begins, and bytes after that change no
 /// answer. A message that is cut short is refused with number 1; a host that reads from a stream can
 /// wait for more bytes and read again.
 ///
@@ -23,13 +25,13 @@ use crate::{ffi, Files, KeyValues, Refusal};
 /// assert_eq!(read.message.id(), 7);
 /// assert!(matches!(read.message, Message::Ping(_)));
 /// ```
-pub fn read(input: &[u8]) -> Result<Read<'_>, Refusal> {
+pub fn read(input: &[u8]) -> Result<ReadMessage<'_>, Refusal> {
     let mut answer = [0; 11];
     // SAFETY: pointer and length are those of one slice, and the answer has the size asked for.
     let number = unsafe { ffi::bep_read(input.as_ptr(), input.len(), &mut answer) };
     if number != 0 {
         let place = size(answer[0]);
-        return Err(Refusal { number, place });
+        return Err(Refusal::new(number, place));
     }
     let id = word(answer[2]);
     let message = match answer[1] {
@@ -57,7 +59,7 @@ pub fn read(input: &[u8]) -> Result<Read<'_>, Refusal> {
         }),
         kind => unreachable!("an accepted message has no type {kind}"),
     };
-    Ok(Read {
+    Ok(ReadMessage {
         message,
         used: size(answer[0]),
     })
@@ -72,8 +74,17 @@ fn index<'a>(input: &'a [u8], id: u32, answer: &[u64; 11]) -> Index<'a> {
 }
 
 /// A message and the number of bytes it was read from.
-#[derive(Clone, Copy, Debug)]
-pub struct Read<'a> {
+///
+/// ```
+/// let input = [0, 7, 4, 0, 0, 8, 4, 0];
+/// let first = fordtrumpet::read(&input)?;
+/// let second = fordtrumpet::read(&input[first.used..])?;
+/// assert_eq!((first.message.id(), second.message.id()), (7, 8));
+/// # Ok::<(), fordtrumpet::Refusal>(())
+/// ```
+#[derive(Clone, Copy, Debug, PartialEq, Eq)]
+#[must_use]
+pub struct ReadMessage<'a> {
     /// The message.
     pub message: Message<'a>,
     /// The number of bytes the message occupies. Later bytes belong to the next message.
@@ -81,7 +92,17 @@ pub struct Read<'a> {
 }
 
 /// A message of one of the seven types.
-#[derive(Clone, Copy, Debug)]
+///
+/// ```
+/// use fordtrumpet::{read, Message, Response};
+///
+/// match read(&[0, 2, 3, 0, 0, 0, 0, 0])?.message {
+///     Message::Response(Response { id: 2, data: [] }) => {}
+///     other => panic!("{other:?}"),
+/// }
+/// # Ok::<(), fordtrumpet::Refusal>(())
+/// ```
+#[derive(Clone, Copy, Debug, PartialEq, Eq)]
 pub enum Message<'a> {
     /// The whole contents of the sender's repository.
     Index(Index<'a>),
@@ -119,7 +140,15 @@ impl Message<'_> {
 }
 
 /// An Index or an IndexUpdate; both have the same fields.
-#[derive(Clone, Copy, Debug)]
+///
+/// ```
+/// use fordtrumpet::{read, Message};
+///
+/// let Message::Index(index) = read(&[0, 1, 1, 0, 0, 0, 0, 0, 0, 0, 0, 0])?.message else { panic!() };
+/// assert_eq!((index.id, index.repository, index.files.len()), (1, &b""[..], 0));
+/// # Ok::<(), fordtrumpet::Refusal>(())
+/// ```
+#[derive(Clone, Copy, PartialEq, Eq)]
 pub struct Index<'a> {
     /// The Message ID.
     pub id: u32,
@@ -130,7 +159,17 @@ pub struct Index<'a> {
 }
 
 /// A Request for one block.
-#[derive(Clone, Copy, Debug)]
+///
+/// ```
+/// use fordtrumpet::{read, write_request, Message, MAX_REQUEST};
+///
+/// let mut out = [0; MAX_REQUEST];
+/// let length = write_request(3, b"default", b"a", 131_072, 5, &[7; 32], &mut out)?;
+/// let Message::Request(request) = read(&out[..length])?.message else { panic!() };
+/// assert_eq!((request.name, request.offset, request.hash), (&b"a"[..], 131_072, &[7; 32]));
+/// # Ok::<(), fordtrumpet::Refusal>(())
+/// ```
+#[derive(Clone, Copy, PartialEq, Eq)]
 pub struct Request<'a> {
     /// The Message ID.
     pub id: u32,
@@ -147,7 +186,15 @@ pub struct Request<'a> {
 }
 
 /// A Response to a Request.
-#[derive(Clone, Copy, Debug)]
+///
+/// ```
+/// use fordtrumpet::{read, Message};
+///
+/// let Message::Response(response) = read(&[0, 2, 3, 0, 0, 0, 0, 1, b'x', 0, 0, 0])?.message else { panic!() };
+/// assert_eq!(response.data, b"x");
+/// # Ok::<(), fordtrumpet::Refusal>(())
+/// ```
+#[derive(Clone, Copy, PartialEq, Eq)]
 pub struct Response<'a> {
     /// The ID of the Request it answers.
     pub id: u32,
@@ -156,24 +203,78 @@ pub struct Response<'a> {
 }
 
 /// A Ping.
-#[derive(Clone, Copy, Debug)]
+///
+/// ```
+/// use fordtrumpet::{read, Message, Ping};
+///
+/// assert_eq!(read(&[0, 0, 4, 0])?.message, Message::Ping(Ping { id: 0 }));
+/// # Ok::<(), fordtrumpet::Refusal>(())
+/// ```
+#[derive(Clone, Copy, Debug, PartialEq, Eq)]
 pub struct Ping {
     /// The Message ID.
     pub id: u32,
 }
 
 /// A Pong.
-#[derive(Clone, Copy, Debug)]
+///
+/// ```
+/// use fordtrumpet::{read, Message, Pong};
+///
+/// assert_eq!(read(&[0x0F, 0xFF, 5, 0])?.message, Message::Pong(Pong { id: 4095 }));
+/// # Ok::<(), fordtrumpet::Refusal>(())
+/// ```
+#[derive(Clone, Copy, Debug, PartialEq, Eq)]
 pub struct Pong {
     /// The ID of the Ping it answers.
     pub id: u32,
 }
 
 /// An Options message.
-#[derive(Clone, Copy, Debug)]
+///
+/// ```
+/// use fordtrumpet::{read, Message};
+///
+/// let Message::Options(message) = read(&[0, 0, 7, 0, 0, 0, 0, 0])?.message else { panic!() };
+/// assert!(message.options.is_empty());
+/// # Ok::<(), fordtrumpet::Refusal>(())
+/// ```
+#[derive(Clone, Copy, Debug, PartialEq, Eq)]
 pub struct Options<'a> {
     /// The Message ID.
     pub id: u32,
     /// The options, in the order they were sent in.
     pub options: KeyValues<'a>,
+}
+
+impl fmt::Debug for Index<'_> {
+    fn fmt(&self, f: &mut fmt::Formatter<'_>) -> fmt::Result {
+        f.debug_struct("Index")
+            .field("id", &self.id)
+            .field("repository", &Text(self.repository))
+            .field("files", &self.files)
+            .finish()
+    }
+}
+
+impl fmt::Debug for Request<'_> {
+    fn fmt(&self, f: &mut fmt::Formatter<'_>) -> fmt::Result {
+        f.debug_struct("Request")
+            .field("id", &self.id)
+            .field("repository", &Text(self.repository))
+            .field("name", &Text(self.name))
+            .field("offset", &self.offset)
+            .field("length", &self.length)
+            .field("hash", &Hex(self.hash))
+            .finish()
+    }
+}
+
+impl fmt::Debug for Response<'_> {
+    fn fmt(&self, f: &mut fmt::Formatter<'_>) -> fmt::Result {
+        f.debug_struct("Response")
+            .field("id", &self.id)
+            .field("data", &format_args!("{} bytes", self.data.len()))
+            .finish()
+    }
 }

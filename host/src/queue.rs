@@ -2,6 +2,7 @@
 
 use crate::answer::{size, span, word};
 use crate::{ffi, Refusal};
+use core::fmt;
 
 /// The requests of one link that were issued and not answered yet, oldest first.
 ///
@@ -13,21 +14,30 @@ use crate::{ffi, Refusal};
 ///
 /// let mut queue = RequestQueue::open();
 /// let mut out = [0; 100];
-/// let issued = queue.issue(&mut out, b"default", b"notes.txt", 0, 3, &[0xA7; 32])?;
+/// let issued = queue.issue(b"default", b"notes.txt", 0, 3, &[0xA7; 32], &mut out)?;
 /// // Send `out[..issued.written]`, and there comes the answer:
-/// let length = write_response(&mut out, issued.id, b"abc")?;
+/// let length = write_response(issued.id, b"abc", &mut out)?;
 /// let answered = queue.answer(&out[..length])?;
 /// assert_eq!(answered.outcome, Outcome::Data(b"abc"));
 /// assert_eq!(queue.outstanding(), 0);
 /// # Ok::<(), fordtrumpet::Refusal>(())
 /// ```
-#[derive(Clone, Debug, PartialEq, Eq)]
+#[derive(Clone, PartialEq, Eq)]
 pub struct RequestQueue {
     words: [u32; 35],
 }
 
 /// A request that was issued.
+///
+/// ```
+/// use fordtrumpet::{Issued, RequestQueue};
+///
+/// let issued = RequestQueue::open().issue(b"default", b"a", 0, 5, &[7; 32], &mut [0; 100])?;
+/// assert_eq!(issued, Issued { id: 0, written: 72 });
+/// # Ok::<(), fordtrumpet::Refusal>(())
+/// ```
 #[derive(Clone, Copy, Debug, PartialEq, Eq)]
+#[must_use]
 pub struct Issued {
     /// The ID of the Request.
     pub id: u32,
@@ -36,7 +46,18 @@ pub struct Issued {
 }
 
 /// A request that was answered, and how.
+///
+/// ```
+/// use fordtrumpet::{Answered, Outcome, RequestQueue};
+///
+/// let mut queue = RequestQueue::open();
+/// let _ = queue.issue(b"default", b"a", 0, 5, &[7; 32], &mut [0; 100])?;
+/// let answered = queue.answer(&[0, 0, 3, 0, 0, 0, 0, 0])?;
+/// assert_eq!(answered, Answered { id: 0, length: 5, outcome: Outcome::NotAvailable });
+/// # Ok::<(), fordtrumpet::Refusal>(())
+/// ```
 #[derive(Clone, Copy, Debug, PartialEq, Eq)]
+#[must_use]
 pub struct Answered<'a> {
     /// The ID of the Request and of its Response.
     pub id: u32,
@@ -47,6 +68,19 @@ pub struct Answered<'a> {
 }
 
 /// What an answer brought.
+///
+/// ```
+/// use fordtrumpet::{Outcome, RequestQueue};
+///
+/// let mut queue = RequestQueue::open();
+/// let _ = queue.issue(b"default", b"a", 0, 5, &[7; 32], &mut [0; 100])?;
+/// match queue.answer(&[0, 0, 3, 0, 0, 0, 0, 1, b'x', 0, 0, 0])?.outcome {
+///     Outcome::Data(data) => println!("{} bytes", data.len()),
+///     Outcome::NotAvailable => println!("ask another peer"),
+///     Outcome::WrongSize => println!("one byte for five"),
+/// }
+/// # Ok::<(), fordtrumpet::Refusal>(())
+/// ```
 #[derive(Clone, Copy, Debug, PartialEq, Eq)]
 pub enum Outcome<'a> {
     /// Data, as long as asked for.
@@ -59,6 +93,13 @@ pub enum Outcome<'a> {
 
 impl RequestQueue {
     /// The largest window.
+    ///
+    /// ```
+    /// use fordtrumpet::RequestQueue;
+    ///
+    /// assert!(RequestQueue::open_with(RequestQueue::WINDOW).is_ok());
+    /// assert!(RequestQueue::open_with(RequestQueue::WINDOW + 1).is_err());
+    /// ```
     pub const WINDOW: u32 = 16;
 
     /// An empty queue with the default window.
@@ -86,7 +127,7 @@ impl RequestQueue {
     /// use fordtrumpet::RequestQueue;
     ///
     /// assert!(RequestQueue::open_with(4).is_ok());
-    /// assert_eq!(RequestQueue::open_with(17).unwrap_err().number, 22);
+    /// assert_eq!(RequestQueue::open_with(17).unwrap_err().number(), 22);
     /// ```
     pub fn open_with(window: u32) -> Result<Self, Refusal> {
         let mut words = [0; 35];
@@ -110,19 +151,19 @@ impl RequestQueue {
     ///
     /// let mut queue = RequestQueue::open_with(1)?;
     /// let mut out = [0; 100];
-    /// queue.issue(&mut out, b"default", b"a", 0, 131_072, &[0xA7; 32])?;
-    /// let again = queue.issue(&mut out, b"default", b"a", 131_072, 5, &[0xA8; 32]);
-    /// assert_eq!(again.unwrap_err().number, 16);
+    /// queue.issue(b"default", b"a", 0, 131_072, &[0xA7; 32], &mut out)?;
+    /// let again = queue.issue(b"default", b"a", 131_072, 5, &[0xA8; 32], &mut out);
+    /// assert_eq!(again.unwrap_err().number(), 16);
     /// # Ok::<(), fordtrumpet::Refusal>(())
     /// ```
     pub fn issue(
         &mut self,
-        out: &mut [u8],
         repository: &[u8],
         name: &[u8],
         offset: u64,
         length: u32,
-        hash: &[u8],
+        hash: &[u8; 32],
+        out: &mut [u8],
     ) -> Result<Issued, Refusal> {
         let mut answer = [0; 2];
         // SAFETY: each pointer and length are those of one slice, `out` and the queue are borrowed for
@@ -162,10 +203,10 @@ impl RequestQueue {
     ///
     /// let mut queue = RequestQueue::open();
     /// let mut out = [0; 100];
-    /// let id = queue.issue(&mut out, b"default", b"a", 0, 5, &[0xA7; 32])?.id;
-    /// let length = write_response(&mut out, id, b"")?;
+    /// let id = queue.issue(b"default", b"a", 0, 5, &[0xA7; 32], &mut out)?.id;
+    /// let length = write_response(id, b"", &mut out)?;
     /// assert_eq!(queue.answer(&out[..length])?.outcome, Outcome::NotAvailable);
-    /// assert_eq!(queue.answer(&out[..length]).unwrap_err().number, 20);
+    /// assert_eq!(queue.answer(&out[..length]).unwrap_err().number(), 20);
     /// # Ok::<(), fordtrumpet::Refusal>(())
     /// ```
     pub fn answer<'a>(&mut self, message: &'a [u8]) -> Result<Answered<'a>, Refusal> {
@@ -199,10 +240,10 @@ impl RequestQueue {
     /// # use fordtrumpet::RequestQueue;
     /// # let mut queue = RequestQueue::open();
     /// # let mut out = [0; 100];
-    /// queue.issue(&mut out, b"default", b"a", 0, 5, &[0xA7; 32])?;
+    /// queue.issue(b"default", b"a", 0, 5, &[0xA7; 32], &mut out)?;
     /// queue.drop_link();
     /// assert_eq!(queue.outstanding_bytes(), 0);
-    /// assert_eq!(queue.issue(&mut out, b"default", b"a", 0, 5, &[0xA7; 32])?.id, 1);
+    /// assert_eq!(queue.issue(b"default", b"a", 0, 5, &[0xA7; 32], &mut out)?.id, 1);
     /// # Ok::<(), fordtrumpet::Refusal>(())
     /// ```
     pub fn drop_link(&mut self) {
@@ -217,7 +258,7 @@ impl RequestQueue {
     /// # use fordtrumpet::RequestQueue;
     /// # let mut queue = RequestQueue::open();
     /// # let mut out = [0; 100];
-    /// queue.issue(&mut out, b"default", b"a", 0, 5, &[0xA7; 32])?;
+    /// queue.issue(b"default", b"a", 0, 5, &[0xA7; 32], &mut out)?;
     /// assert_eq!((queue.outstanding(), queue.outstanding_bytes()), (1, 5));
     /// # Ok::<(), fordtrumpet::Refusal>(())
     /// ```
@@ -247,9 +288,43 @@ impl RequestQueue {
 fn accepted(number: u32, place: u64) -> Result<(), Refusal> {
     match number {
         0 => Ok(()),
-        _ => Err(Refusal {
-            number,
-            place: size(place),
-        }),
+        _ => Err(Refusal::new(number, size(place))),
+    }
+}
+
+/// With the default window.
+///
+/// ```
+/// use fordtrumpet::RequestQueue;
+///
+/// assert_eq!(RequestQueue::default(), RequestQueue::open());
+/// ```
+impl Default for RequestQueue {
+    fn default() -> Self {
+        Self::open()
+    }
+}
+
+/// Shows the requests, the oldest first, as ID and length.
+impl fmt::Debug for RequestQueue {
+    fn fmt(&self, f: &mut fmt::Formatter<'_>) -> fmt::Result {
+        let [window, next, _, entries @ ..] = &self.words;
+        let requests: &[[u32; 2]] = entries.as_chunks().0;
+        let requests = &requests[..self.outstanding()];
+        f.debug_struct("RequestQueue")
+            .field("window", window)
+            .field("next_id", next)
+            .field("outstanding", &Outstanding(requests))
+            .finish()
+    }
+}
+
+struct Outstanding<'a>(&'a [[u32; 2]]);
+
+impl fmt::Debug for Outstanding<'_> {
+    fn fmt(&self, f: &mut fmt::Formatter<'_>) -> fmt::Result {
+        f.debug_map()
+            .entries(self.0.iter().map(|[id, length]| (id, length)))
+            .finish()
     }
 }

@@ -2,8 +2,10 @@
 
 use crate::answer::{size, span, word};
 use crate::ffi;
-use std::fmt;
-use std::iter::FusedIterator;
+use crate::show::{Hex, Text};
+use core::fmt;
+use core::iter::FusedIterator;
+use core::ops::BitOr;
 
 /// The place of the first record of an array, after its count word.
 const FIRST: usize = 4;
@@ -17,9 +19,9 @@ const BLOCK_LEN: usize = 40;
 /// # use fordtrumpet::*;
 /// # let mut array = FilesBuilder::new();
 /// # array.push(b"a", Flags(0o644), 5, 0, []);
-/// # array.push(b"b", Flags(Flags::DELETED), 6, 0, []);
+/// # array.push(b"b", Flags::DELETED, 6, 0, []);
 /// # let mut out = [0; 100];
-/// # let used = write_index(&mut out, 0, b"", array.as_bytes()).unwrap();
+/// # let used = write_index(0, b"", array.as_bytes(), &mut out).unwrap();
 /// # let input = &out[..used];
 /// let Message::Index(index) = read(input)?.message else { panic!("not an Index") };
 /// assert_eq!(index.files.len(), 2);
@@ -28,7 +30,7 @@ const BLOCK_LEN: usize = 40;
 /// }
 /// # Ok::<(), Refusal>(())
 /// ```
-#[derive(Clone, Copy)]
+#[derive(Clone, Copy, PartialEq, Eq)]
 pub struct Files<'a> {
     bytes: &'a [u8],
     count: usize,
@@ -36,7 +38,7 @@ pub struct Files<'a> {
 
 impl<'a> Files<'a> {
     /// `bytes` is an array whose reading was accepted, and `count` its number of records.
-    pub(crate) fn new(bytes: &'a [u8], count: usize) -> Self {
+    pub(crate) const fn new(bytes: &'a [u8], count: usize) -> Self {
         Files { bytes, count }
     }
 
@@ -73,7 +75,7 @@ impl<'a> Files<'a> {
     /// # let input = [0, 1, 1, 0, 0, 0, 0, 0, 0, 0, 0, 0];
     /// # let Message::Index(index) = read(&input).unwrap().message else { panic!() };
     /// let mut out = [0; 12];
-    /// write_index_update(&mut out, 2, index.repository, index.files.as_bytes())?;
+    /// write_index_update(2, index.repository, index.files.as_bytes(), &mut out)?;
     /// # Ok::<(), Refusal>(())
     /// ```
     pub fn as_bytes(&self) -> &'a [u8] {
@@ -85,9 +87,9 @@ impl<'a> Files<'a> {
     /// ```
     /// # use fordtrumpet::*;
     /// # let mut array = FilesBuilder::new();
-    /// # array.push(b"a", Flags(Flags::DELETED), 5, 0, []);
+    /// # array.push(b"a", Flags::DELETED, 5, 0, []);
     /// # let mut out = [0; 100];
-    /// # write_index(&mut out, 0, b"", array.as_bytes()).unwrap();
+    /// # write_index(0, b"", array.as_bytes(), &mut out).unwrap();
     /// # let Message::Index(index) = read(&out).unwrap().message else { panic!() };
     /// let deleted = index.files.iter().filter(|file| file.flags.is_deleted());
     /// assert_eq!(deleted.count(), 1);
@@ -116,7 +118,22 @@ impl<'a> IntoIterator for Files<'a> {
     }
 }
 
+impl<'a> IntoIterator for &Files<'a> {
+    type Item = FileInfo<'a>;
+    type IntoIter = FilesIter<'a>;
+
+    fn into_iter(self) -> FilesIter<'a> {
+        self.iter()
+    }
+}
+
 /// Goes through [`Files`].
+///
+/// ```
+/// let mut files = fordtrumpet::Table::EMPTY.files().iter();
+/// assert_eq!(files.len(), 0);
+/// assert!(files.next().is_none());
+/// ```
 #[derive(Clone, Debug)]
 pub struct FilesIter<'a> {
     bytes: &'a [u8],
@@ -149,7 +166,17 @@ impl ExactSizeIterator for FilesIter<'_> {}
 impl FusedIterator for FilesIter<'_> {}
 
 /// One file of an Index or IndexUpdate.
-#[derive(Clone, Copy, Debug)]
+///
+/// ```
+/// use fordtrumpet::{FilesBuilder, Flags, Table};
+///
+/// let mut files = FilesBuilder::new();
+/// files.push(b"a", Flags(0o600), -1, 2, []);
+/// let file = Table::new(files.as_bytes())?.get(0).unwrap();
+/// assert_eq!((file.name, file.modified, file.version), (&b"a"[..], -1, 2));
+/// # Ok::<(), fordtrumpet::Refusal>(())
+/// ```
+#[derive(Clone, Copy, PartialEq, Eq)]
 pub struct FileInfo<'a> {
     /// The name, 1 to 255 bytes. The protocol's text rule is wider than UTF-8.
     pub name: &'a [u8],
@@ -187,7 +214,7 @@ impl<'a> FileInfo<'a> {
     /// ```
     /// # use fordtrumpet::*;
     /// # let mut array = FilesBuilder::new();
-    /// # array.push(b"a", Flags(Flags::DELETED), 5, 0, []);
+    /// # array.push(b"a", Flags::DELETED, 5, 0, []);
     /// # let table = Table::new(array.as_bytes()).unwrap();
     /// # let file = table.files().iter().next().unwrap();
     /// assert_eq!(file.as_bytes().len(), 28);
@@ -202,7 +229,7 @@ impl<'a> FileInfo<'a> {
 /// ```
 /// use fordtrumpet::Flags;
 ///
-/// let flags = Flags(Flags::INVALID | 0o644);
+/// let flags = Flags::INVALID | Flags(0o644);
 /// assert!(flags.is_invalid());
 /// assert!(!flags.is_deleted());
 /// assert_eq!(flags.mode(), 0o644);
@@ -212,11 +239,23 @@ pub struct Flags(pub u32);
 
 impl Flags {
     /// The flag D of a deleted file.
-    pub const DELETED: u32 = 4096;
+    ///
+    /// ```
+    /// assert!(fordtrumpet::Flags::DELETED.is_deleted());
+    /// ```
+    pub const DELETED: Flags = Flags(4096);
     /// The flag I of a file that is invalid and can't be had for now.
-    pub const INVALID: u32 = 8192;
+    ///
+    /// ```
+    /// assert!(fordtrumpet::Flags::INVALID.is_invalid());
+    /// ```
+    pub const INVALID: Flags = Flags(8192);
     /// The bits of the Unix mode.
-    pub const MODE: u32 = 4095;
+    ///
+    /// ```
+    /// assert_eq!(fordtrumpet::Flags::MODE.mode(), 0o7777);
+    /// ```
+    pub const MODE: Flags = Flags(4095);
 
     /// Whether the file is deleted.
     ///
@@ -224,7 +263,7 @@ impl Flags {
     /// assert!(fordtrumpet::Flags(4096).is_deleted());
     /// ```
     pub fn is_deleted(self) -> bool {
-        self.0 & Flags::DELETED != 0
+        self.0 & Flags::DELETED.0 != 0
     }
 
     /// Whether the file is invalid.
@@ -233,7 +272,7 @@ impl Flags {
     /// assert!(fordtrumpet::Flags(8192).is_invalid());
     /// ```
     pub fn is_invalid(self) -> bool {
-        self.0 & Flags::INVALID != 0
+        self.0 & Flags::INVALID.0 != 0
     }
 
     /// The Unix mode.
@@ -242,7 +281,22 @@ impl Flags {
     /// assert_eq!(fordtrumpet::Flags(4096 | 0o755).mode(), 0o755);
     /// ```
     pub fn mode(self) -> u32 {
-        self.0 & Flags::MODE
+        self.0 & Flags::MODE.0
+    }
+}
+
+/// The flags of both.
+///
+/// ```
+/// use fordtrumpet::Flags;
+///
+/// assert_eq!(Flags::DELETED | Flags(0o600), Flags(4096 + 0o600));
+/// ```
+impl BitOr for Flags {
+    type Output = Flags;
+
+    fn bitor(self, other: Flags) -> Flags {
+        Flags(self.0 | other.0)
     }
 }
 
@@ -254,13 +308,13 @@ impl Flags {
 /// # let mut array = FilesBuilder::new();
 /// # array.push(b"a", Flags(0o644), 5, 0, [Block { length: 9, hash: &hash }]);
 /// # let mut out = [0; 100];
-/// # write_index(&mut out, 0, b"", array.as_bytes()).unwrap();
+/// # write_index(0, b"", array.as_bytes(), &mut out).unwrap();
 /// # let Message::Index(index) = read(&out).unwrap().message else { panic!() };
 /// # let file = index.files.iter().next().unwrap();
 /// let size: u64 = file.blocks.iter().map(|block| u64::from(block.length)).sum();
 /// # assert_eq!(size, 9);
 /// ```
-#[derive(Clone, Copy)]
+#[derive(Clone, Copy, PartialEq, Eq)]
 pub struct Blocks<'a> {
     /// The blocks without a count word.
     bytes: &'a [u8],
@@ -272,9 +326,9 @@ impl<'a> Blocks<'a> {
     /// ```
     /// # use fordtrumpet::*;
     /// # let mut array = FilesBuilder::new();
-    /// # array.push(b"a", Flags(Flags::DELETED), 5, 0, []);
+    /// # array.push(b"a", Flags::DELETED, 5, 0, []);
     /// # let mut out = [0; 100];
-    /// # write_index(&mut out, 0, b"", array.as_bytes()).unwrap();
+    /// # write_index(0, b"", array.as_bytes(), &mut out).unwrap();
     /// # let Message::Index(index) = read(&out).unwrap().message else { panic!() };
     /// # let deleted = index.files.iter().next().unwrap();
     /// assert_eq!(deleted.blocks.len(), 0);
@@ -288,9 +342,9 @@ impl<'a> Blocks<'a> {
     /// ```
     /// # use fordtrumpet::*;
     /// # let mut array = FilesBuilder::new();
-    /// # array.push(b"a", Flags(Flags::DELETED), 5, 0, []);
+    /// # array.push(b"a", Flags::DELETED, 5, 0, []);
     /// # let mut out = [0; 100];
-    /// # write_index(&mut out, 0, b"", array.as_bytes()).unwrap();
+    /// # write_index(0, b"", array.as_bytes(), &mut out).unwrap();
     /// # let Message::Index(index) = read(&out).unwrap().message else { panic!() };
     /// # let deleted = index.files.iter().next().unwrap();
     /// assert!(deleted.blocks.is_empty());
@@ -307,7 +361,7 @@ impl<'a> Blocks<'a> {
     /// # let mut array = FilesBuilder::new();
     /// # array.push(b"a", Flags(0o644), 5, 0, [Block { length: 9, hash: &hash }]);
     /// # let mut out = [0; 100];
-    /// # write_index(&mut out, 0, b"", array.as_bytes()).unwrap();
+    /// # write_index(0, b"", array.as_bytes(), &mut out).unwrap();
     /// # let Message::Index(index) = read(&out).unwrap().message else { panic!() };
     /// # let file = index.files.iter().next().unwrap();
     /// assert!(file.blocks.iter().any(|block| block.hash == &[7; 32]));
@@ -334,10 +388,29 @@ impl<'a> IntoIterator for Blocks<'a> {
     }
 }
 
+impl<'a> IntoIterator for &Blocks<'a> {
+    type Item = Block<'a>;
+    type IntoIter = BlocksIter<'a>;
+
+    fn into_iter(self) -> BlocksIter<'a> {
+        self.iter()
+    }
+}
+
 /// Goes through [`Blocks`].
+///
+/// ```
+/// # use fordtrumpet::*;
+/// # let mut files = FilesBuilder::new();
+/// # files.push(b"a", Flags(0), 0, 0, [Block { length: 9, hash: &[7; 32] }]);
+/// # let table = Table::new(files.as_bytes()).unwrap();
+/// let mut blocks = table.get(0).unwrap().blocks.iter();
+/// assert_eq!(blocks.next().unwrap().length, 9);
+/// assert!(blocks.next().is_none());
+/// ```
 #[derive(Clone, Debug)]
 pub struct BlocksIter<'a> {
-    rest: std::slice::Iter<'a, [u8; BLOCK_LEN]>,
+    rest: core::slice::Iter<'a, [u8; BLOCK_LEN]>,
 }
 
 impl<'a> Iterator for BlocksIter<'a> {
@@ -362,7 +435,15 @@ impl ExactSizeIterator for BlocksIter<'_> {}
 impl FusedIterator for BlocksIter<'_> {}
 
 /// One block of a file.
-#[derive(Clone, Copy, Debug, PartialEq, Eq, Hash)]
+///
+/// ```
+/// use fordtrumpet::{Block, FilesBuilder, Flags};
+///
+/// let mut files = FilesBuilder::new();
+/// files.push(b"a", Flags(0o600), 0, 0, [Block { length: 9, hash: &[7; 32] }]);
+/// assert_eq!(files.as_bytes().len(), 4 + 28 + 40);
+/// ```
+#[derive(Clone, Copy, PartialEq, Eq, Hash)]
 pub struct Block<'a> {
     /// The length, 1 to 131,072.
     pub length: u32,
@@ -377,7 +458,7 @@ pub struct Block<'a> {
 /// # let mut array = OptionsBuilder::new();
 /// # array.push(b"clientId", b"syncthing");
 /// # let mut out = [0; 100];
-/// # write_options(&mut out, 0, array.as_bytes()).unwrap();
+/// # write_options(0, array.as_bytes(), &mut out).unwrap();
 /// # let Message::Options(message) = read(&out).unwrap().message else { panic!() };
 /// for option in message.options {
 ///     if option.key == b"clientId" {
@@ -385,7 +466,7 @@ pub struct Block<'a> {
 ///     }
 /// }
 /// ```
-#[derive(Clone, Copy)]
+#[derive(Clone, Copy, PartialEq, Eq)]
 pub struct KeyValues<'a> {
     bytes: &'a [u8],
     count: usize,
@@ -430,7 +511,7 @@ impl<'a> KeyValues<'a> {
     /// # let input = [0, 1, 7, 0, 0, 0, 0, 0];
     /// # let Message::Options(message) = read(&input).unwrap().message else { panic!() };
     /// let mut out = [0; 8];
-    /// write_options(&mut out, 2, message.options.as_bytes())?;
+    /// write_options(2, message.options.as_bytes(), &mut out)?;
     /// # Ok::<(), Refusal>(())
     /// ```
     pub fn as_bytes(&self) -> &'a [u8] {
@@ -444,7 +525,7 @@ impl<'a> KeyValues<'a> {
     /// # let mut array = OptionsBuilder::new();
     /// # array.push(b"clientId", b"syncthing");
     /// # let mut out = [0; 100];
-    /// # write_options(&mut out, 0, array.as_bytes()).unwrap();
+    /// # write_options(0, array.as_bytes(), &mut out).unwrap();
     /// # let Message::Options(message) = read(&out).unwrap().message else { panic!() };
     /// let client = message.options.iter().find(|option| option.key == b"clientId");
     /// assert_eq!(client.unwrap().value, b"syncthing");
@@ -473,7 +554,22 @@ impl<'a> IntoIterator for KeyValues<'a> {
     }
 }
 
+impl<'a> IntoIterator for &KeyValues<'a> {
+    type Item = KeyValue<'a>;
+    type IntoIter = KeyValuesIter<'a>;
+
+    fn into_iter(self) -> KeyValuesIter<'a> {
+        self.iter()
+    }
+}
+
 /// Goes through [`KeyValues`].
+///
+/// ```
+/// # use fordtrumpet::*;
+/// # let Message::Options(message) = read(&[0, 0, 7, 0, 0, 0, 0, 0]).unwrap().message else { panic!() };
+/// assert_eq!(message.options.iter().len(), 0);
+/// ```
 #[derive(Clone, Debug)]
 pub struct KeyValuesIter<'a> {
     bytes: &'a [u8],
@@ -509,10 +605,50 @@ impl ExactSizeIterator for KeyValuesIter<'_> {}
 impl FusedIterator for KeyValuesIter<'_> {}
 
 /// One option: a key and its value.
-#[derive(Clone, Copy, Debug, PartialEq, Eq, Hash)]
+///
+/// ```
+/// use fordtrumpet::{read, write_options, KeyValue, Message, OptionsBuilder};
+///
+/// let mut options = OptionsBuilder::new();
+/// options.push(b"name", b"truck");
+/// let mut out = [0; 100];
+/// let length = write_options(0, options.as_bytes(), &mut out)?;
+/// let Message::Options(message) = read(&out[..length])?.message else { panic!() };
+/// let expected = KeyValue { key: b"name", value: b"truck" };
+/// assert!(message.options.iter().eq([expected]));
+/// # Ok::<(), fordtrumpet::Refusal>(())
+/// ```
+#[derive(Clone, Copy, PartialEq, Eq, Hash)]
 pub struct KeyValue<'a> {
     /// The key, up to 64 bytes.
     pub key: &'a [u8],
     /// The value, up to 255 bytes.
     pub value: &'a [u8],
+}
+
+impl fmt::Debug for FileInfo<'_> {
+    fn fmt(&self, f: &mut fmt::Formatter<'_>) -> fmt::Result {
+        f.debug_struct("FileInfo")
+            .field("name", &Text(self.name))
+            .field("flags", &format_args!("{:#o}", self.flags.0))
+            .field("modified", &self.modified)
+            .field("version", &self.version)
+            .field("blocks", &self.blocks)
+            .finish()
+    }
+}
+
+impl fmt::Debug for Block<'_> {
+    fn fmt(&self, f: &mut fmt::Formatter<'_>) -> fmt::Result {
+        f.debug_struct("Block")
+            .field("length", &self.length)
+            .field("hash", &Hex(self.hash))
+            .finish()
+    }
+}
+
+impl fmt::Debug for KeyValue<'_> {
+    fn fmt(&self, f: &mut fmt::Formatter<'_>) -> fmt::Result {
+        write!(f, "{:?}: {:?}", Text(self.key), Text(self.value))
+    }
 }

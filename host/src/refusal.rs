@@ -1,75 +1,211 @@
 //! Why a call was refused.
 
-use std::error::Error;
-use std::fmt;
+use core::error::Error;
+use core::fmt;
+#[cfg(feature = "std")]
+use std::io;
 
-/// Why a call was refused: a number from 1 to 22 and the place of the field at fault.
+/// Why a call was refused: a case for each number of the protocol's rules.
 ///
-/// The place counts bytes from the start of the message that was read or would have been written.
-/// It is the first byte of the field; of a string or opaque that is its length word. For the numbers
-/// from 14 on it is 0. A refused call leaves every lent buffer as it was.
+/// The cases up to 13 hold the place: the first byte of the field at fault, counted from the start of
+/// the message that was read or would have been written; of a string or opaque it is the length word.
+/// A refused call leaves every lent buffer as it was.
 ///
 /// ```
+/// use fordtrumpet::Refusal;
+///
 /// let refusal = fordtrumpet::read(&[0, 1, 1, 0, 0, 0, 0, 1, b'a', 0, 0, 1]).unwrap_err();
-/// assert_eq!(refusal.number, 6);
-/// assert_eq!(refusal.place, 4);
-/// assert_eq!(refusal.to_string(), "refused 6 at 4: a pad byte isn't zero");
+/// assert_eq!(refusal, Refusal::Pad(4));
+/// assert_eq!((refusal.number(), refusal.place()), (6, 4));
+/// assert_eq!(refusal.to_string(), "a pad byte isn't zero (6), at byte 4");
 /// ```
 #[derive(Clone, Copy, Debug, PartialEq, Eq, Hash)]
-pub struct Refusal {
-    /// The number of the check that was the first to fail.
-    pub number: u32,
-    /// Where the field at fault begins.
-    pub place: usize,
+#[non_exhaustive]
+pub enum Refusal {
+    /// 1: the field isn't wholly there.
+    Incomplete(usize),
+    /// 2: the version isn't 0.
+    Version(usize),
+    /// 3: the type isn't 1 to 7.
+    Type(usize),
+    /// 4: the reserved bits aren't 0.
+    Reserved(usize),
+    /// 5: a length or count is above its limit, or a Message ID above 4095.
+    AboveLimit(usize),
+    /// 6: a pad byte isn't zero.
+    Pad(usize),
+    /// 7: a string breaks the text rule.
+    Text(usize),
+    /// 8: the Name is empty.
+    EmptyName(usize),
+    /// 9: the hash isn't 32 bytes long.
+    HashLength(usize),
+    /// 10: the Length of a block or Request is 0 or above 131,072.
+    Length(usize),
+    /// 11: a reserved flag is set.
+    Flag(usize),
+    /// 12: a deleted file has blocks.
+    DeletedWithBlocks(usize),
+    /// 13: a name stands twice in the message.
+    RepeatedName(usize),
+    /// 14: the answer is longer than the lent buffer.
+    NoRoom,
+    /// 15: bytes given as a table aren't a good table.
+    BadTable,
+    /// 16: as many requests are outstanding as the window allows.
+    WindowFull,
+    /// 17: the bytes outstanding and the Length exceed the allowance.
+    AllowanceFull,
+    /// 18: the message is of another type than the call takes.
+    OtherType,
+    /// 19: the resulting table would be above 512 records or 65,536 bytes.
+    TableTooLarge,
+    /// 20: the Response isn't to the oldest outstanding request, or none is outstanding.
+    NotOldest,
+    /// 21: the message is for another Repository than the call names.
+    OtherRepository,
+    /// 22: the window isn't 1 to 16, or the outstanding requests given aren't sound.
+    Unsound,
 }
 
 impl Refusal {
-    /// What the number means, in words.
+    /// The refusal with a number that the library gave, which is none but these. It stays out of the way
+    /// of calls that are accepted.
+    #[cold]
+    pub(crate) fn new(number: u32, place: usize) -> Self {
+        match number {
+            1 => Refusal::Incomplete(place),
+            2 => Refusal::Version(place),
+            3 => Refusal::Type(place),
+            4 => Refusal::Reserved(place),
+            5 => Refusal::AboveLimit(place),
+            6 => Refusal::Pad(place),
+            7 => Refusal::Text(place),
+            8 => Refusal::EmptyName(place),
+            9 => Refusal::HashLength(place),
+            10 => Refusal::Length(place),
+            11 => Refusal::Flag(place),
+            12 => Refusal::DeletedWithBlocks(place),
+            13 => Refusal::RepeatedName(place),
+            14 => Refusal::NoRoom,
+            15 => Refusal::BadTable,
+            16 => Refusal::WindowFull,
+            17 => Refusal::AllowanceFull,
+            18 => Refusal::OtherType,
+            19 => Refusal::TableTooLarge,
+            20 => Refusal::NotOldest,
+            21 => Refusal::OtherRepository,
+            22 => Refusal::Unsound,
+            _ => unreachable!("the library has no number {number}"),
+        }
+    }
+
+    /// The number, the place, and what the number means.
+    fn parts(&self) -> (u32, usize, &'static str) {
+        match *self {
+            Refusal::Incomplete(place) => (1, place, "a field isn't wholly there"),
+            Refusal::Version(place) => (2, place, "the version isn't 0"),
+            Refusal::Type(place) => (3, place, "the type isn't 1 to 7"),
+            Refusal::Reserved(place) => (4, place, "the reserved bits aren't 0"),
+            Refusal::AboveLimit(place) => (
+                5,
+                place,
+                "a length, a count or a Message ID is above its limit",
+            ),
+            Refusal::Pad(place) => (6, place, "a pad byte isn't zero"),
+            Refusal::Text(place) => (7, place, "a string breaks the text rule"),
+            Refusal::EmptyName(place) => (8, place, "the Name is empty"),
+            Refusal::HashLength(place) => (9, place, "the hash isn't 32 bytes long"),
+            Refusal::Length(place) => (10, place, "the Length is 0 or above 131,072"),
+            Refusal::Flag(place) => (11, place, "a reserved flag is set"),
+            Refusal::DeletedWithBlocks(place) => (12, place, "a deleted file has blocks"),
+            Refusal::RepeatedName(place) => (13, place, "a name stands twice in the message"),
+            Refusal::NoRoom => (14, 0, "the answer is longer than the lent buffer"),
+            Refusal::BadTable => (15, 0, "the bytes aren't a good table"),
+            Refusal::WindowFull => (16, 0, "the window is full"),
+            Refusal::AllowanceFull => (17, 0, "the byte allowance is exceeded"),
+            Refusal::OtherType => (18, 0, "the message is of another type than the call takes"),
+            Refusal::TableTooLarge => (
+                19,
+                0,
+                "the resulting table is above 512 records or 65,536 bytes",
+            ),
+            Refusal::NotOldest => (
+                20,
+                0,
+                "the Response isn't to the oldest outstanding request",
+            ),
+            Refusal::OtherRepository => (21, 0, "the message is for another Repository"),
+            Refusal::Unsound => (22, 0, "the window isn't 1 to 16, or the queue isn't sound"),
+        }
+    }
+
+    /// The number, 1 to 22.
     ///
     /// ```
-    /// let refusal = fordtrumpet::Refusal { number: 9, place: 60 };
-    /// assert_eq!(refusal.meaning(), "hash length isn't 32");
+    /// assert_eq!(fordtrumpet::Refusal::HashLength(60).number(), 9);
     /// ```
-    pub fn meaning(&self) -> &'static str {
-        match self.number {
-            1 => "the field isn't wholly there",
-            2 => "version not 0",
-            3 => "type not 1 to 7",
-            4 => "reserved not 0",
-            5 => "a length or count is above its limit, or a Message ID above 4095",
-            6 => "a pad byte isn't zero",
-            7 => "text rule broken",
-            8 => "empty Name",
-            9 => "hash length isn't 32",
-            10 => "the Length of a block or Request is 0 or above 131,072",
-            11 => "a reserved flag is set",
-            12 => "a deleted file with a block count above 0",
-            13 => "a name stands twice in the message",
-            14 => "the answer is longer than the lent buffer",
-            15 => "bytes given as a table aren't a good table",
-            16 => "outstanding count equals the window",
-            17 => "outstanding bytes plus Length exceed the allowance",
-            18 => "the message is of another type than the call accepts",
-            19 => "the resulting table is above 512 records or 65,536 bytes",
-            20 => {
-                "the Response's ID isn't that of the oldest outstanding request, \
-                 or none is outstanding"
-            }
-            21 => "another Repository than the call names",
-            22 => "window not 1 to 16, or the outstanding requests given aren't sound",
-            _ => "unknown number",
-        }
+    pub fn number(&self) -> u32 {
+        self.parts().0
+    }
+
+    /// Where the field at fault begins; 0 for the numbers from 14 on.
+    ///
+    /// ```
+    /// use fordtrumpet::Refusal;
+    ///
+    /// assert_eq!(Refusal::HashLength(60).place(), 60);
+    /// assert_eq!(Refusal::NoRoom.place(), 0);
+    /// ```
+    pub fn place(&self) -> usize {
+        self.parts().1
+    }
+
+    /// Whether the bytes end before the message does: with more of them, reading may go on.
+    ///
+    /// ```
+    /// assert!(fordtrumpet::read(&[0, 0, 4]).unwrap_err().is_incomplete());
+    /// assert!(!fordtrumpet::read(&[0, 0, 8, 0]).unwrap_err().is_incomplete());
+    /// ```
+    pub fn is_incomplete(&self) -> bool {
+        matches!(self, Refusal::Incomplete(_))
     }
 }
 
 impl fmt::Display for Refusal {
     fn fmt(&self, f: &mut fmt::Formatter<'_>) -> fmt::Result {
-        let meaning = self.meaning();
-        write!(f, "refused {} at {}: {meaning}", self.number, self.place)
+        match self.parts() {
+            (number @ ..14, place, meaning) => write!(f, "{meaning} ({number}), at byte {place}"),
+            (number, _, meaning) => write!(f, "{meaning} ({number})"),
+        }
     }
 }
 
 impl Error for Refusal {}
+
+/// Bytes that end too early are an unexpected end; other faults of what was read, invalid data; and
+/// what a caller handed over, invalid input.
+///
+/// ```
+/// use std::io;
+///
+/// fn first(input: &[u8]) -> io::Result<u32> {
+///     Ok(fordtrumpet::read(input)?.message.id())
+/// }
+/// assert_eq!(first(&[0, 0, 4]).unwrap_err().kind(), io::ErrorKind::UnexpectedEof);
+/// assert_eq!(first(&[0, 0, 8, 0]).unwrap_err().kind(), io::ErrorKind::InvalidData);
+/// ```
+#[cfg(feature = "std")]
+impl From<Refusal> for io::Error {
+    fn from(refusal: Refusal) -> Self {
+        let kind = match refusal.number() {
+            1 => io::ErrorKind::UnexpectedEof,
+            2..14 | 18 | 20 | 21 => io::ErrorKind::InvalidData,
+            _ => io::ErrorKind::InvalidInput,
+        };
+        io::Error::new(kind, refusal)
+    }
+}
 
 #[cfg(test)]
 mod tests {
@@ -77,10 +213,16 @@ mod tests {
     use std::collections::HashSet;
 
     #[test]
-    fn each_number_has_words_of_its_own() {
-        let meanings: HashSet<_> = (0..=22)
-            .map(|number| Refusal { number, place: 0 }.meaning())
-            .collect();
-        assert_eq!(meanings.len(), 23);
+    fn each_number_is_a_case_with_a_sentence_of_its_own() {
+        let all: Vec<_> = (1..=22).map(|number| Refusal::new(number, 12)).collect();
+        for (refusal, number) in all.iter().zip(1..) {
+            assert_eq!(refusal.number(), number);
+            assert_eq!(refusal.place(), if number < 14 { 12 } else { 0 });
+            assert!(refusal.to_string().contains(&format!("({number})")));
+        }
+        let sentences: HashSet<_> = all.iter().map(Refusal::to_string).collect();
+        assert_eq!(sentences.len(), 22);
+        assert_eq!(all[7].to_string(), "the Name is empty (8), at byte 12");
+        assert_eq!(all[14].to_string(), "the bytes aren't a good table (15)");
     }
 }

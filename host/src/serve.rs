@@ -1,13 +1,30 @@
 //! The ruling on an incoming Request.
 
-use crate::answer::{size, span, word};
-use crate::{ffi, Refusal};
+use crate::show::Text;
+use crate::{raw, Refusal, Table};
+use core::fmt;
 
 /// What is to be done about an incoming Request.
-#[derive(Clone, Copy, Debug, PartialEq, Eq)]
+///
+/// ```
+/// use fordtrumpet::Serving;
+///
+/// fn reply(serving: Serving<'_>) {
+///     match serving {
+///         Serving::Served { id, name, offset, length } => {
+///             println!("send {length} bytes of {} at {offset} as {id}", name.escape_ascii());
+///         }
+///         Serving::Replied(length) => println!("send the {length} bytes that were written"),
+///     }
+/// }
+/// ```
+#[derive(Clone, Copy, PartialEq, Eq)]
+#[must_use]
 pub enum Serving<'a> {
     /// The block is ours: send its bytes in a Response. Nothing was written.
     Served {
+        /// The ID of the Request, which the Response has too.
+        id: u32,
         /// The name of the file, as the Request has it.
         name: &'a [u8],
         /// Where the block begins in the file.
@@ -27,59 +44,53 @@ pub enum Serving<'a> {
 ///
 /// # Errors
 ///
-/// 15 if `table` isn't a good table; then what reading the message gives; 18 if it is no Request; 14
-/// if the reply is longer than `out`. Nothing is written then.
+/// What reading the message gives; 18 if it is no Request; 14 if the reply is longer than `out`.
+/// Nothing is written then.
 ///
 /// ```
-/// use fordtrumpet::{serve, write_request, Block, FilesBuilder, Flags, Serving};
+/// use fordtrumpet::{serve, write_request, Block, FilesBuilder, Flags, Serving, Table};
 ///
 /// let hash = [7; 32];
-/// let mut table = FilesBuilder::new();
-/// table.push(b"a", Flags(0), 0, 0, [Block { length: 9, hash: &hash }]);
+/// let mut files = FilesBuilder::new();
+/// files.push(b"a", Flags(0), 0, 0, [Block { length: 9, hash: &hash }]);
+/// let table = Table::new(files.as_bytes())?;
 ///
 /// let mut request = [0; 380];
-/// let length = write_request(&mut request, 5, b"default", b"a", 0, 9, &hash)?;
+/// let length = write_request(5, b"default", b"a", 0, 9, &hash, &mut request)?;
 /// let mut out = [0; 8];
-/// let serving = serve(table.as_bytes(), b"default", &request[..length], &mut out)?;
-/// assert_eq!(serving, Serving::Served { name: b"a", offset: 0, length: 9 });
+/// let serving = serve(table, b"default", &request[..length], &mut out)?;
+/// assert_eq!(serving, Serving::Served { id: 5, name: b"a", offset: 0, length: 9 });
 ///
-/// let serving = serve(table.as_bytes(), b"another", &request[..length], &mut out)?;
+/// let serving = serve(table, b"another", &request[..length], &mut out)?;
 /// assert_eq!(serving, Serving::Replied(8));
 /// assert_eq!(out, [0, 5, 3, 0, 0, 0, 0, 0]);
 /// # Ok::<(), fordtrumpet::Refusal>(())
 /// ```
 pub fn serve<'a>(
-    table: &[u8],
+    table: Table<'_>,
     repository: &[u8],
     message: &'a [u8],
     out: &mut [u8],
 ) -> Result<Serving<'a>, Refusal> {
-    let mut answer = [0; 5];
-    // SAFETY: each pointer and length are those of one slice, `out` is borrowed for this call alone,
-    // and the answer has the size asked for.
-    let number = unsafe {
-        ffi::bep_serve(
-            out.as_mut_ptr(),
-            out.len(),
-            table.as_ptr(),
-            table.len(),
-            repository.as_ptr(),
-            repository.len(),
-            message.as_ptr(),
-            message.len(),
-            &mut answer,
-        )
-    };
-    match (number, answer) {
-        (0, [0, len, ..]) => Ok(Serving::Replied(size(len))),
-        (0, [_, start, len, offset, length]) => Ok(Serving::Served {
-            name: span(message, start, len),
-            offset,
-            length: word(length),
-        }),
-        (number, [place, ..]) => Err(Refusal {
-            number,
-            place: size(place),
-        }),
+    raw::serve(table.as_bytes(), repository, message, out)
+}
+
+impl fmt::Debug for Serving<'_> {
+    fn fmt(&self, f: &mut fmt::Formatter<'_>) -> fmt::Result {
+        match self {
+            Serving::Served {
+                id,
+                name,
+                offset,
+                length,
+            } => f
+                .debug_struct("Served")
+                .field("id", id)
+                .field("name", &Text(name))
+                .field("offset", offset)
+                .field("length", length)
+                .finish(),
+            Serving::Replied(length) => f.debug_tuple("Replied").field(length).finish(),
+        }
     }
 }

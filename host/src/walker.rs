@@ -8,7 +8,8 @@ use crate::{ffi, FileInfo, Refusal};
 /// was checked before, [`Table::files`](crate::Table::files) is much faster.
 ///
 /// ```
-/// use fordtrumpet::{FilesBuilder, Flags, Walker};
+/// use fordtrumpet::raw::Walker;
+/// use fordtrumpet::{FilesBuilder, Flags};
 ///
 /// let mut files = FilesBuilder::new();
 /// files.push(b"a", Flags(0o644), 1_700_000_000, 0, []);
@@ -31,9 +32,9 @@ impl<'a> Walker<'a> {
     /// A walker at the first record.
     ///
     /// ```
-    /// use fordtrumpet::{Table, Walker};
+    /// use fordtrumpet::raw::Walker;
     ///
-    /// assert!(Walker::open(Table::EMPTY).step()?.is_none());
+    /// assert!(Walker::open(b"\0\0\0\0").step()?.is_none());
     /// # Ok::<(), fordtrumpet::Refusal>(())
     /// ```
     pub fn open(table: &'a [u8]) -> Self {
@@ -48,9 +49,9 @@ impl<'a> Walker<'a> {
     /// 15 if the bytes aren't a good table. The walker stays where it is.
     ///
     /// ```
-    /// use fordtrumpet::Walker;
+    /// use fordtrumpet::raw::Walker;
     ///
-    /// assert_eq!(Walker::open(b"").step().unwrap_err().number, 15);
+    /// assert_eq!(Walker::open(b"").step().unwrap_err().number(), 15);
     /// ```
     pub fn step(&mut self) -> Result<Option<FileInfo<'a>>, Refusal> {
         let table = self.table;
@@ -58,7 +59,7 @@ impl<'a> Walker<'a> {
         // SAFETY: pointer and length are those of one slice, and the answer has the size asked for.
         let number = unsafe { ffi::bep_step(table.as_ptr(), table.len(), self.at, &mut answer) };
         if number != 0 {
-            return Err(Refusal { number, place: 0 });
+            return Err(Refusal::new(number, 0));
         }
         if answer[0] == 0 {
             return Ok(None);
@@ -71,9 +72,9 @@ impl<'a> Walker<'a> {
     /// The place in the table.
     ///
     /// ```
-    /// use fordtrumpet::{Table, Walker};
+    /// use fordtrumpet::raw::Walker;
     ///
-    /// assert_eq!(Walker::open(Table::EMPTY).place(), 4);
+    /// assert_eq!(Walker::open(b"\0\0\0\0").place(), 4);
     /// ```
     pub fn place(&self) -> usize {
         self.at

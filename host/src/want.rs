@@ -1,17 +1,36 @@
 //! Which blocks to request, and where a table lists a block.
 
-use crate::answer::{size, word, written};
-use crate::{ffi, Refusal};
-use std::fmt;
-use std::iter::FusedIterator;
+use crate::{raw, Refusal, Table};
+use core::fmt;
+use core::iter::FusedIterator;
 
 /// Bytes of one entry of a request list.
 const ENTRY_LEN: usize = 24;
 
+/// Bytes that are enough for the request list of any four peers: an entry for each block that four full
+/// tables can hold.
+///
+/// ```
+/// use fordtrumpet::{request_list, Table, MAX_REQUEST_LIST};
+///
+/// let mut out = vec![0; MAX_REQUEST_LIST];
+/// assert!(request_list(Table::EMPTY, [Table::EMPTY; 4], &mut out)?.is_empty());
+/// # Ok::<(), fordtrumpet::Refusal>(())
+/// ```
+pub const MAX_REQUEST_LIST: usize = 4 * 1636 * ENTRY_LEN;
+
 /// A block to request.
+///
+/// ```
+/// use fordtrumpet::Wanted;
+///
+/// let wanted = Wanted { file: 1, block: 0, offset: 0, length: 5, peer: 2 };
+/// assert_eq!(wanted.peer, 2);
+/// ```
 #[derive(Clone, Copy, Debug, PartialEq, Eq, Hash)]
 pub struct Wanted {
-    /// The number of the file among all names of the five tables, from 0.
+    /// The number of the file among all names of the five tables, from 0: that of its record in the
+    /// merged table of the five.
     pub file: u32,
     /// The number of the block in its file, from 0.
     pub block: u32,
@@ -26,12 +45,27 @@ pub struct Wanted {
 /// The blocks to request, by name and then by block.
 ///
 /// [`request_list`] gives one.
-#[derive(Clone, Copy)]
+///
+/// ```
+/// use fordtrumpet::{request_list, Table};
+///
+/// let mut out = [0; 24];
+/// let list = request_list(Table::EMPTY, [Table::EMPTY; 4], &mut out)?;
+/// assert_eq!(list.len(), 0);
+/// # Ok::<(), fordtrumpet::Refusal>(())
+/// ```
+#[derive(Clone, Copy, PartialEq, Eq)]
+#[must_use]
 pub struct RequestList<'a> {
     bytes: &'a [u8],
 }
 
 impl<'a> RequestList<'a> {
+    /// `bytes` is a list that a call gave.
+    pub(crate) fn new(bytes: &'a [u8]) -> Self {
+        RequestList { bytes }
+    }
+
     /// The number of blocks.
     ///
     /// ```
@@ -105,10 +139,27 @@ impl<'a> IntoIterator for RequestList<'a> {
     }
 }
 
+impl<'a> IntoIterator for &RequestList<'a> {
+    type Item = Wanted;
+    type IntoIter = RequestListIter<'a>;
+
+    fn into_iter(self) -> RequestListIter<'a> {
+        self.iter()
+    }
+}
+
 /// Goes through a [`RequestList`].
+///
+/// ```
+/// use fordtrumpet::{request_list, Table};
+///
+/// let mut out = [0; 24];
+/// assert!(request_list(Table::EMPTY, [Table::EMPTY; 4], &mut out)?.iter().next().is_none());
+/// # Ok::<(), fordtrumpet::Refusal>(())
+/// ```
 #[derive(Clone, Debug)]
 pub struct RequestListIter<'a> {
-    rest: std::slice::Iter<'a, [u8; ENTRY_LEN]>,
+    rest: core::slice::Iter<'a, [u8; ENTRY_LEN]>,
 }
 
 impl Iterator for RequestListIter<'_> {
@@ -143,12 +194,12 @@ impl FusedIterator for RequestListIter<'_> {}
 ///
 /// Of each name over the five tables the newest record counts. A block of it is wanted where the
 /// record is valid and undeleted and no valid, undeleted record of `local` has its length and hash.
-/// For an absent peer give [`Table::EMPTY`](crate::Table::EMPTY). Only the bytes of the list change
-/// in `out`, 24 a block.
+/// For an absent peer give [`Table::EMPTY`]. Only the bytes of the list change in `out`, 24 a block;
+/// [`MAX_REQUEST_LIST`] bytes are enough for any.
 ///
 /// # Errors
 ///
-/// 15 if one of the five isn't a good table; 14 if `out` is too short. Nothing is written then.
+/// 14 if `out` is too short. Nothing is written then.
 ///
 /// ```
 /// use fordtrumpet::{request_list, Block, FilesBuilder, Flags, Table, Wanted};
@@ -159,78 +210,37 @@ impl FusedIterator for RequestListIter<'_> {}
 /// let blocks = [Block { length: 131_072, hash: &first }, Block { length: 5, hash: &second }];
 /// peer.push(b"b", Flags(0), 0, 0, blocks);
 ///
-/// let peers = [Table::EMPTY, peer.as_bytes(), Table::EMPTY, Table::EMPTY];
+/// let (local, peer) = (Table::new(local.as_bytes())?, Table::new(peer.as_bytes())?);
 /// let mut out = [0; 1000];
-/// let list = request_list(local.as_bytes(), peers, &mut out)?;
+/// let list = request_list(local, [Table::EMPTY, peer, Table::EMPTY, Table::EMPTY], &mut out)?;
 /// let wanted = Wanted { file: 1, block: 1, offset: 131_072, length: 5, peer: 2 };
 /// assert!(list.iter().eq([wanted]));
 /// # Ok::<(), fordtrumpet::Refusal>(())
 /// ```
-pub fn request_list<'a>(
-    local: &[u8],
-    peers: [&[u8]; 4],
-    out: &'a mut [u8],
-) -> Result<RequestList<'a>, Refusal> {
-    let [peer1, peer2, peer3, peer4] = peers;
-    let mut answer = [0];
-    // SAFETY: each pointer and length are those of one slice, `out` is borrowed for this call alone,
-    // and the answer has the size asked for.
-    let number = unsafe {
-        ffi::bep_request_list(
-            out.as_mut_ptr(),
-            out.len(),
-            local.as_ptr(),
-            local.len(),
-            peer1.as_ptr(),
-            peer1.len(),
-            peer2.as_ptr(),
-            peer2.len(),
-            peer3.as_ptr(),
-            peer3.len(),
-            peer4.as_ptr(),
-            peer4.len(),
-            &mut answer,
-        )
-    };
-    let len = written(number, answer)?;
-    Ok(RequestList { bytes: &out[..len] })
+pub fn request_list<'o>(
+    local: Table<'_>,
+    peers: [Table<'_>; 4],
+    out: &'o mut [u8],
+) -> Result<RequestList<'o>, Refusal> {
+    raw::request_list(local.as_bytes(), peers.map(|peer| peer.as_bytes()), out)
 }
 
 /// The first record of a table, and its first block, with this length and hash, both from 0.
 ///
 /// Invalid and deleted records don't count.
 ///
-/// # Errors
-///
-/// 15 if it isn't a good table.
-///
 /// ```
-/// use fordtrumpet::{find_local, Block, FilesBuilder, Flags};
+/// use fordtrumpet::{find_local, Block, FilesBuilder, Flags, Table};
 ///
 /// let hash = [7; 32];
 /// let mut table = FilesBuilder::new();
 /// table.push(b"a", Flags(0), 0, 0, []);
 /// table.push(b"b", Flags(0), 0, 0, [Block { length: 9, hash: &hash }]);
-/// assert_eq!(find_local(table.as_bytes(), 9, &hash)?, Some((1, 0)));
-/// assert_eq!(find_local(table.as_bytes(), 8, &hash)?, None);
+/// let table = Table::new(table.as_bytes())?;
+/// assert_eq!(find_local(table, 9, &hash), Some((1, 0)));
+/// assert_eq!(find_local(table, 8, &hash), None);
 /// # Ok::<(), fordtrumpet::Refusal>(())
 /// ```
-pub fn find_local(table: &[u8], length: u32, hash: &[u8]) -> Result<Option<(u32, u32)>, Refusal> {
-    let mut answer = [0; 3];
-    // SAFETY: each pointer and length are those of one slice, and the answer has the size asked for.
-    let number = unsafe {
-        ffi::bep_find(
-            table.as_ptr(),
-            table.len(),
-            length,
-            hash.as_ptr(),
-            hash.len(),
-            &mut answer,
-        )
-    };
-    match (number, size(answer[0])) {
-        (0, 0) => Ok(None),
-        (0, _) => Ok(Some((word(answer[1]), word(answer[2])))),
-        _ => Err(Refusal { number, place: 0 }),
-    }
+pub fn find_local(table: Table<'_>, length: u32, hash: &[u8; 32]) -> Option<(u32, u32)> {
+    raw::find_local(table.as_bytes(), length, hash).expect("the table is good")
 }

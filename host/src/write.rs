@@ -22,15 +22,15 @@ use crate::{ffi, Refusal};
 /// let mut files = FilesBuilder::new();
 /// files.push(b"notes.txt", Flags(0o644), 1_700_000_000, 0, []);
 /// let mut out = [0; 100];
-/// let length = write_index(&mut out, 0, b"default", files.as_bytes())?;
+/// let length = write_index(0, b"default", files.as_bytes(), &mut out)?;
 /// assert_eq!(length, 56);
 /// # Ok::<(), fordtrumpet::Refusal>(())
 /// ```
 pub fn write_index(
-    out: &mut [u8],
     id: u32,
     repository: &[u8],
     files: &[u8],
+    out: &mut [u8],
 ) -> Result<usize, Refusal> {
     let mut answer = [0];
     // SAFETY: each pointer and length are those of one slice, `out` is borrowed for this call alone,
@@ -62,17 +62,17 @@ pub fn write_index(
 /// use fordtrumpet::{write_index_update, FilesBuilder, Flags};
 ///
 /// let mut files = FilesBuilder::new();
-/// files.push(b"notes.txt", Flags(Flags::DELETED), 1_700_000_000, 1, []);
+/// files.push(b"notes.txt", Flags::DELETED, 1_700_000_000, 1, []);
 /// let mut out = [0; 100];
-/// let length = write_index_update(&mut out, 1, b"default", files.as_bytes())?;
+/// let length = write_index_update(1, b"default", files.as_bytes(), &mut out)?;
 /// assert_eq!(length, 56);
 /// # Ok::<(), fordtrumpet::Refusal>(())
 /// ```
 pub fn write_index_update(
-    out: &mut [u8],
     id: u32,
     repository: &[u8],
     files: &[u8],
+    out: &mut [u8],
 ) -> Result<usize, Refusal> {
     let mut answer = [0];
     // SAFETY: as in `write_index`.
@@ -104,21 +104,21 @@ pub fn write_index_update(
 /// use fordtrumpet::write_request;
 ///
 /// let mut out = [0; 380];
-/// let length = write_request(&mut out, 7, b"default", b"notes.txt", 0, 5, &[0xAB; 32])?;
+/// let length = write_request(7, b"default", b"notes.txt", 0, 5, &[0xAB; 32], &mut out)?;
 /// assert_eq!(length, 80);
 ///
-/// let refusal = write_request(&mut out, 7, b"default", b"", 0, 5, &[0xAB; 32]).unwrap_err();
-/// assert_eq!((refusal.number, refusal.place), (8, 16));
+/// let refusal = write_request(7, b"default", b"", 0, 5, &[0xAB; 32], &mut out).unwrap_err();
+/// assert_eq!((refusal.number(), refusal.place()), (8, 16));
 /// # Ok::<(), fordtrumpet::Refusal>(())
 /// ```
 pub fn write_request(
-    out: &mut [u8],
     id: u32,
     repository: &[u8],
     name: &[u8],
     offset: u64,
     length: u32,
-    hash: &[u8],
+    hash: &[u8; 32],
+    out: &mut [u8],
 ) -> Result<usize, Refusal> {
     let mut answer = [0];
     // SAFETY: as in `write_index`.
@@ -155,13 +155,13 @@ pub fn write_request(
 /// use fordtrumpet::write_response;
 ///
 /// let mut out = [0xFF; 17];
-/// let length = write_response(&mut out, 7, b"hello")?;
+/// let length = write_response(7, b"hello", &mut out)?;
 /// assert_eq!(length, 16);
 /// // The pad is zero, and what lies after the message is as it was.
 /// assert_eq!(out[8..], *b"hello\0\0\0\xFF");
 /// # Ok::<(), fordtrumpet::Refusal>(())
 /// ```
-pub fn write_response(out: &mut [u8], id: u32, data: &[u8]) -> Result<usize, Refusal> {
+pub fn write_response(id: u32, data: &[u8], out: &mut [u8]) -> Result<usize, Refusal> {
     let mut answer = [0];
     // SAFETY: as in `write_index`.
     let number = unsafe {
@@ -185,11 +185,11 @@ pub fn write_response(out: &mut [u8], id: u32, data: &[u8]) -> Result<usize, Ref
 ///
 /// ```
 /// let mut out = [0; 4];
-/// fordtrumpet::write_ping(&mut out, 5)?;
+/// fordtrumpet::write_ping(5, &mut out)?;
 /// assert_eq!(out, [0, 5, 4, 0]);
 /// # Ok::<(), fordtrumpet::Refusal>(())
 /// ```
-pub fn write_ping(out: &mut [u8], id: u32) -> Result<usize, Refusal> {
+pub fn write_ping(id: u32, out: &mut [u8]) -> Result<usize, Refusal> {
     let mut answer = [0];
     // SAFETY: as in `write_index`.
     let number = unsafe { ffi::bep_write_ping(out.as_mut_ptr(), out.len(), id, &mut answer) };
@@ -204,11 +204,11 @@ pub fn write_ping(out: &mut [u8], id: u32) -> Result<usize, Refusal> {
 ///
 /// ```
 /// let mut out = [0; 4];
-/// fordtrumpet::write_pong(&mut out, 4095)?;
+/// fordtrumpet::write_pong(4095, &mut out)?;
 /// assert_eq!(out, [0x0F, 0xFF, 5, 0]);
 /// # Ok::<(), fordtrumpet::Refusal>(())
 /// ```
-pub fn write_pong(out: &mut [u8], id: u32) -> Result<usize, Refusal> {
+pub fn write_pong(id: u32, out: &mut [u8]) -> Result<usize, Refusal> {
     let mut answer = [0];
     // SAFETY: as in `write_index`.
     let number = unsafe { ffi::bep_write_pong(out.as_mut_ptr(), out.len(), id, &mut answer) };
@@ -231,11 +231,11 @@ pub fn write_pong(out: &mut [u8], id: u32) -> Result<usize, Refusal> {
 /// let mut options = OptionsBuilder::new();
 /// options.push(b"clientId", b"fordtrumpet");
 /// let mut out = [0; 100];
-/// let length = write_options(&mut out, 0, options.as_bytes())?;
+/// let length = write_options(0, options.as_bytes(), &mut out)?;
 /// assert_eq!(length, 36);
 /// # Ok::<(), fordtrumpet::Refusal>(())
 /// ```
-pub fn write_options(out: &mut [u8], id: u32, options: &[u8]) -> Result<usize, Refusal> {
+pub fn write_options(id: u32, options: &[u8], out: &mut [u8]) -> Result<usize, Refusal> {
     let mut answer = [0];
     // SAFETY: as in `write_index`.
     let number = unsafe {

@@ -3,10 +3,11 @@
 mod reference;
 mod support;
 
+use fordtrumpet::*;
 use std::path::{Path, PathBuf};
 use std::process::Command;
 use std::{env, fs};
-use support::encode::{Block, Encoding, File};
+use support::encode::{self, Encoding, File};
 
 const MANIFEST: &str = env!("CARGO_MANIFEST_DIR");
 
@@ -14,29 +15,49 @@ fn scratch(name: &str) -> PathBuf {
     Path::new(env!("CARGO_TARGET_TMPDIR")).join(name)
 }
 
+fn tool(variable: &str, default: &str) -> Command {
+    Command::new(env::var_os(variable).unwrap_or_else(|| default.into()))
+}
+
+/// What a command prints. It has to succeed.
+fn run(command: &mut Command) -> String {
+    let output = command.output().expect("it runs");
+    let printed = String::from_utf8(output.stdout).unwrap();
+    let errors = String::from_utf8_lossy(&output.stderr);
+    assert!(output.status.success(), "{command:?}: {printed}{errors}");
+    printed
+}
+
+/// The compiler, told to take a C file of this package and to let no warning pass.
+fn compiler(source: &str) -> Command {
+    let mut cc = tool("CC", "cc");
+    cc.args(["-std=c99", "-Wall", "-Wextra", "-Werror", "-pedantic"])
+        .args(["-Iinclude", source])
+        .current_dir(MANIFEST);
+    cc
+}
+
 /// Compiles a C file of this package and gives the program.
 fn compile(source: &str) -> PathBuf {
     let program = scratch(source).with_extension("");
     fs::create_dir_all(program.parent().unwrap()).unwrap();
-    let cc = env::var_os("CC").unwrap_or_else(|| "cc".into());
-    let output = Command::new(cc)
-        .args(["-std=c99", "-Wall", "-Wextra", "-Werror", "-pedantic"])
-        .args(["-Iinclude", source, env!("FORDTRUMPET_LIB"), "-o"])
-        .arg(&program)
-        .current_dir(MANIFEST)
-        .output()
-        .expect("a C compiler runs");
-    let errors = String::from_utf8_lossy(&output.stderr);
-    assert!(output.status.success(), "{errors}");
+    run(compiler(source)
+        .args([env!("FORDTRUMPET_LIB"), "-o"])
+        .arg(&program));
     program
+}
+
+/// Compiles and runs a program whose text is this, and gives what it prints.
+fn run_text(name: &str, text: &str) -> String {
+    let source = scratch(name).with_extension("c");
+    fs::write(&source, text).unwrap();
+    run(&mut Command::new(compile(source.to_str().unwrap())))
 }
 
 fn show(program: &Path, message: &[u8]) -> String {
     let input = scratch("message.bin");
     fs::write(&input, message).unwrap();
-    let output = Command::new(program).arg(&input).output().unwrap();
-    assert!(output.status.success());
-    String::from_utf8(output.stdout).unwrap()
+    run(Command::new(program).arg(&input))
 }
 
 #[test]
@@ -53,11 +74,7 @@ int main(void)
     return 0;
 }
 ";
-    let source = scratch("readme.c");
-    fs::write(&source, format!("{example}{caller}")).unwrap();
-    let program = compile(source.to_str().unwrap());
-    let output = Command::new(program).output().unwrap();
-    let printed = String::from_utf8(output.stdout).unwrap();
+    let printed = run_text("readme", &format!("{example}{caller}"));
     assert_eq!(printed, "5 bytes of data\n20 taken\n");
 }
 
@@ -72,7 +89,7 @@ fn the_c_example_shows_messages() {
             flags: 0o644,
             modified: -3,
             version: 2,
-            blocks: vec![Block {
+            blocks: vec![encode::Block {
                 length: 5,
                 hash: [0xAB; 32],
             }],
@@ -121,13 +138,293 @@ fn the_c_example_shows_messages() {
         show(&program, &[0, 0, 4, 0]),
         "type Ping\nid 0\nused 4 of 4 bytes\n"
     );
-    assert_eq!(show(&program, &[0, 0, 4, 1]), "refused 4 at 0\n");
-    assert_eq!(show(&program, &[]), "refused 1 at 0\n");
+    assert_eq!(
+        show(&program, &[0, 0, 4, 1]),
+        "refused 4 at 0: the reserved bits aren't 0\n"
+    );
+    assert_eq!(
+        show(&program, &[]),
+        "refused 1 at 0: a field isn't wholly there\n"
+    );
 }
 
 #[test]
 fn the_header_declares_what_the_library_exports() {
-    let output = Command::new(compile("tests/c/calls.c")).output().unwrap();
-    let complaint = String::from_utf8_lossy(&output.stdout);
-    assert!(output.status.success(), "{complaint}");
+    run(&mut Command::new(compile("tests/c/calls.c")));
+}
+
+#[test]
+fn null_stands_for_no_bytes() {
+    let program = compile("tests/c/null.c");
+    run(&mut Command::new(&program));
+    let valgrind = Command::new("valgrind").arg("--version").output();
+    if valgrind.is_ok_and(|output| output.status.success()) {
+        run(Command::new("valgrind")
+            .args(["--quiet", "--error-exitcode=9"])
+            .arg(&program));
+    }
+}
+
+#[test]
+fn a_result_that_nobody_looks_at_is_warned_of() {
+    let source = scratch("ignored.c");
+    let compiles = |result: &str| {
+        let text = format!(
+            "#include \"fordtrumpet.h\"\n\
+             int main(void)\n{{\n    \
+             uint32_t number = 0, queue[BEP_QUEUE_WORDS] = {{0}};\n    \
+             {result}bep_queue_drop(queue);\n    \
+             return (int)number;\n}}\n"
+        );
+        fs::write(&source, text).unwrap();
+        let mut cc = compiler(source.to_str().unwrap());
+        cc.arg("-c").arg("-o").arg(scratch("ignored.o"));
+        cc.output().unwrap().status.success()
+    };
+    assert!(compiles("number = "));
+    assert!(!compiles(""));
+}
+
+/// `AboveLimit(0)` is `ABOVE_LIMIT` in C.
+fn name_in_c(refusal: Refusal) -> String {
+    let name = format!("{refusal:?}");
+    let name = name.split('(').next().unwrap();
+    let words = name.char_indices().map(|(at, c)| match c {
+        'A'..='Z' if at > 0 => format!("_{c}"),
+        _ => c.to_uppercase().to_string(),
+    });
+    words.collect()
+}
+
+#[test]
+fn the_header_has_the_refusals_and_their_sentences() {
+    let refusals = [
+        Refusal::Incomplete(0),
+        Refusal::Version(0),
+        Refusal::Type(0),
+        Refusal::Reserved(0),
+        Refusal::AboveLimit(0),
+        Refusal::Pad(0),
+        Refusal::Text(0),
+        Refusal::EmptyName(0),
+        Refusal::HashLength(0),
+        Refusal::Length(0),
+        Refusal::Flag(0),
+        Refusal::DeletedWithBlocks(0),
+        Refusal::RepeatedName(0),
+        Refusal::NoRoom,
+        Refusal::BadTable,
+        Refusal::WindowFull,
+        Refusal::AllowanceFull,
+        Refusal::OtherType,
+        Refusal::TableTooLarge,
+        Refusal::NotOldest,
+        Refusal::OtherRepository,
+        Refusal::Unsound,
+    ];
+    let mut names = vec!["BEP_ACCEPTED".to_string()];
+    let mut expected = "0 accepted\n".to_string();
+    for refusal in refusals {
+        let (number, sentence) = (refusal.number(), refusal.to_string());
+        let (sentence, _) = sentence.split_once(&format!(" ({number})")).unwrap();
+        names.push(format!("BEP_REFUSED_{}", name_in_c(refusal)));
+        expected += &format!("{number} {sentence}\n");
+    }
+    names.extend(["23".to_string(), "4294967295".to_string()]);
+    expected += "23 unknown number\n4294967295 unknown number\n";
+    let text = format!(
+        "#include <stdio.h>\n#include \"fordtrumpet.h\"\n\
+         static const uint32_t numbers[] = {{{}}};\n\
+         int main(void)\n{{\n    \
+         for (size_t i = 0; i < sizeof numbers / sizeof numbers[0]; i++)\n        \
+         printf(\"%lu %s\\n\", (unsigned long)numbers[i], bep_refusal_text(numbers[i]));\n    \
+         return 0;\n}}\n",
+        names.join(", ")
+    );
+    assert_eq!(run_text("refusals", &text), expected);
+}
+
+#[test]
+fn the_header_has_the_sizes_and_the_version() {
+    let hash = [7; 32];
+    let block = Block {
+        length: 5,
+        hash: &hash,
+    };
+    let (mut with, mut without) = (FilesBuilder::new(), FilesBuilder::new());
+    with.push(b"a", Flags(0), 0, 0, [block]);
+    without.push(b"a", Flags(0), 0, 0, []);
+    let peer = TableBuf::from_files(&with).unwrap();
+    let mut out = [0; MAX_REQUEST_LIST];
+    let empty = Table::EMPTY;
+    let list = request_list(empty, [peer.as_table(), empty, empty, empty], &mut out).unwrap();
+    let version: Vec<usize> = env!("CARGO_PKG_VERSION")
+        .split('.')
+        .map(|part| part.parse().unwrap())
+        .collect();
+
+    let values = [
+        ("MAX_REPOSITORY", MAX_REPOSITORY),
+        ("MAX_NAME", MAX_NAME),
+        ("MAX_BLOCK", MAX_BLOCK),
+        ("MAX_BLOCKS", MAX_BLOCKS),
+        ("MAX_FILES", MAX_FILES),
+        ("MAX_RECORDS", MAX_RECORDS),
+        ("MAX_WINDOW", RequestQueue::WINDOW as usize),
+        ("MAX_TABLE", MAX_TABLE),
+        ("MAX_INDEX", MAX_INDEX),
+        ("MAX_TABLE_INDEX", MAX_TABLE_INDEX),
+        ("MAX_REQUEST", MAX_REQUEST),
+        ("MAX_RESPONSE", MAX_RESPONSE),
+        ("PING_BYTES", PING),
+        ("REPLY_BYTES", REPLY),
+        ("MAX_OPTIONS", MAX_OPTIONS),
+        ("HASH_BYTES", hash.len()),
+        (
+            "BLOCK_BYTES",
+            with.as_bytes().len() - without.as_bytes().len(),
+        ),
+        ("LIST_ENTRY_BYTES", list.as_bytes().len()),
+        ("MAX_REQUEST_LIST", MAX_REQUEST_LIST),
+        ("QUEUE_WORDS", size_of::<RequestQueue>() / 4),
+        ("MODE", Flags::MODE.0 as usize),
+        ("DELETED", Flags::DELETED.0 as usize),
+        ("INVALID", Flags::INVALID.0 as usize),
+        ("VERSION_MAJOR", version[0]),
+        ("VERSION_MINOR", version[1]),
+        ("VERSION_PATCH", version[2]),
+    ];
+    let mut text =
+        "#include <stdio.h>\n#include \"fordtrumpet.h\"\nint main(void)\n{\n".to_string();
+    let mut expected = String::new();
+    for (name, value) in values {
+        text += &format!("    printf(\"{name} %lu\\n\", (unsigned long)BEP_{name});\n");
+        expected += &format!("{name} {value}\n");
+    }
+    text += "    puts(BEP_VERSION);\n    return 0;\n}\n";
+    expected += concat!(env!("CARGO_PKG_VERSION"), "\n");
+    assert_eq!(run_text("sizes", &text), expected);
+}
+
+/// Runs `make` for the library that these tests are linked with; nothing is proved or built.
+fn make(target: &str, variables: &[String]) {
+    let mut make = tool("MAKE", "make");
+    // A `make` that runs these tests would hand down its own variables.
+    for inherited in ["MAKEFLAGS", "MFLAGS", "MAKELEVEL", "PREFIX", "DESTDIR"] {
+        make.env_remove(inherited);
+    }
+    run(make
+        .arg(target)
+        .arg(concat!("LIB=", env!("FORDTRUMPET_LIB")))
+        .args(variables)
+        .current_dir(Path::new(MANIFEST).join("..")));
+}
+
+/// A new folder.
+fn folder(name: &str) -> PathBuf {
+    let folder = scratch(name);
+    let _ = fs::remove_dir_all(&folder);
+    fs::create_dir_all(&folder).unwrap();
+    folder
+}
+
+/// The files of a folder and those below it, by their paths in it.
+fn files(folder: &Path) -> Vec<String> {
+    let mut files = Vec::new();
+    for entry in fs::read_dir(folder).unwrap() {
+        let entry = entry.unwrap();
+        let name = entry.file_name().into_string().unwrap();
+        if entry.file_type().unwrap().is_dir() {
+            let below = self::files(&entry.path());
+            files.extend(below.iter().map(|file| format!("{name}/{file}")));
+        } else {
+            files.push(name);
+        }
+    }
+    files.sort();
+    files
+}
+
+const INSTALLED: [&str; 3] = [
+    "include/fordtrumpet.h",
+    "lib/libbep.a",
+    "lib/pkgconfig/fordtrumpet.pc",
+];
+
+/// What the compiler has to be told, by `pkg-config` if it is there.
+fn flags(prefix: &Path) -> Vec<String> {
+    let pkg_config = |arguments: &[&str]| {
+        let output = tool("PKG_CONFIG", "pkg-config")
+            .env("PKG_CONFIG_PATH", prefix.join("lib/pkgconfig"))
+            .args(arguments)
+            .output();
+        output.ok().map(|output| {
+            let errors = String::from_utf8_lossy(&output.stderr);
+            assert!(output.status.success(), "{errors}");
+            String::from_utf8(output.stdout).unwrap()
+        })
+    };
+    let prefix = prefix.display();
+    let plain = format!("-I{prefix}/include -L{prefix}/lib -lbep");
+    let flags = pkg_config(&["--cflags", "--libs", "fordtrumpet"]).unwrap_or(plain);
+    let version = pkg_config(&["--modversion", "fordtrumpet"]);
+    assert!(version.is_none_or(|version| version.trim() == env!("CARGO_PKG_VERSION")));
+    flags.split_whitespace().map(str::to_string).collect()
+}
+
+#[test]
+fn the_example_needs_only_what_is_installed() {
+    let prefix = folder("installed");
+    make("install", &[format!("PREFIX={}", prefix.display())]);
+    assert_eq!(files(&prefix), INSTALLED);
+
+    let elsewhere = folder("elsewhere");
+    let example = Path::new(MANIFEST).join("examples/example.c");
+    fs::copy(&example, elsewhere.join("example.c")).unwrap();
+    fs::copy(&example, elsewhere.join("example.cpp")).unwrap();
+    let c = ["-std=c99", "-pedantic", "example.c"];
+    let cpp = ["-std=c++17", "-pedantic", "example.cpp"];
+    for (mut compiler, arguments) in [(tool("CC", "cc"), c), (tool("CXX", "c++"), cpp)] {
+        run(compiler
+            .args(["-Wall", "-Wextra", "-Werror", "-g"])
+            .args(["-fsanitize=address,undefined", "-fno-sanitize-recover=all"])
+            .args(arguments)
+            .args(flags(&prefix))
+            .args(["-o", "example"])
+            .current_dir(&elsewhere));
+        let expected = concat!(
+            "fordtrumpet ",
+            env!("CARGO_PKG_VERSION"),
+            "\n\
+             message of type 1, 116 bytes\n\
+             message of type 4, 4 bytes\n\
+             2 bytes wait for more\n\
+             a: version 2, 1 blocks\n\
+             b: version 0, deleted\n\
+             ask peer 1 for 5 bytes of file 0 at 0\n"
+        );
+        assert_eq!(run(&mut Command::new(elsewhere.join("example"))), expected);
+    }
+    make("uninstall", &[format!("PREFIX={}", prefix.display())]);
+    assert!(files(&prefix).is_empty());
+}
+
+#[test]
+fn a_staged_installation_knows_where_it_goes() {
+    let stage = folder("stage");
+    let variables = [
+        format!("DESTDIR={}", stage.display()),
+        "PREFIX=/opt/bep".to_string(),
+    ];
+    make("install", &variables);
+    assert_eq!(
+        files(&stage),
+        INSTALLED.map(|file| format!("opt/bep/{file}"))
+    );
+    let pc = fs::read_to_string(stage.join("opt/bep/lib/pkgconfig/fordtrumpet.pc")).unwrap();
+    assert!(pc.starts_with("prefix=/opt/bep\n"), "{pc}");
+    let version = concat!("\nVersion: ", env!("CARGO_PKG_VERSION"), "\n");
+    assert!(pc.contains(version) && !pc.contains('@'), "{pc}");
+    make("uninstall", &variables);
+    assert!(files(&stage).is_empty());
 }

@@ -37,8 +37,7 @@ fn refuses(draft: &Draft, number: u32, place: usize) {
         let mut out = vec![0xD7; room];
         let refusal = draft.write_with_reference(&mut out).unwrap_err();
         assert_eq!(refusal, Refusal { number, place });
-        let refusal = draft.write_with_library(&mut out).unwrap_err();
-        assert_eq!((refusal.number, refusal.place), (number, place));
+        assert_eq!(draft.write_with_library(&mut out), Err((number, place)));
         assert!(out.iter().all(|&byte| byte == 0xD7));
     }
 }
@@ -47,7 +46,7 @@ fn refuses(draft: &Draft, number: u32, place: usize) {
 #[track_caller]
 fn writes(draft: &Draft, expected: &[u8]) {
     let len = expected.len();
-    for write in [with_reference, with_library] {
+    for write in [with_reference, Draft::write_with_library] {
         for room in [len, len + 1, len + 100] {
             let mut out = vec![0xD7; room];
             assert_eq!(write(draft, &mut out), Ok(len));
@@ -64,11 +63,6 @@ fn writes(draft: &Draft, expected: &[u8]) {
 
 fn with_reference(draft: &Draft, out: &mut [u8]) -> Result<usize, (u32, usize)> {
     let written = draft.write_with_reference(out);
-    written.map_err(|refusal| (refusal.number, refusal.place))
-}
-
-fn with_library(draft: &Draft, out: &mut [u8]) -> Result<usize, (u32, usize)> {
-    let written = draft.write_with_library(out);
     written.map_err(|refusal| (refusal.number, refusal.place))
 }
 

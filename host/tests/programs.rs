@@ -1,8 +1,6 @@
 //! Runs the programs in folders of their own and reads what they print. `rt check` builds them.
 
-#[allow(dead_code)]
 mod reference;
-#[allow(dead_code)]
 mod support;
 
 use std::path::{Path, PathBuf};

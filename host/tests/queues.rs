@@ -281,7 +281,8 @@ fn the_safe_queue_goes_the_same_way() {
                         };
                         (answered.request.id, answered.request.length, data)
                     });
-                    let refused = |refusal: fordtrumpet::Refusal| (refusal.number, refusal.place);
+                    let refused =
+                        |refusal: fordtrumpet::Refusal| (refusal.number(), refusal.place());
                     let known = |refusal: reference::Refusal| (refusal.number, refusal.place);
                     assert_eq!(given.map_err(refused), expected.map_err(known));
                 }
@@ -289,8 +290,12 @@ fn the_safe_queue_goes_the_same_way() {
                     let w = wanted(&mut random, false);
                     let (mut a, mut b) = ([0; 400], [0; 400]);
                     let id = queue.next;
+                    // The safe call can't be given another length.
+                    let Ok(hash) = w.hash.as_slice().try_into() else {
+                        continue;
+                    };
                     let given =
-                        safe.issue(&mut a, &w.repository, &w.name, w.offset, w.length, &w.hash);
+                        safe.issue(&w.repository, &w.name, w.offset, w.length, hash, &mut a);
                     let expected =
                         queue.issue(&w.repository, &w.name, w.offset, w.length, &w.hash, &mut b);
                     assert_eq!(a, b);
@@ -300,7 +305,7 @@ fn the_safe_queue_goes_the_same_way() {
                         }
                         (Err(given), Err(expected)) => {
                             assert_eq!(
-                                (given.number, given.place),
+                                (given.number(), given.place()),
                                 (expected.number, expected.place)
                             );
                         }

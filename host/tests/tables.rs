@@ -290,10 +290,15 @@ fn a_merge_is_refused_in_one_grouping_and_not_in_another() {
     let b = encode(&[file("b", 0, 1_000)]);
     let newer = encode(&[file("a", 1, 0)]);
     let mut out = vec![0; 65_536];
-    assert_eq!(fordtrumpet::merge(&a, &b, &mut out).unwrap_err().number, 19);
-    let length = fordtrumpet::merge(&a, &newer, &mut out).unwrap();
+    assert_eq!(
+        fordtrumpet::raw::merge(&a, &b, &mut out)
+            .unwrap_err()
+            .number(),
+        19
+    );
+    let length = fordtrumpet::raw::merge(&a, &newer, &mut out).unwrap();
     let shorter = out[..length].to_vec();
-    let length = fordtrumpet::merge(&shorter, &b, &mut out).unwrap();
+    let length = fordtrumpet::raw::merge(&shorter, &b, &mut out).unwrap();
     assert_eq!(
         out[..length],
         encode(&[file("a", 1, 0), file("b", 0, 1_000)])
@@ -433,7 +438,7 @@ fn the_tables_are_what_they_seem() {
     let pool = Pool::new(&mut random);
     let files: Vec<File> = pool.files(&mut random);
     let table = encode(&files);
-    assert!(fordtrumpet::is_good(&table));
+    assert!(fordtrumpet::raw::is_good(&table));
     let read = fordtrumpet::Table::new(&table).unwrap();
     assert!(read
         .files()

@@ -13,7 +13,7 @@ use support::damage;
 use support::draft::{Body, Draft};
 use support::encode::{Block, File};
 use support::generate;
-use support::library::Answer;
+use support::library::{ffi, Answer};
 use support::random::Random;
 use support::table_calls::{expected, TableComparison, TABLE_CALLS};
 use support::tables::{encode, Pool};
@@ -21,57 +21,83 @@ use support::tables::{encode, Pool};
 const INPUTS: u64 = 60_000;
 const SEED: u64 = 0x3A47_ED00_0000_0000;
 
+/// The numbers of a record and of its block, or none; or the number of the refusal.
+type Found = Result<Option<(u32, u32)>, u32>;
+
 /// The calls under test. Faults are planted by exchanging one of them.
 #[derive(Clone, Copy)]
 struct Calls {
     list: fn([&[u8]; 5], &mut [u8]) -> Answer<1>,
-    find: fn(&[u8], u32, &[u8]) -> Result<Option<(u32, u32)>, u32>,
+    find: fn(&[u8], u32, &[u8]) -> Found,
 }
 
 const CALLS: Calls = Calls { list, find };
 
 fn list(tables: [&[u8]; 5], out: &mut [u8]) -> Answer<1> {
     let [local, peers @ ..] = tables;
-    match fordtrumpet::request_list(local, peers, out) {
+    match fordtrumpet::raw::request_list(local, peers, out) {
         Ok(list) => (0, [list.as_bytes().len() as u64]),
-        Err(refusal) => (refusal.number, [refusal.place as u64]),
+        Err(refusal) => (refusal.number(), [refusal.place() as u64]),
     }
 }
 
-fn find(table: &[u8], length: u32, hash: &[u8]) -> Result<Option<(u32, u32)>, u32> {
-    fordtrumpet::find_local(table, length, hash).map_err(|refusal| refusal.number)
+fn find(table: &[u8], length: u32, hash: &[u8]) -> Found {
+    if let Ok(hash) = hash.try_into() {
+        let found = fordtrumpet::raw::find_local(table, length, hash);
+        return found.map_err(|refusal| refusal.number());
+    }
+    // A hash of another length, which the safe call can't be given.
+    let mut answer = [0; 3];
+    // SAFETY: each pointer and length are those of one slice, and the answer has the size asked for.
+    let number = unsafe {
+        ffi::bep_find(
+            table.as_ptr(),
+            table.len(),
+            length,
+            hash.as_ptr(),
+            hash.len(),
+            &mut answer,
+        )
+    };
+    match (number, answer) {
+        (0, [0, ..]) => Ok(None),
+        (0, [_, record, block]) => Ok(Some((record as u32, block as u32))),
+        _ => Err(number),
+    }
 }
 
 /// What a ruling came to, in words that both sides share.
 #[derive(Clone, Copy, Debug, PartialEq, Eq)]
 enum Ruling {
-    Served(usize, usize, u64, u32),
+    Served(u32, usize, usize, u64, u32),
     Replied(usize),
     Refused(u32, usize),
 }
 
 fn serve(table: &[u8], repository: &[u8], message: &[u8], out: &mut [u8]) -> Ruling {
-    match fordtrumpet::serve(table, repository, message, out) {
+    match fordtrumpet::raw::serve(table, repository, message, out) {
         Ok(fordtrumpet::Serving::Served {
+            id,
             name,
             offset,
             length,
         }) => {
             let start = name.as_ptr() as usize - message.as_ptr() as usize;
-            Ruling::Served(start, name.len(), offset, length)
+            Ruling::Served(id, start, name.len(), offset, length)
         }
         Ok(fordtrumpet::Serving::Replied(len)) => Ruling::Replied(len),
-        Err(refusal) => Ruling::Refused(refusal.number, refusal.place),
+        Err(refusal) => Ruling::Refused(refusal.number(), refusal.place()),
     }
 }
 
 fn serve_by_reference(table: &[u8], repository: &[u8], message: &[u8], out: &mut [u8]) -> Ruling {
     match reference::serve(table, repository, message, out) {
         Ok(reference::Serving::Served {
+            id,
             name,
             offset,
             length,
-        }) => Ruling::Served(name.start, name.len, offset, length),
+        }) => Ruling::Served(id, name.start, name.len, offset, length),
         Ok(reference::Serving::Replied(len)) => Ruling::Replied(len),
         Err(refusal) => Ruling::Refused(refusal.number, refusal.place),
     }

@@ -1,4 +1,4 @@
-/* Calls every function of the header once, so that its declarations are those of the library. */
+/* Calls every function of the header: its declarations and names are those of the library. */
 #include <stdio.h>
 #include <string.h>
 
@@ -19,6 +19,16 @@ static const uint8_t files[72] = {
     0, 0, 0, 5, 0, 0, 0, 32, 1, 2, 3, 4, 5, 6, 7, 8
 };
 
+/* A table with "a", modified 1, of no blocks, and "b" of two that differ in their length. */
+static const uint8_t two_files[140] = {
+    0, 0, 0, 2,
+    0, 0, 0, 1, 'a', 0, 0, 0, 0, 0, 0, 0, 0, 0, 0, 0, 0, 0, 0, 1, 0, 0, 0, 0, 0, 0, 0, 0,
+    0, 0, 0, 1, 'b', 0, 0, 0, 0, 0, 0, 0, 0, 0, 0, 0, 0, 0, 0, 1, 0, 0, 0, 0, 0, 0, 0, 2,
+    0, 0, 0, 1, 0, 0, 0, 32, 0, 0, 0, 0, 0, 0, 0, 0, 0, 0, 0, 0, 0, 0, 0, 0,
+    0, 0, 0, 0, 0, 0, 0, 0, 0, 0, 0, 0, 0, 0, 0, 0,
+    0, 0, 0, 2, 0, 0, 0, 32
+};
+
 /* An array with one option, "k" and "vw". */
 static const uint8_t options[20] = {
     0, 0, 0, 1, 0, 0, 0, 1, 'k', 0, 0, 0, 0, 0, 0, 2, 'v', 'w', 0, 0
@@ -32,26 +42,36 @@ static int tables(void)
     uint8_t message[100];
     uint8_t out[100];
     uint64_t length[1];
-    uint64_t file[8];
+    uint64_t file[BEP_FILE_WORDS];
 
-    CHECK(bep_check_table(files, 72) == 0 && bep_check_table(files, 71) == 15);
-    CHECK(bep_compare(files, 72, 4, files, 72, 4, length) == 0 && length[0] == 1);
-    CHECK(bep_compare(files, 72, 4, files, 72, 72, length) == 1 && length[0] == 72);
+    CHECK(bep_check_table(files, 72) == 0 && bep_check_table(files, 71) == BEP_REFUSED_BAD_TABLE);
+    CHECK(bep_compare(files, 72, 4, files, 72, 4, length) == 0);
+    CHECK(length[0] == BEP_EQUAL);
+    CHECK(bep_compare(files, 72, 4, two_files, 140, 4, length) == 0 && length[0] == BEP_OLDER);
+    CHECK(bep_compare(two_files, 140, 4, files, 72, 4, length) == 0 && length[0] == BEP_NEWER);
+    CHECK(bep_compare(files, 72, 4, files, 72, 72, length) == BEP_REFUSED_INCOMPLETE);
+    CHECK(length[BEP_PLACE] == 72);
     CHECK(bep_merge(out, 100, files, 72, empty, 4, length) == 0);
     CHECK(length[0] == 72 && memcmp(out, files, 72) == 0);
-    CHECK(bep_merge(out, 71, files, 72, empty, 4, length) == 14 && length[0] == 0);
+    CHECK(bep_merge(out, 71, files, 72, empty, 4, length)
+          == BEP_REFUSED_NO_ROOM);
+    CHECK(length[BEP_PLACE] == 0);
 
     CHECK(bep_write_index(message, 100, 0, repository, 2, files, 72, length) == 0);
     memset(out, 0, 100);
     CHECK(bep_accept(out, 100, empty, 4, message, 84, repository, 2, length) == 0);
     CHECK(length[0] == 72 && memcmp(out, files, 72) == 0);
-    CHECK(bep_accept(out, 100, empty, 4, message, 84, repository, 1, length) == 21);
-    CHECK(bep_accept(out, 100, empty, 4, message, 83, repository, 2, length) == 1);
-    CHECK(length[0] == 12 + 36);
+    CHECK(bep_accept(out, 100, empty, 4, message, 84, repository, 1, length)
+          == BEP_REFUSED_OTHER_REPOSITORY);
+    CHECK(bep_accept(out, 100, empty, 4, message, 83, repository, 2, length)
+          == BEP_REFUSED_INCOMPLETE);
+    CHECK(length[BEP_PLACE] == 12 + 36);
 
-    CHECK(bep_step(files, 72, 4, file) == 0 && file[0] == 72 && file[7] == 32);
-    CHECK(bep_step(files, 72, 72, file) == 0 && file[0] == 0 && file[7] == 0);
-    CHECK(bep_step(files, 72, 5, file) == 15 && file[0] == 0);
+    CHECK(bep_step(files, 72, BEP_FIRST, file) == 0);
+    CHECK(file[BEP_FILE_NEXT] == 72 && file[BEP_FILE_BLOCKS_AT] == 32);
+    CHECK(bep_step(files, 72, 72, file) == 0);
+    CHECK(file[BEP_FILE_NEXT] == 0 && file[BEP_FILE_BLOCKS_AT] == 0);
+    CHECK(bep_step(files, 72, 5, file) == BEP_REFUSED_BAD_TABLE && file[BEP_PLACE] == 0);
     return 0;
 }
 
@@ -61,33 +81,53 @@ static int queues(void)
     const uint8_t hash[32] = {9};
     const uint8_t data[5] = {1, 2, 3, 4, 5};
     uint32_t queue[BEP_QUEUE_WORDS];
+    const uint32_t *entries = queue + BEP_QUEUE_ENTRIES;
     uint8_t out[100];
     uint64_t length[1];
-    uint64_t issued[2];
-    uint64_t answered[5];
+    uint64_t issued[BEP_ISSUED_WORDS];
+    uint64_t answered[BEP_ANSWERED_WORDS];
+    uint64_t totals[BEP_TOTALS_WORDS];
 
-    CHECK(bep_queue_open(queue, 17) == 22 && queue[0] == 0);
-    CHECK(bep_queue_drop(queue) == 22);
-    CHECK(bep_queue_open_default(queue) == 0 && queue[0] == 16);
-    CHECK(bep_queue_open(queue, 2) == 0 && queue[0] == 2);
-    CHECK(bep_queue_issue(out, 67, queue, data, 1, data, 1, 0, 5, hash, 32, issued) == 14);
+    CHECK(bep_queue_open(queue, 17) == BEP_REFUSED_UNSOUND && queue[BEP_QUEUE_WINDOW] == 0);
+    CHECK(bep_queue_drop(queue) == BEP_REFUSED_UNSOUND);
+    CHECK(bep_queue_open_default(queue) == 0 && queue[BEP_QUEUE_WINDOW] == BEP_MAX_WINDOW);
+    CHECK(bep_queue_open(queue, 2) == 0 && queue[BEP_QUEUE_WINDOW] == 2);
+    CHECK(bep_queue_issue(out, 67, queue, data, 1, data, 1, 0, 5, hash, 32, issued)
+          == BEP_REFUSED_NO_ROOM);
     CHECK(bep_queue_issue(out, 68, queue, data, 1, data, 1, 0, 5, hash, 32, issued) == 0);
-    CHECK(issued[0] == 68 && issued[1] == 0);
+    CHECK(issued[BEP_ISSUED_WRITTEN] == 68 && issued[BEP_ISSUED_ID] == 0);
     CHECK(bep_queue_issue(out, 68, queue, data, 1, data, 1, 5, 7, hash, 32, issued) == 0);
-    CHECK(issued[0] == 68 && issued[1] == 1);
-    CHECK(queue[1] == 2 && queue[2] == 2 && queue[3] == 0 && queue[4] == 5);
-    CHECK(queue[5] == 1 && queue[6] == 7 && queue[7] == 0);
-    CHECK(bep_queue_issue(out, 68, queue, data, 1, data, 1, 0, 5, hash, 32, issued) == 16);
-    CHECK(issued[0] == 0 && issued[1] == 0);
+    CHECK(issued[BEP_ISSUED_WRITTEN] == 68 && issued[BEP_ISSUED_ID] == 1);
+    CHECK(queue[BEP_QUEUE_NEXT_ID] == 2 && queue[BEP_QUEUE_COUNT] == 2);
+    CHECK(entries[0] == 0 && entries[1] == 5 && entries[2] == 1 && entries[3] == 7);
+    CHECK(entries[4] == 0);
+    CHECK(bep_queue_issue(out, 68, queue, data, 1, data, 1, 0, 5, hash, 32, issued)
+          == BEP_REFUSED_WINDOW_FULL);
+    CHECK(issued[BEP_PLACE] == 0 && issued[BEP_ISSUED_ID] == 0);
 
-    CHECK(bep_write_response(out, 100, 0, data, 5, length) == 0 && length[0] == 16);
-    CHECK(bep_queue_answer(queue, out, 15, answered) == 1 && answered[0] == 4);
+    CHECK(bep_write_response(out, 100, 0, data, 5, length) == 0 && length[BEP_WRITTEN] == 16);
+    CHECK(bep_queue_answer(queue, out, 15, answered) == BEP_REFUSED_INCOMPLETE);
+    CHECK(answered[BEP_PLACE] == 4);
     CHECK(bep_queue_answer(queue, out, 16, answered) == 0);
-    CHECK(answered[0] == 0 && answered[1] == 0 && answered[2] == 5);
-    CHECK(answered[3] == 8 && answered[4] == 5);
-    CHECK(bep_queue_answer(queue, out, 16, answered) == 20 && answered[0] == 0);
-    CHECK(bep_queue_totals(queue, issued) == 0 && issued[0] == 1 && issued[1] == 7);
-    CHECK(bep_queue_drop(queue) == 0 && queue[1] == 2 && queue[2] == 0);
+    CHECK(answered[BEP_ANSWERED_OUTCOME] == BEP_OUTCOME_DATA);
+    CHECK(answered[BEP_ANSWERED_ID] == 0 && answered[BEP_ANSWERED_LENGTH] == 5);
+    CHECK(answered[BEP_ANSWERED_DATA_AT] == 8 && answered[BEP_ANSWERED_DATA_LENGTH] == 5);
+    CHECK(bep_queue_answer(queue, out, 16, answered) == BEP_REFUSED_NOT_OLDEST);
+    CHECK(answered[BEP_PLACE] == 0);
+    CHECK(bep_queue_totals(queue, totals) == 0);
+    CHECK(totals[BEP_TOTALS_COUNT] == 1 && totals[BEP_TOTALS_BYTES] == 7);
+
+    CHECK(bep_write_response(out, 100, 1, data, 5, length) == 0);
+    CHECK(bep_queue_answer(queue, out, 16, answered) == 0);
+    CHECK(answered[BEP_ANSWERED_OUTCOME] == BEP_OUTCOME_WRONG_SIZE);
+    CHECK(answered[BEP_ANSWERED_ID] == 1 && answered[BEP_ANSWERED_LENGTH] == 7);
+    CHECK(bep_queue_issue(out, 68, queue, data, 1, data, 1, 0, 5, hash, 32, issued) == 0);
+    CHECK(bep_write_response(out, BEP_REPLY_BYTES, 2, NULL, 0, length) == 0);
+    CHECK(bep_queue_answer(queue, out, BEP_REPLY_BYTES, answered) == 0);
+    CHECK(answered[BEP_ANSWERED_OUTCOME] == BEP_OUTCOME_NOT_AVAILABLE);
+    CHECK(bep_queue_issue(out, 68, queue, data, 1, data, 1, 0, 5, hash, 32, issued) == 0);
+    CHECK(bep_queue_drop(queue) == 0);
+    CHECK(queue[BEP_QUEUE_NEXT_ID] == 4 && queue[BEP_QUEUE_COUNT] == 0);
     return 0;
 }
 
@@ -95,37 +135,119 @@ static int requests(void)
 {
     const uint8_t empty[4] = {0};
     const uint8_t repository[1] = {'r'};
-    uint8_t list[24];
+    uint8_t list[BEP_LIST_ENTRY_BYTES];
+    uint8_t many[2 * BEP_LIST_ENTRY_BYTES];
+    struct bep_wanted wanted;
     uint8_t request[100];
-    uint8_t out[8];
+    uint8_t out[BEP_REPLY_BYTES];
     uint64_t length[1];
-    uint64_t found[3];
-    uint64_t served[5];
+    uint64_t found[BEP_FIND_WORDS];
+    uint64_t served[BEP_SERVE_WORDS];
 
     /* A peer has a file of one block that we don't have. */
-    CHECK(bep_request_list(list, 23, empty, 4, empty, 4, files, 72, empty, 4, empty, 4, length) == 14);
-    CHECK(bep_request_list(list, 24, empty, 4, empty, 4, files, 72, empty, 4, empty, 4, length) == 0);
-    CHECK(length[0] == 24 && list[7] == 0 && memcmp(list + 16, files + 32, 4) == 0 && list[23] == 2);
-    CHECK(bep_request_list(list, 24, empty, 3, empty, 4, files, 72, empty, 4, empty, 4, length) == 15);
-    CHECK(bep_request_list(list, 24, files, 72, empty, 4, files, 72, empty, 4, empty, 4, length) == 0);
-    CHECK(length[0] == 0);
+    CHECK(bep_request_list(list, 23, empty, 4, empty, 4, files, 72, empty, 4, empty, 4, length)
+          == BEP_REFUSED_NO_ROOM);
+    CHECK(bep_request_list(list, 24, empty, 4, empty, 4, files, 72, empty, 4, empty, 4, length)
+          == 0);
+    CHECK(length[BEP_WRITTEN] == BEP_LIST_ENTRY_BYTES);
+    wanted = bep_list_entry(list, 0);
+    CHECK(wanted.file == 0 && wanted.block == 0 && wanted.offset == 0);
+    CHECK(wanted.length == 5 && wanted.peer == 2);
+    CHECK(bep_request_list(list, 24, empty, 3, empty, 4, files, 72, empty, 4, empty, 4, length)
+          == BEP_REFUSED_BAD_TABLE);
+    CHECK(bep_request_list(list, 24, files, 72, empty, 4, files, 72, empty, 4, empty, 4, length)
+          == 0);
+    CHECK(length[BEP_WRITTEN] == 0);
 
-    uint32_t size = (uint32_t)files[32] << 24 | (uint32_t)files[33] << 16 | files[34] << 8 | files[35];
+    /* Every byte of an entry has its place. */
+    for (uint8_t i = 0; i < sizeof many; i++)
+        many[i] = i;
+    wanted = bep_list_entry(many, 1);
+    CHECK(wanted.file == 0x18191A1B && wanted.block == 0x1C1D1E1F);
+    CHECK(wanted.offset == 0x2021222324252627);
+    CHECK(wanted.length == 0x28292A2B && wanted.peer == 0x2C2D2E2F);
+
+    uint32_t size = bep_word(files + 32);
     CHECK(bep_find(files, 72, size, files + 40, 32, found) == 0);
-    CHECK(found[0] == 1 && found[1] == 0 && found[2] == 0);
-    CHECK(bep_find(files, 72, size + 1, files + 40, 32, found) == 0 && found[0] == 0);
-    CHECK(bep_find(files, 71, size, files + 40, 32, found) == 15 && found[0] == 0);
+    CHECK(found[BEP_FIND_FOUND] == 1);
+    CHECK(found[BEP_FIND_RECORD] == 0 && found[BEP_FIND_BLOCK] == 0);
+    CHECK(bep_find(two_files, 140, 1, two_files + 68, 32, found) == 0);
+    CHECK(found[BEP_FIND_RECORD] == 1 && found[BEP_FIND_BLOCK] == 0);
+    CHECK(bep_find(two_files, 140, 2, two_files + 68, 32, found) == 0);
+    CHECK(found[BEP_FIND_RECORD] == 1 && found[BEP_FIND_BLOCK] == 1);
+    CHECK(bep_find(files, 72, size + 1, files + 40, 32, found) == 0);
+    CHECK(found[BEP_FIND_FOUND] == 0);
+    CHECK(bep_find(files, 71, size, files + 40, 32, found) == BEP_REFUSED_BAD_TABLE);
+    CHECK(found[BEP_PLACE] == 0);
 
     CHECK(bep_write_request(request, 100, 6, repository, 1, files + 8, 1, 0, size, files + 40, 32,
                             length) == 0);
     CHECK(bep_serve(out, 0, files, 72, repository, 1, request, length[0], served) == 0);
-    CHECK(served[0] == 1 && request[served[1]] == files[8] && served[2] == 1);
-    CHECK(served[3] == 0 && served[4] == size);
-    CHECK(bep_serve(out, 7, empty, 4, repository, 1, request, length[0], served) == 14);
-    CHECK(bep_serve(out, 8, empty, 4, repository, 1, request, 6, served) == 1);
-    CHECK(served[0] == 4 && served[1] == 0);
+    CHECK(served[BEP_SERVE_SERVED] == 1 && request[served[BEP_SERVE_NAME_AT]] == files[8]);
+    CHECK(served[BEP_SERVE_NAME_LENGTH] == 1);
+    CHECK(served[BEP_SERVE_OFFSET] == 0 && served[BEP_SERVE_LENGTH] == size);
+    CHECK(bep_serve(out, 7, empty, 4, repository, 1, request, length[0], served)
+          == BEP_REFUSED_NO_ROOM);
+    CHECK(bep_serve(out, 8, empty, 4, repository, 1, request, 6, served)
+          == BEP_REFUSED_INCOMPLETE);
+    CHECK(served[BEP_PLACE] == 4 && served[1] == 0);
     CHECK(bep_serve(out, 8, empty, 4, repository, 1, request, length[0], served) == 0);
-    CHECK(served[0] == 0 && served[1] == 8 && memcmp(out, "\0\6\3\0\0\0\0\0", 8) == 0);
+    CHECK(served[BEP_SERVE_SERVED] == 0 && served[BEP_SERVE_REPLY_LENGTH] == BEP_REPLY_BYTES);
+    CHECK(memcmp(out, "\0\6\3\0\0\0\0\0", 8) == 0);
+    return 0;
+}
+
+enum {
+    MOST_WORDS = 12,
+    UNTOUCHED = 0xA7
+};
+
+static uint64_t *untouched(uint64_t answer[MOST_WORDS])
+{
+    for (int i = 0; i < MOST_WORDS; i++)
+        answer[i] = UNTOUCHED;
+    return answer;
+}
+
+/* Whether a call that was refused filled so many words and no more. */
+static int filled(const uint64_t answer[MOST_WORDS], int count)
+{
+    for (int i = 0; i < MOST_WORDS; i++)
+        if ((answer[i] == UNTOUCHED) != (i >= count))
+            return 0;
+    return 1;
+}
+
+/* Answers and queues have the sizes that the header gives. */
+static int words(void)
+{
+    uint64_t answer[MOST_WORDS];
+    uint32_t queue[BEP_QUEUE_WORDS + 1];
+    uint8_t out[1];
+
+    CHECK(bep_read(NULL, 0, untouched(answer)) != 0 && filled(answer, BEP_READ_WORDS));
+    CHECK(bep_write_ping(NULL, 0, 0, untouched(answer)) != 0 && filled(answer, 1));
+    CHECK(bep_file(NULL, 0, 0, untouched(answer)) != 0 && filled(answer, BEP_FILE_WORDS));
+    CHECK(bep_step(NULL, 0, 0, untouched(answer)) != 0 && filled(answer, BEP_FILE_WORDS));
+    CHECK(bep_option(NULL, 0, 0, untouched(answer)) != 0 && filled(answer, BEP_OPTION_WORDS));
+    CHECK(bep_compare(NULL, 0, 0, NULL, 0, 0, untouched(answer)) != 0 && filled(answer, 1));
+    CHECK(bep_merge(out, 1, NULL, 0, NULL, 0, untouched(answer)) != 0 && filled(answer, 1));
+    CHECK(bep_accept(out, 1, NULL, 0, NULL, 0, NULL, 0, untouched(answer)) != 0);
+    CHECK(filled(answer, 1));
+    CHECK(bep_find(NULL, 0, 0, NULL, 0, untouched(answer)) != 0);
+    CHECK(filled(answer, BEP_FIND_WORDS));
+    CHECK(bep_serve(out, 1, NULL, 0, NULL, 0, NULL, 0, untouched(answer)) != 0);
+    CHECK(filled(answer, BEP_SERVE_WORDS));
+
+    for (int i = 0; i <= BEP_QUEUE_WORDS; i++)
+        queue[i] = UNTOUCHED;
+    CHECK(bep_queue_open_default(queue) == 0);
+    CHECK(queue[BEP_QUEUE_WORDS - 1] == 0 && queue[BEP_QUEUE_WORDS] == UNTOUCHED);
+    CHECK(bep_queue_issue(out, 1, queue, NULL, 0, NULL, 0, 0, 0, NULL, 0, untouched(answer)) != 0);
+    CHECK(filled(answer, BEP_ISSUED_WORDS));
+    CHECK(bep_queue_answer(queue, NULL, 0, untouched(answer)) != 0);
+    CHECK(filled(answer, BEP_ANSWERED_WORDS));
+    CHECK(bep_queue_totals(queue, untouched(answer)) == 0 && filled(answer, BEP_TOTALS_WORDS));
     return 0;
 }
 
@@ -136,61 +258,82 @@ int main(void)
     const uint8_t hash[33] = {9};
     uint8_t out[100];
     uint64_t length[1];
-    uint64_t answer[11];
-    uint64_t file[8];
-    uint64_t option[5];
+    uint64_t answer[BEP_READ_WORDS];
+    uint64_t file[BEP_FILE_WORDS];
+    uint64_t option[BEP_OPTION_WORDS];
 
     CHECK(bep_write_index(out, 100, 7, repository, 2, files, 72, length) == 0);
     CHECK(length[0] == 84);
     CHECK(memcmp(out, "\0\7\1\0\0\0\0\2rs\0\0", 12) == 0);
     CHECK(memcmp(out + 12, files, 72) == 0);
     CHECK(bep_read(out, 84, answer) == 0);
-    CHECK(answer[0] == 84 && answer[1] == BEP_INDEX && answer[2] == 7);
-    CHECK(answer[3] == 8 && answer[4] == 2);
-    CHECK(answer[5] == 12 && answer[6] == 72 && answer[7] == 1);
+    CHECK(answer[BEP_READ_USED] == 84);
+    CHECK(answer[BEP_READ_TYPE] == BEP_INDEX && answer[BEP_READ_ID] == 7);
+    CHECK(answer[BEP_INDEX_REPOSITORY_AT] == 8 && answer[BEP_INDEX_REPOSITORY_LENGTH] == 2);
+    CHECK(answer[BEP_INDEX_FILES_AT] == 12 && answer[BEP_INDEX_FILES_LENGTH] == 72);
+    CHECK(answer[BEP_INDEX_FILES_COUNT] == 1);
     CHECK(answer[8] == 0 && answer[9] == 0 && answer[10] == 0);
 
-    CHECK(bep_file(files, 72, 4, file) == 0);
-    CHECK(file[0] == 72 && file[1] == 8 && file[2] == 1 && file[3] == 0644);
-    CHECK(file[4] == UINT64_MAX - 1 && file[5] == 3 && file[6] == 1 && file[7] == 32);
-    CHECK(bep_file(files, 72, 72, file) == 1);
-    CHECK(file[0] == 72 && file[7] == 0);
-    CHECK(bep_file(files, 71, 4, file) == 1 && file[0] == 36);
-    CHECK(bep_file(files, 31, 4, file) == 1 && file[0] == 28);
+    CHECK(bep_file(files, 72, BEP_FIRST, file) == 0);
+    CHECK(file[BEP_FILE_NEXT] == 72);
+    CHECK(file[BEP_FILE_NAME_AT] == 8 && file[BEP_FILE_NAME_LENGTH] == 1);
+    CHECK(file[BEP_FILE_FLAGS] == 0644 && file[BEP_FILE_MODIFIED] == UINT64_MAX - 1);
+    CHECK(file[BEP_FILE_VERSION] == 3);
+    CHECK(file[BEP_FILE_BLOCKS_COUNT] == 1 && file[BEP_FILE_BLOCKS_AT] == 32);
+    CHECK(bep_file(files, 72, 72, file) == BEP_REFUSED_INCOMPLETE);
+    CHECK(file[BEP_PLACE] == 72 && file[BEP_FILE_BLOCKS_AT] == 0);
+    CHECK(bep_file(files, 71, 4, file) == BEP_REFUSED_INCOMPLETE && file[BEP_PLACE] == 36);
+    CHECK(bep_file(files, 31, 4, file) == BEP_REFUSED_INCOMPLETE && file[BEP_PLACE] == 28);
 
-    CHECK(bep_write_index_update(out, 83, 7, repository, 2, files, 72, length) == 14);
-    CHECK(length[0] == 0);
-    CHECK(bep_write_index_update(out, 84, 7, repository, 2, files, 71, length) == 1);
-    CHECK(length[0] == 12 + 36);
+    CHECK(bep_write_index_update(out, 83, 7, repository, 2, files, 72, length)
+          == BEP_REFUSED_NO_ROOM);
+    CHECK(length[BEP_PLACE] == 0);
+    CHECK(bep_write_index_update(out, 84, 7, repository, 2, files, 71, length)
+          == BEP_REFUSED_INCOMPLETE);
+    CHECK(length[BEP_PLACE] == 12 + 36);
     CHECK(bep_write_index_update(out, 84, 7, repository, 2, files, 72, length) == 0);
     CHECK(length[0] == 84 && out[2] == BEP_INDEX_UPDATE);
 
     CHECK(bep_write_request(out, 100, 4095, repository, 2, name, 3, 1ULL << 33, 77, hash, 33,
-                            length) == 9);
-    CHECK(length[0] == 32);
+                            length) == BEP_REFUSED_HASH_LENGTH);
+    CHECK(length[BEP_PLACE] == 32);
     CHECK(bep_write_request(out, 100, 4095, repository, 2, name, 3, 1ULL << 33, 77, hash, 32,
                             length) == 0);
     CHECK(length[0] == 68);
     CHECK(bep_read(out, 68, answer) == 0);
-    CHECK(answer[0] == 68 && answer[1] == BEP_REQUEST && answer[2] == 4095);
-    CHECK(answer[3] == 8 && answer[4] == 2 && answer[5] == 16 && answer[6] == 3);
-    CHECK(answer[7] == 1ULL << 33 && answer[8] == 77 && answer[9] == 36 && answer[10] == 32);
+    CHECK(answer[BEP_READ_USED] == 68);
+    CHECK(answer[BEP_READ_TYPE] == BEP_REQUEST && answer[BEP_READ_ID] == 4095);
+    CHECK(answer[BEP_REQUEST_REPOSITORY_AT] == 8 && answer[BEP_REQUEST_REPOSITORY_LENGTH] == 2);
+    CHECK(answer[BEP_REQUEST_NAME_AT] == 16 && answer[BEP_REQUEST_NAME_LENGTH] == 3);
+    CHECK(answer[BEP_REQUEST_OFFSET] == 1ULL << 33 && answer[BEP_REQUEST_LENGTH] == 77);
+    CHECK(answer[BEP_REQUEST_HASH_AT] == 36);
+    CHECK(answer[BEP_REQUEST_HASH_LENGTH] == BEP_HASH_BYTES);
 
     CHECK(bep_write_response(out, 100, 2, name, 3, length) == 0);
     CHECK(length[0] == 12 && memcmp(out, "\0\2\3\0\0\0\0\3abc\0", 12) == 0);
+    CHECK(bep_read(out, 12, answer) == 0 && answer[BEP_READ_TYPE] == BEP_RESPONSE);
+    CHECK(answer[BEP_RESPONSE_DATA_AT] == 8 && answer[BEP_RESPONSE_DATA_LENGTH] == 3);
     CHECK(bep_write_ping(out, 100, 3, length) == 0);
     CHECK(length[0] == 4 && memcmp(out, "\0\3\4\0", 4) == 0);
-    CHECK(bep_write_pong(out, 100, 4096, length) == 5);
-    CHECK(length[0] == 0);
+    CHECK(bep_read(out, 4, answer) == 0 && answer[BEP_READ_TYPE] == BEP_PING);
+    CHECK(bep_write_pong(out, 100, 4096, length) == BEP_REFUSED_ABOVE_LIMIT);
+    CHECK(length[BEP_PLACE] == 0);
     CHECK(bep_write_pong(out, 100, 4, length) == 0);
     CHECK(length[0] == 4 && memcmp(out, "\0\4\5\0", 4) == 0);
+    CHECK(bep_read(out, 4, answer) == 0 && answer[BEP_READ_TYPE] == BEP_PONG);
 
     CHECK(bep_write_options(out, 100, 5, options, 20, length) == 0);
     CHECK(length[0] == 24 && memcmp(out + 4, options, 20) == 0);
-    CHECK(bep_option(options, 20, 4, option) == 0);
-    CHECK(option[0] == 20 && option[1] == 8 && option[2] == 1);
-    CHECK(option[3] == 16 && option[4] == 2);
-    CHECK(bep_option(options, 20, 20, option) == 1 && option[0] == 20);
-    CHECK(bep_option(options, 19, 4, option) == 1 && option[0] == 12);
-    return tables() || queues() || requests();
+    CHECK(bep_read(out, 24, answer) == 0 && answer[BEP_READ_TYPE] == BEP_OPTIONS);
+    CHECK(answer[BEP_OPTIONS_ARRAY_AT] == 4 && answer[BEP_OPTIONS_ARRAY_LENGTH] == 20);
+    CHECK(answer[BEP_OPTIONS_ARRAY_COUNT] == 1);
+    CHECK(bep_option(options, 20, BEP_FIRST, option) == 0);
+    CHECK(option[BEP_OPTION_NEXT] == 20);
+    CHECK(option[BEP_OPTION_KEY_AT] == 8 && option[BEP_OPTION_KEY_LENGTH] == 1);
+    CHECK(option[BEP_OPTION_VALUE_AT] == 16 && option[BEP_OPTION_VALUE_LENGTH] == 2);
+    CHECK(bep_option(options, 20, 20, option) == BEP_REFUSED_INCOMPLETE);
+    CHECK(option[BEP_PLACE] == 20);
+    CHECK(bep_option(options, 19, 4, option) == BEP_REFUSED_INCOMPLETE);
+    CHECK(option[BEP_PLACE] == 12);
+    return tables() || queues() || requests() || words();
 }

@@ -150,6 +150,7 @@ fn blocks_of(
 pub enum Serving {
     /// The block is ours to give.
     Served {
+        id: u32,
         name: Span,
         offset: u64,
         length: u32,
@@ -187,6 +188,7 @@ pub fn serve(
             .is_some_and(|file| lists(table, &file, offset, &wanted));
     if ours {
         return Ok(Serving::Served {
+            id: request.id,
             name,
             offset,
             length,

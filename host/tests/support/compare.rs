@@ -232,25 +232,25 @@ pub fn short(text: &str) -> String {
 fn write_again(input: &[u8], out: &mut [u8]) -> Result<usize, fordtrumpet::Refusal> {
     match fordtrumpet::read(input)?.message {
         Message::Index(index) => {
-            fordtrumpet::write_index(out, index.id, index.repository, index.files.as_bytes())
+            fordtrumpet::write_index(index.id, index.repository, index.files.as_bytes(), out)
         }
         Message::IndexUpdate(index) => {
-            fordtrumpet::write_index_update(out, index.id, index.repository, index.files.as_bytes())
+            fordtrumpet::write_index_update(index.id, index.repository, index.files.as_bytes(), out)
         }
         Message::Request(request) => fordtrumpet::write_request(
-            out,
             request.id,
             request.repository,
             request.name,
             request.offset,
             request.length,
             request.hash,
+            out,
         ),
-        Message::Response(response) => fordtrumpet::write_response(out, response.id, response.data),
-        Message::Ping(ping) => fordtrumpet::write_ping(out, ping.id),
-        Message::Pong(pong) => fordtrumpet::write_pong(out, pong.id),
+        Message::Response(response) => fordtrumpet::write_response(response.id, response.data, out),
+        Message::Ping(ping) => fordtrumpet::write_ping(ping.id, out),
+        Message::Pong(pong) => fordtrumpet::write_pong(pong.id, out),
         Message::Options(message) => {
-            fordtrumpet::write_options(out, message.id, message.options.as_bytes())
+            fordtrumpet::write_options(message.id, message.options.as_bytes(), out)
         }
     }
 }

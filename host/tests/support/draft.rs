@@ -1,6 +1,7 @@
 //! A message to be written: the fields as a writer is given them, right or wrong.
 
 use super::encode::Encoding;
+use super::library::ffi;
 use crate::reference;
 
 /// The fields of a message, with its arrays encoded.
@@ -111,8 +112,20 @@ impl Draft {
         }
     }
 
-    /// Writes it with the library, by way of the safe functions.
-    pub fn write_with_library(&self, out: &mut [u8]) -> Result<usize, fordtrumpet::Refusal> {
+    /// Writes it with the library: by way of the safe functions, but for a hash that these can't be
+    /// given. A refusal is its number and its place.
+    pub fn write_with_library(&self, out: &mut [u8]) -> Result<usize, (u32, usize)> {
+        match &self.body {
+            Body::Request { hash, .. } if hash.len() != 32 => self.write_with_any_hash(out),
+            _ => {
+                let written = self.write_safely(out);
+                written.map_err(|refusal| (refusal.number(), refusal.place()))
+            }
+        }
+    }
+
+    /// Writes it by way of the safe functions.
+    pub fn write_safely(&self, out: &mut [u8]) -> Result<usize, fordtrumpet::Refusal> {
         match &self.body {
             Body::Index {
                 update,
@@ -123,7 +136,7 @@ impl Draft {
                     false => fordtrumpet::write_index,
                     true => fordtrumpet::write_index_update,
                 };
-                write(out, self.id, repository, &files.bytes)
+                write(self.id, repository, &files.bytes, out)
             }
             Body::Request {
                 repository,
@@ -131,11 +144,50 @@ impl Draft {
                 offset,
                 length,
                 hash,
-            } => fordtrumpet::write_request(out, self.id, repository, name, *offset, *length, hash),
-            Body::Response { data } => fordtrumpet::write_response(out, self.id, data),
-            Body::Ping => fordtrumpet::write_ping(out, self.id),
-            Body::Pong => fordtrumpet::write_pong(out, self.id),
-            Body::Options { options } => fordtrumpet::write_options(out, self.id, &options.bytes),
+            } => {
+                let hash = hash.as_slice().try_into().expect("a hash has 32 bytes");
+                fordtrumpet::write_request(self.id, repository, name, *offset, *length, hash, out)
+            }
+            Body::Response { data } => fordtrumpet::write_response(self.id, data, out),
+            Body::Ping => fordtrumpet::write_ping(self.id, out),
+            Body::Pong => fordtrumpet::write_pong(self.id, out),
+            Body::Options { options } => fordtrumpet::write_options(self.id, &options.bytes, out),
+        }
+    }
+
+    /// Writes a Request whose hash has any length.
+    fn write_with_any_hash(&self, out: &mut [u8]) -> Result<usize, (u32, usize)> {
+        let Body::Request {
+            repository,
+            name,
+            offset,
+            length,
+            hash,
+        } = &self.body
+        else {
+            panic!("only a Request has a hash");
+        };
+        let mut answer = [0];
+        // SAFETY: each pointer and length are those of one slice, and the answer has the size asked for.
+        let number = unsafe {
+            ffi::bep_write_request(
+                out.as_mut_ptr(),
+                out.len(),
+                self.id,
+                repository.as_ptr(),
+                repository.len(),
+                name.as_ptr(),
+                name.len(),
+                *offset,
+                *length,
+                hash.as_ptr(),
+                hash.len(),
+                &mut answer,
+            )
+        };
+        match number {
+            0 => Ok(answer[0] as usize),
+            _ => Err((number, answer[0] as usize)),
         }
     }
 }

@@ -1,7 +1,7 @@
 //! Calls of the library whose answers are words, so that they can be compared word by word.
 
 use super::draft::Draft;
-use fordtrumpet::{Message, Read, Refusal};
+use fordtrumpet::{Message, ReadMessage, Refusal};
 
 #[path = "../../src/ffi.rs"]
 pub mod ffi;
@@ -56,18 +56,18 @@ fn option(array: &[u8], at: usize) -> Answer<5> {
 fn write(draft: &Draft, out: &mut [u8]) -> Answer<1> {
     match draft.write_with_library(out) {
         Ok(len) => (0, [len as u64]),
-        Err(Refusal { number, place }) => (number, [place as u64]),
+        Err((number, place)) => (number, [place as u64]),
     }
 }
 
 /// What the safe `read` gives, put back into the words it was made from.
 fn read_safely(input: &[u8]) -> Answer<11> {
     let mut answer = [0; 11];
-    let Read { message, used } = match fordtrumpet::read(input) {
+    let ReadMessage { message, used } = match fordtrumpet::read(input) {
         Ok(read) => read,
         Err(refusal) => {
-            answer[0] = refusal.place as u64;
-            return (refusal.number, answer);
+            answer[0] = refusal.place() as u64;
+            return (refusal.number(), answer);
         }
     };
     let mut put = |at: usize, field: &[u8]| {

@@ -22,7 +22,7 @@ pub struct TableCalls {
 
 /// The library as it is.
 pub const TABLE_CALLS: TableCalls = TableCalls {
-    is_good: fordtrumpet::is_good,
+    is_good: fordtrumpet::raw::is_good,
     compare,
     merge,
     accept,
@@ -38,11 +38,11 @@ fn compare(a: &[u8], i: usize, b: &[u8], j: usize) -> Answer<1> {
 }
 
 fn merge(a: &[u8], b: &[u8], out: &mut [u8]) -> Answer<1> {
-    filled(fordtrumpet::merge(a, b, out))
+    filled(fordtrumpet::raw::merge(a, b, out))
 }
 
 fn accept(old: &[u8], message: &[u8], repository: &[u8], out: &mut [u8]) -> Answer<1> {
-    filled(fordtrumpet::accept(old, message, repository, out))
+    filled(fordtrumpet::raw::accept(old, message, repository, out))
 }
 
 fn step(table: &[u8], at: usize) -> Answer<8> {
@@ -56,7 +56,7 @@ fn step(table: &[u8], at: usize) -> Answer<8> {
 fn filled(answer: Result<usize, fordtrumpet::Refusal>) -> Answer<1> {
     match answer {
         Ok(len) => (0, [len as u64]),
-        Err(refusal) => (refusal.number, [refusal.place as u64]),
+        Err(refusal) => (refusal.number(), [refusal.place() as u64]),
     }
 }
 
@@ -99,7 +99,10 @@ impl TableComparison {
 
     /// The records at two places.
     pub fn compare(&mut self, a: &[u8], i: usize, b: &[u8], j: usize) -> Compared {
-        let expected = match (reference::file_or_missing(a, i), reference::file_or_missing(b, j)) {
+        let expected = match (
+            reference::file_or_missing(a, i),
+            reference::file_or_missing(b, j),
+        ) {
             (Ok(f), Ok(g)) => match reference::compare(a, &f, b, &g) {
                 Ordering::Less => (0, [0]),
                 Ordering::Equal => (0, [1]),
@@ -162,7 +165,7 @@ impl TableComparison {
 
     /// Steps through a table, safely too, and looks at a place beside each record.
     pub fn walk(&mut self, table: &[u8], random: &mut Random) -> Compared {
-        let mut walker = fordtrumpet::Walker::open(table);
+        let mut walker = fordtrumpet::raw::Walker::open(table);
         let mut at = 4;
         loop {
             self.step(table, at)?;
@@ -173,7 +176,7 @@ impl TableComparison {
                 Ok(Some(file)) => file,
                 Ok(None) => return same("the walker's end", &safe.map(|f| f.is_none()), &Ok(true)),
                 Err(refusal) => {
-                    let number = safe.map(|_| ()).map_err(|refusal| refusal.number);
+                    let number = safe.map(|_| ()).map_err(|refusal| refusal.number());
                     return same("the walker's refusal", &number, &Err(refusal.number));
                 }
             };

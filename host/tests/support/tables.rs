@@ -171,7 +171,7 @@ pub fn full(random: &mut Random, first: usize, count: usize, bytes: usize) -> Ve
     let mut table = encode(&files);
     // A longer name for what is left of the bytes.
     let left = bytes.saturating_sub(table.len());
-    if left > 0 && left < 200 && left % 4 == 0 {
+    if left > 0 && left < 200 && left.is_multiple_of(4) {
         files[0].name.extend(vec![b'a'; left]);
         table = encode(&files);
     }

@@ -1,0 +1,248 @@
+//! Two devices that end with the same folder.
+//!
+//! `cargo run --example copy DIR1 DIR2` copies what is newer in either folder into the other one;
+//! without folders it makes two and shows what is copied. Nothing is deleted. The two talk over
+//! 127.0.0.1; between machines a TLS stream would stand in place of the TCP stream.
+//!
+//! Each device sends an Index of what it has, asks for the blocks it lacks, and answers Requests. The
+//! protocol has no message for the end, but after a change a device sends its Index again. So one that
+//! has nothing more to ask sends a second Index, changed or not, and is done once it has got one too.
+
+#[path = "copy/folder.rs"]
+pub mod folder;
+#[path = "copy/sha256.rs"]
+pub mod sha256;
+
+use folder::{Folder, Incoming, Report};
+use fordtrumpet::{
+    accept, merge, request_list, serve, write_index, write_pong, write_response, Message, Outcome,
+    Refusal, RequestQueue, Serving, Table, Wanted, MAX_REQUEST_LIST, MAX_TABLE,
+};
+use std::collections::{BTreeMap, VecDeque};
+use std::io::Write;
+use std::net::{Ipv4Addr, Shutdown, TcpListener, TcpStream};
+use std::path::{Path, PathBuf};
+use std::sync::mpsc::{sync_channel, Receiver};
+use std::{env, thread, time::Duration};
+
+const REPOSITORY: &[u8] = b"default";
+
+/// A peer that neither sends nor takes anything for so long is given up.
+const PATIENCE: Duration = Duration::from_secs(60);
+
+/// What an honest peer has under way to us at most: a window of Requests, one of Responses, and a few
+/// others. With room for these we always read on, so two that write don't wait for each other.
+const UNDER_WAY: usize = 2 * RequestQueue::WINDOW as usize + 8;
+
+// README: from here on its first example in Rust, line for line.
+use fordtrumpet::{read, MAX_RESPONSE};
+use std::io::{self, Read};
+
+/// Takes the next message off a stream. What has come of later ones stays in `buffer`.
+pub fn next_message(mut stream: impl Read, buffer: &mut Vec<u8>) -> io::Result<Vec<u8>> {
+    loop {
+        match read(buffer) {
+            Ok(message) => return Ok(buffer.drain(..message.used).collect()),
+            // The rest is yet to come. Nothing of use to us is longer than a Response, though.
+            Err(refusal) if refusal.is_incomplete() && buffer.len() < MAX_RESPONSE => {}
+            Err(refusal) => return Err(refusal.into()),
+        }
+        let mut bytes = [0; 16_384];
+        match stream.read(&mut bytes)? {
+            0 => return Err(io::ErrorKind::UnexpectedEof.into()),
+            count => buffer.extend_from_slice(&bytes[..count]),
+        }
+    }
+}
+// README: to here.
+
+/// One side of the exchange: brings the folder up to what the peer has.
+pub fn exchange(folder: Folder, stream: TcpStream) -> io::Result<Report> {
+    stream.set_read_timeout(Some(PATIENCE))?;
+    stream.set_write_timeout(Some(PATIENCE))?;
+    stream.set_nodelay(true)?; // a Request isn't to wait for the next one
+    let device = Device {
+        folder,
+        stream: &stream,
+        queue: RequestQueue::open(),
+        asks: VecDeque::new(),
+        incoming: BTreeMap::new(),
+        indexes: 0,
+        report: Report::default(),
+        out: vec![0; MAX_RESPONSE],
+    };
+    let (sender, messages) = sync_channel(UNDER_WAY);
+    let mut buffer = Vec::new();
+    let mut next = || next_message(&stream, &mut buffer);
+    thread::scope(|scope| {
+        // The first error ends the device, and that ends this.
+        scope.spawn(move || while sender.send(next()).is_ok() {});
+        let report = device.run(messages);
+        // However it went, neither our reader nor the peer is to wait any longer.
+        let _ = stream.shutdown(Shutdown::Both);
+        report
+    })
+}
+
+struct Device<'a> {
+    folder: Folder,
+    stream: &'a TcpStream,
+    queue: RequestQueue,
+    /// The blocks to ask for. As many as the queue has, from the front, are asked for already.
+    asks: VecDeque<Wanted>,
+    /// The files that are put together, by their numbers in the merged table.
+    incoming: BTreeMap<u32, Incoming>,
+    /// How many Indexes came.
+    indexes: u32,
+    report: Report,
+    /// Has room for any message that we send.
+    out: Vec<u8>,
+}
+
+impl Device<'_> {
+    fn run(mut self, messages: Receiver<io::Result<Vec<u8>>>) -> io::Result<Report> {
+        let mut asking = true;
+        self.send_index()?;
+        while asking || self.indexes < 2 {
+            let message = messages
+                .recv()
+                .expect("the reader goes on as long as we do")?;
+            let length = self.take(&message)?;
+            self.stream.write_all(&self.out[..length])?;
+            self.ask()?;
+            if asking && self.indexes > 0 && self.asks.is_empty() {
+                asking = false;
+                self.finish()?;
+            }
+        }
+        Ok(self.report)
+    }
+
+    /// Does what a message asks for, and gives the length of the reply in `out`: 0 if there is none.
+    fn take(&mut self, message: &[u8]) -> io::Result<usize> {
+        match read(message)?.message {
+            Message::Index(_) if self.indexes == 0 => self.plan(message)?,
+            Message::Index(_) => self.indexes += 1, // what has changed since is for the next time
+            Message::Response(_) => self.keep(message)?,
+            Message::Request(_) => return self.respond(message),
+            Message::Ping(ping) => return Ok(write_pong(ping.id, &mut self.out)?),
+            Message::IndexUpdate(_) | Message::Pong(_) | Message::Options(_) => {}
+        }
+        Ok(0)
+    }
+
+    /// Works out which files to copy, and which of their blocks to ask for.
+    fn plan(&mut self, index: &[u8]) -> io::Result<()> {
+        let (ours, none) = (self.folder.ours(), Table::EMPTY);
+        let (mut theirs, mut merged) = (vec![0; MAX_TABLE], vec![0; MAX_TABLE]);
+        let theirs = accept(none, index, REPOSITORY, &mut theirs)?;
+        for (number, new) in merge(ours, theirs, &mut merged)? {
+            let held = ours.find(new.name).is_some_and(|(_, old)| old == new);
+            if held || new.flags.is_deleted() || new.flags.is_invalid() {
+                continue;
+            }
+            match self.folder.begin(&new) {
+                Ok(file) => drop(self.incoming.insert(number as u32, file)),
+                Err(why) => self.report.note(new.name, Err(why)),
+            }
+        }
+        let mut list = vec![0; MAX_REQUEST_LIST];
+        let list = request_list(ours, [theirs, none, none, none], &mut list)?;
+        let begun = |wanted: &Wanted| self.incoming.contains_key(&wanted.file);
+        self.asks = list.iter().filter(begun).collect();
+        self.indexes = 1;
+        Ok(())
+    }
+
+    /// Asks for as much as may be outstanding; the rest waits for answers.
+    fn ask(&mut self) -> io::Result<()> {
+        while let Some(wanted) = self.asks.get(self.queue.outstanding()) {
+            let (file, queue) = (&self.incoming[&wanted.file], &mut self.queue);
+            let (offset, length, hash) = (wanted.offset, wanted.length, file.hash(wanted.block));
+            match queue.issue(REPOSITORY, &file.name, offset, length, hash, &mut self.out) {
+                Ok(issued) => self.stream.write_all(&self.out[..issued.written])?,
+                Err(Refusal::WindowFull | Refusal::AllowanceFull) => break,
+                Err(refusal) => return Err(refusal.into()),
+            }
+        }
+        Ok(())
+    }
+
+    /// Replies to a Request, with data exactly if our table has that block there.
+    fn respond(&mut self, request: &[u8]) -> io::Result<usize> {
+        match serve(self.folder.ours(), REPOSITORY, request, &mut self.out)? {
+            Serving::Replied(length) => Ok(length),
+            Serving::Served {
+                id,
+                name,
+                offset,
+                length,
+            } => {
+                // Where the file is gone since the scan, a Response without data says so.
+                let data = self.folder.block(name, offset, length).unwrap_or_default();
+                Ok(write_response(id, &data, &mut self.out)?)
+            }
+        }
+    }
+
+    /// Keeps a block that was asked for, if it is the right one.
+    fn keep(&mut self, response: &[u8]) -> io::Result<()> {
+        let outcome = self.queue.answer(response)?.outcome;
+        let wanted = self.asks.pop_front().expect("the queue has it too");
+        let file = self.incoming.get_mut(&wanted.file).expect("it was begun");
+        match outcome {
+            Outcome::Data(data) if sha256::sha256(data) == *file.hash(wanted.block) => {
+                self.report.received += data.len();
+                file.write(wanted.offset, data)?;
+            }
+            Outcome::Data(_) => file.fault = Some("a block isn't what its hash says"),
+            Outcome::NotAvailable => file.fault = Some("a block isn't available"),
+            Outcome::WrongSize => file.fault = Some("a block has another length"),
+        }
+        Ok(())
+    }
+
+    /// Puts the files in their places, now that no old one is needed for its blocks, and tells of it.
+    fn finish(&mut self) -> io::Result<()> {
+        for file in self.incoming.values() {
+            self.report.note(&file.name, self.folder.finish(file));
+        }
+        self.folder.scan()?;
+        self.send_index()
+    }
+
+    fn send_index(&mut self) -> io::Result<()> {
+        let files = self.folder.ours().as_bytes();
+        let length = write_index(0, REPOSITORY, files, &mut self.out)?;
+        self.stream.write_all(&self.out[..length])
+    }
+}
+
+/// Runs both sides, each in a thread of its own.
+pub fn copy(first: &Path, second: &Path) -> io::Result<[Report; 2]> {
+    let listener = TcpListener::bind((Ipv4Addr::LOCALHOST, 0))?;
+    let near = TcpStream::connect(listener.local_addr()?)?;
+    let (far, _) = listener.accept()?;
+    let (first, second) = (Folder::open(first)?, Folder::open(second)?);
+    thread::scope(|scope| {
+        let other = scope.spawn(|| exchange(second, far));
+        let report = exchange(first, near)?;
+        Ok([report, other.join().expect("it doesn't panic")?])
+    })
+}
+
+fn main() -> io::Result<()> {
+    let mut folders: Vec<PathBuf> = env::args_os().skip(1).map(PathBuf::from).collect();
+    if folders.is_empty() {
+        folders = folder::samples()?.into();
+    }
+    let [first, second] = folders.as_slice() else {
+        return Err(io::Error::other("name two folders, or none"));
+    };
+    for (folder, report) in [first, second].into_iter().zip(copy(first, second)?) {
+        println!("{}: {} bytes came", folder.display(), report.received);
+        report.copied.iter().for_each(|name| println!("  {name}"));
+        report.left.iter().for_each(|why| println!("  not {why}"));
+    }
+    Ok(())
+}
