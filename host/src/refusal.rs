@@ -212,17 +212,75 @@ mod tests {
     use super::*;
     use std::collections::HashSet;
 
+    /// The numbers as document 01 has them in its table.
+    const TABLE: [(&str, Refusal); 22] = [
+        ("the field isn't wholly there", Refusal::Incomplete(12)),
+        ("version not 0", Refusal::Version(12)),
+        ("type not 1 to 7", Refusal::Type(12)),
+        ("reserved not 0", Refusal::Reserved(12)),
+        (
+            "a length or count is above its limit",
+            Refusal::AboveLimit(12),
+        ),
+        ("a pad byte isn't zero", Refusal::Pad(12)),
+        ("text rule broken", Refusal::Text(12)),
+        ("empty Name", Refusal::EmptyName(12)),
+        ("hash length isn't 32", Refusal::HashLength(12)),
+        (
+            "the Length of a block or Request is 0 or above 131,072",
+            Refusal::Length(12),
+        ),
+        ("a reserved flag is set", Refusal::Flag(12)),
+        (
+            "D with a block count above 0",
+            Refusal::DeletedWithBlocks(12),
+        ),
+        (
+            "a name stands twice in the message",
+            Refusal::RepeatedName(12),
+        ),
+        ("the answer is longer than the lent buffer", Refusal::NoRoom),
+        (
+            "bytes given as a table aren't a good table",
+            Refusal::BadTable,
+        ),
+        ("outstanding count equals the window", Refusal::WindowFull),
+        (
+            "outstanding bytes plus Length exceed the allowance",
+            Refusal::AllowanceFull,
+        ),
+        ("another type than the call takes", Refusal::OtherType),
+        (
+            "the resulting table is above 512 records or 65,536 bytes",
+            Refusal::TableTooLarge,
+        ),
+        (
+            "not the ID of the oldest outstanding request",
+            Refusal::NotOldest,
+        ),
+        (
+            "another Repository than the call names",
+            Refusal::OtherRepository,
+        ),
+        (
+            "window not 1 to 16, or a desk that isn't sound",
+            Refusal::Unsound,
+        ),
+    ];
+
     #[test]
     fn each_number_is_a_case_with_a_sentence_of_its_own() {
-        let all: Vec<_> = (1..=22).map(|number| Refusal::new(number, 12)).collect();
-        for (refusal, number) in all.iter().zip(1..) {
+        let mut sentences = HashSet::new();
+        for ((meaning, refusal), number) in TABLE.into_iter().zip(1..) {
+            assert_eq!(Refusal::new(number, 12), refusal, "{meaning}");
             assert_eq!(refusal.number(), number);
             assert_eq!(refusal.place(), if number < 14 { 12 } else { 0 });
             assert!(refusal.to_string().contains(&format!("({number})")));
+            sentences.insert(refusal.to_string());
         }
-        let sentences: HashSet<_> = all.iter().map(Refusal::to_string).collect();
         assert_eq!(sentences.len(), 22);
-        assert_eq!(all[7].to_string(), "the Name is empty (8), at byte 12");
-        assert_eq!(all[14].to_string(), "the bytes aren't a good table (15)");
+        let said = |number| Refusal::new(number, 12).to_string();
+        assert_eq!(said(8), "the Name is empty (8), at byte 12");
+        assert_eq!(said(15), "the bytes aren't a good table (15)");
     }
 }

@@ -71,7 +71,7 @@ module _ (id : ℕ) (h : id ≤ 4095) where
   unfolding read encode allZero writingBody
   reply-writing = by-body id 3 (responseBytes []) (omega arith) (omega arith) ∙ simp (le-leb id 4095 h) (ap (λ (l : List ℕ). asRead {A = List ℕ} l (taken [] 8)) reply-bytes)
 
--- a Request that is not ours gets the reply under its ID: its eight bytes are filled in, or there is no room for them
+-- a Request that is not ours: what there is to fill in is the reply's eight bytes, under its ID
 pub unserved-replied : (t repository s : List ℕ) (id : ℕ) (x : RequestSpan) → isGood t ≡ true → messageIn s ≡ M.Request id x → isOurs t repository s x ≡ false
     → rulingOf t repository s ≡ fills (gives (replyBytes id))
 unserved-replied t repository s id x g e o =

@@ -50,7 +50,7 @@ abbrev pub OptionsFrom : (s : List ℕ) → (at : ℕ) → List KeyValue → Typ
 OptionsFrom s at [] = (at ≡ length s) × (optionOf s at ≡ P.Short)
 OptionsFrom s at (o ∷ os) = (g : OptionFields) × (optionOf s at ≡ P.Whole g) × ShowsOption s g o × OptionsFrom s (g .past) os
 
--- an array begins with its count, so its first element is at 4
+-- walking the array of a message gives what was read; its first element is at 4, behind the count; the other kinds have no array
 abbrev pub Walked : (s : List ℕ) → (k : Kind) → Body k → Message → Type 0
 Walked s isIndex b a = (id : ℕ) × (x : IndexSpan) × (a ≡ M.Index id x) × FilesFrom (spanBytes s (x .files)) 4 (b .1)
 Walked s isRequest b a = Unit {0}

@@ -1,4 +1,4 @@
--- Calls on a queue in a row, each given the queue that the one before handed back, and what holds after them: the events are those of its link.
+-- Calls on a queue in a row, each given the queue that the one before handed back, and what holds after them; events are as in link's History.
 use Prim.Native.Nat.{ℕ, _≤_}
 use mathlib.Core.Bool.{Bool, true, false}
 use mathlib.Core.List.{List, [], _∷_}
@@ -34,7 +34,7 @@ queueAfter q (issue r n o size h room) = record { link = issuedLink (q .link) si
 queueAfter q (answer s) = answerOf q (messageIn s) .queue
 queueAfter q drop = dropOf q .queue
 
--- the event that a call is
+-- the event of a call; an issue's ID is the one that it hands back (`Issues.id`, link's OneLink)
 abbrev pub queueEvent : RequestQueue → Call → Event
 queueEvent q (issue r n o size h room) = issueWas (q .link .next) size (inRoom room (issueOutcome q (requestBytes r n o size h) size))
 queueEvent q (answer s) = answerWas (responseIn (messageIn s)) (answerOf q (messageIn s) .release)
@@ -45,7 +45,7 @@ abbrev pub queueFinal : RequestQueue → List Call → RequestQueue
 queueFinal q [] = q
 queueFinal q (c ∷ cs) = queueFinal (queueAfter q c) cs
 
--- the events that some calls are
+-- the events of some calls
 abbrev pub queueHistory : RequestQueue → List Call → List Event
 queueHistory q [] = []
 queueHistory q (c ∷ cs) = queueEvent q c ∷ queueHistory (queueAfter q c) cs
@@ -77,7 +77,7 @@ abbrev pub wordsFinal : List ℕ → List Call → List ℕ
 wordsFinal ws [] = ws
 wordsFinal ws (c ∷ cs) = wordsFinal (wordsAfter ws c) cs
 
--- the events that some calls are
+-- the events of some calls
 abbrev pub wordsHistory : List ℕ → List Call → List Event
 wordsHistory ws [] = []
 wordsHistory ws (c ∷ cs) = queueEvent (queueOf ws) c ∷ wordsHistory (wordsAfter ws c) cs

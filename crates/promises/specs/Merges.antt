@@ -79,7 +79,7 @@ AllAllowed s (e ∷ es) = Allowed s e × AllAllowed (step s e) es
 abbrev pub mergedTable : List (List ℕ) → List ℕ
 mergedTable ts = tableOf (mergedOf (map records ts))
 
--- what is claimed of all slices
+-- what is claimed of all slices at hand
 pub record Kept (s : State) : Type 0 where
   -- the origins of a result are good tables
   pub results : (x : Slice) → List·Memᴰ x (s .slices) → x .isResult ≡ true → allGood (x .origins) ≡ true

@@ -28,7 +28,7 @@ pub record Missing (highs local : List File) : Type 0 where
   -- and of whose Length and hash no valid, undeleted local record lists a block
   pub unheld : (f : File) → List·Memᴰ f local → (b : Block) → List·Memᴰ b (listed f) → b .size ≡ block .size → b .hash ≡ block .hash → ⊥
 
--- peer k lists it there
+-- peer k lists it there (the local table stands at 0, so that peers count from 1)
 abbrev pub isListedBy : {highs local : List File} → (peers : List (List File)) → Missing highs local → ℕ → Bool
 isListedBy {highs} {local} peers m k = listsThere (getD (local ∷ peers) k []) (m .highest .name) (totalSize (m .front)) (m .block)
 

@@ -79,7 +79,7 @@ encodedOnly aPong = aPong
 encodedOnly (anIndexUpdate r f) = anIndexUpdate r (arrayIn (files filesLimit) f)
 encodedOnly (someOptions o) = someOptions (arrayIn (options optionsLimit) o)
 
--- an array is given as bytes
+-- where an array is given, its bytes are bytes (below 256)
 abbrev pub ArrayOfBytes : MessageFields → Type 0
 ArrayOfBytes (anIndex r f) = IsBytes f
 ArrayOfBytes (aRequest r n o size h) = Unit {0}
@@ -89,7 +89,7 @@ ArrayOfBytes aPong = Unit {0}
 ArrayOfBytes (anIndexUpdate r f) = IsBytes f
 ArrayOfBytes (someOptions o) = IsBytes o
 
--- what is written reads back to the same fields, whatever follows it
+-- what is written reads back to the same fields, whatever bytes follow it (what is written is bytes wherever the fields are and the numbers fit)
 abbrev pub ReadsBack : (id : ℕ) → MessageFields → Type 0
 ReadsBack id fields = (room : ℕ) (l u : List ℕ) → IsBytes (l ++ u) → inRoom room (writtenOf id fields) ≡ gives l → found (l ++ u) ≡ finds id (encodedOnly fields) (length l)
 

@@ -1,4 +1,4 @@
--- A Request is served exactly if the Repository that it names is ours and our own table lists that block there; otherwise it gets the reply.
+-- By a good table a Request is served exactly if the Repository that it names is ours and our own table lists that block there; otherwise it gets the reply.
 use Prim.Native.Nat.{ℕ, _/_, _%_}
 use mathlib.Core.List.{List, [], _∷_}
 use mathlib.Core.Bool.{true}
@@ -19,7 +19,7 @@ replyBytes id = id / 256 ∷ id % 256 ∷ 3 ∷ 0 ∷ 0 ∷ 0 ∷ 0 ∷ 0 ∷ []
 abbrev pub IsForUs : (table repository : List ℕ) → RequestBody → Type 0
 IsForUs table repository b = (b .repository ≡ repository) × (listsThere (records table) (b .name) (b .offset) (blockWith (b .size) (b .hash)) ≡ true)
 
--- the ruling on bytes that were read as a Request with an ID and fields
+-- the ruling by a good table on bytes that were read as a Request with an ID and fields
 pub record ServedExactly (table repository s : List ℕ) (id : ℕ) (b : RequestBody) : Type 0 where
   -- it is served, with its own Name, Offset and Length, if it is for us
   pub if : IsForUs table repository b → (name : Span) × (rulingOf table repository s ≡ serves name (b .offset) (b .size)) × (spanBytes s name ≡ b .name)

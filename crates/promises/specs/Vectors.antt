@@ -9,7 +9,7 @@ use Rattle.message.specs.declared.answer.Message.the-variants as M
 use Rattle.table.specs.Newest.{compareFiles}
 use Rattle.order.specs.declared.compare.Order.the-variants.{Greater}
 
--- bytes with what reading them answers; or Modified of two records, the first of which is the newer one whatever else they say
+-- bytes with what reading them answers; or the Modified of two records, of which the first is the newer whatever else they say
 pub data Vector : Type 0 where
   answers : List ℕ → Message → Vector
   newer : (modified other : ℕ) → Vector
