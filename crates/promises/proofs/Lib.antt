@@ -15,3 +15,5 @@ mod BelongLaws
 pub mod Accepting
 pub mod RoundTrips
 pub mod Elements
+pub mod Arrived
+pub mod SampleArrived

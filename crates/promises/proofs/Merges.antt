@@ -51,18 +51,18 @@ stays r (y ∷ ys) x m a = go (isApart (y .region) r) refl (λ k. stays r ys x k
 
 -- the records of origins
 
-abbrev Origins : List (List ℕ) → Type 0
+abbrev pub Origins : List (List ℕ) → Type 0
 Origins ts = AllOK (joined (map records ts))
 
-good-append : (ts us : List (List ℕ)) → allGood ts ≡ true → allGood us ≡ true → allGood (ts ++ us) ≡ true
+pub good-append : (ts us : List (List ℕ)) → allGood ts ≡ true → allGood us ≡ true → allGood (ts ++ us) ≡ true
 good-append [] us p q = q
 good-append (t ∷ ts) us p q = let b = both-true (isGood t) (allGood ts) p in rw (b .0) (good-append ts us (b .1) q)
 
-records-append : (ts us : List (List ℕ)) → Origins ts → Origins us → AllOK (joined (map records ts ++ map records us))
+pub records-append : (ts us : List (List ℕ)) → Origins ts → Origins us → AllOK (joined (map records ts ++ map records us))
 records-append ts us p q f m =
     ⊎-elim (λ k. p f k) (λ k. q f k) (List·Memᴰ·append-cases (joined (map records ts)) (subst (λ (l : List File). List·Memᴰ f l) (joined-append (map records ts) (map records us)) m))
 
-origins-append : (ts us : List (List ℕ)) → Origins ts → Origins us → Origins (ts ++ us)
+pub origins-append : (ts us : List (List ℕ)) → Origins ts → Origins us → Origins (ts ++ us)
 origins-append ts us p q = subst (λ (l : List (List File)). AllOK (joined l)) (sym (map-append records ts us)) (records-append ts us p q)
 
 -- what is known of a slice: it is a starting slice and no good table, or a good table of its origins' merged records
@@ -199,7 +199,7 @@ in-joined [] t f i m = absurd (List·Memᴰ·not-nil i)
 in-joined (u ∷ us) t f i m =
     ⊎-elim (λ e. Memᴰ·append-left (joined (map records us)) (subst (λ (v : List ℕ). List·Memᴰ f (records v)) e m)) (λ j. Memᴰ·append-right (records u) (in-joined us t f j m)) (List·Memᴰ·cases-cons i)
 
-same-joined : (ts us : List (List ℕ)) → ((t : List ℕ) → List·Memᴰ t ts → List·Memᴰ t us) → Within (joined (map records ts)) (joined (map records us))
+pub same-joined : (ts us : List (List ℕ)) → ((t : List ℕ) → List·Memᴰ t ts → List·Memᴰ t us) → Within (joined (map records ts)) (joined (map records us))
 same-joined [] us h f m = absurd (List·Memᴰ·not-nil m)
 same-joined (t ∷ ts) us h f m =
     ⊎-elim (λ k. in-joined us t f (h t (List·Memᴰ·head refl)) k) (λ k. same-joined ts us (λ u i. h u (List·Memᴰ·tail i)) f k) (List·Memᴰ·append-cases (records t) m)
@@ -216,3 +216,15 @@ pub whatever-order : (m n : Memory) (rs qs : List Region) (es fs : List Action) 
 whatever-order m n rs qs es fs h k a b x y i j e f s =
     same-known (run (start m rs) es .memory) (run (start n qs) fs .memory) x y e f s
     (run-known (start m rs) es a (start-known m rs h) x i) (run-known (start n qs) fs b (start-known n qs k) y j)
+
+-- what is at hand after some actions, where its origins are good tables
+pub at-hand : (m : Memory) (rs : List Region) (es : List Action) → HoldsBytes m → AllAllowed (start m rs) es → (x : Slice) → x ∈ run (start m rs) es .slices → allGood (x .origins) ≡ true
+    → Origins (x .origins) × GoodTable (bytesIn (run (start m rs) es .memory) (x .region)) (mergedOf (map records (x .origins)))
+at-hand m rs es h a x i e = go (run-known (start m rs) es a (start-known m rs h) x i)
+  where
+    go : Known (run (start m rs) es .memory) x → Origins (x .origins) × GoodTable (bytesIn (run (start m rs) es .memory) (x .region)) (mergedOf (map records (x .origins)))
+    go (bad f b g) = let z : _≡_ {A = ℕ} 0 1 = cc in absurd (omega arith)
+    go (good g o t) = (o, t)
+
+pub kept-finally : (m : Memory) (rs : List Region) (es : List Action) → HoldsBytes m → AllAllowed (start m rs) es → Kept (run (start m rs) es)
+kept-finally m rs es h a = kept (run (start m rs) es) (run-known (start m rs) es a (start-known m rs h))

@@ -11,3 +11,4 @@ pub mod Walking
 pub mod Accepting
 pub mod RoundTrips
 pub mod Elements
+pub mod Arrived

@@ -19,6 +19,12 @@ fn put_block(out: &mut [u8], at: usize, size: u32, hash: u32) {
     }
 }
 
+// A table of one record of Modified 0 without blocks: 32 bytes.
+pub fn old(out: &mut [u8], name: &[u8]) {
+    xdr::put_word(out, 0, 1);
+    put_file(out, 4, name, 0, 0, 0);
+}
+
 // A table of one record of one block: 72 bytes.
 pub fn one(out: &mut [u8], name: &[u8], flags: u32, size: u32, hash: u32) {
     xdr::put_word(out, 0, 1);

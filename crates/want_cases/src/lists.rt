@@ -56,7 +56,7 @@ fn answer(label: &[u8], f: Filling, out: &[u8]) {
 }
 
 // The list of a local table and of peers 1 to 3, in a buffer of so many bytes.
-fn list<'a>(label: &[u8], local: &'a [u8], a: &'a [u8], b: &'a [u8], c: &'a [u8], room: usize) {
+pub fn list<'a>(label: &[u8], local: &'a [u8], a: &'a [u8], b: &'a [u8], c: &'a [u8], room: usize) {
     let mut out = [0xeeu8; 96];
     list_into(&mut out, label, local, a, b, c, room);
 }

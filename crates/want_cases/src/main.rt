@@ -1,4 +1,5 @@
 // Runs tables and Requests through the proved functions and prints one case after another: what was given, and what came out.
+mod arrived;
 mod build;
 mod finds;
 mod lists;
@@ -10,6 +11,7 @@ fn main() {
     lists::held();
     lists::bad();
     lists::full();
+    arrived::run();
     finds::run();
     serving::ours();
     serving::others();
