@@ -3,3 +3,4 @@ pub mod OrderLaws
 pub mod PartLaws
 pub mod WordLaws
 pub mod SameLaws
+mod HashLaws

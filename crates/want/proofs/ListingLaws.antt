@@ -4,18 +4,23 @@ use mathlib.Core.List.{List, [], _∷_}
 use mathlib.Core.Path.{_≡_, refl, sym, ap, _∙_}
 use mathlib.Core.Bool.{Bool, true, false, cond}
 use native.Mathlib.Omega.{arith}
-use lib.ListN.{length, drop}
+use lib.ListN.{length, take, drop, length-drop, length-take}
 use lib.Seq.{drop-drop}
-use Rattle.xdr.proofs.Parts.{Elements}
+use Rattle.xdr.specs.Answers.{wordAnswer}
+use Rattle.xdr.specs.Format.{readAt}
+use Rattle.xdr.specs.Fields.{word}
+use Rattle.xdr.specs.declared.answer.Refusal.{Refusal}
+use Rattle.xdr.specs.declared.answer.Word.{Word}
+use Rattle.xdr.specs.declared.answer.Word.the-variants as W
+use Rattle.xdr.proofs.Answered.{word-taken, word-refused}
+use Rattle.xdr.proofs.NumberLaws.{number-first}
+use Rattle.xdr.proofs.Parts.{Elements, number-value, number-missing}
 use Rattle.record.specs.Block.{Block, block}
 use Rattle.record.specs.File.{File}
-use Rattle.record.specs.Outline.{wordAt, outlineOf, fieldsOf, blockPlace, blockOf}
+use Rattle.record.specs.Outline.{wordAt, outlineOf, fieldsOf, blockPlace}
 use Rattle.record.specs.declared.outline.RecordFields.{RecordFields}
 use Rattle.record.specs.declared.outline.Outline.{Outline}
 use Rattle.record.specs.declared.outline.Outline.the-variants as O
-use Rattle.record.specs.declared.outline.BlockOutline.{BlockOutline}
-use Rattle.record.specs.declared.outline.BlockOutline.the-variants as B
-use Rattle.record.proofs.OutlineLaws.{block-whole}
 use Rattle.record.proofs.BlockLaws.{nth-block}
 use Rattle.record.proofs.FileLaws.{encoding-parts}
 use Rattle.table.specs.Steps.Standing.{bytesOf, At}
@@ -23,20 +28,17 @@ use Rattle.table.proofs.WalkLaws.{at-end, standing}
 use Rattle.want.specs.Listing.{isCurrent, listed}
 use Rattle.want.specs.Steps.Blocks.{blockHere, blocksFrom, listedCount}
 
--- the Length of a block that is there, by the answer that was given
+-- a word that is there, by the answer that was given
 
-pub size-there : (s : List ℕ) (first j : ℕ) {x : BlockOutline} {n at : ℕ} → blockPlace first j + 40 ≤ length s → x ≡ blockOf s first j → x ≡ B.Whole n at → n ≡ wordAt s (blockPlace first j)
-size-there s first j {x} {n} {at} h e f =
-    let w : B.Whole (wordAt s (blockPlace first j)) (blockPlace first j + 8) ≡ blockOf s first j = block-whole s first j (wordAt s (blockPlace first j)) (blockPlace first j + 8) refl refl h in
-    let same : B.Whole n at ≡ B.Whole (wordAt s (blockPlace first j)) (blockPlace first j + 8) = sym f ∙ e ∙ sym w in
-    cc
+module _ (s : List ℕ) (at : ℕ) {w : Word} (e : w ≡ wordAnswer (readAt word (take (at + 4 - at) (drop at s)) 0)) where
+  pub word-there : {n m : ℕ} → w ≡ W.Taken n m → n ≡ wordAt s at
+  unfolding wordAt
+  word-there v = number-value (word-taken e v) ∙ number-first 4 (at + 4 - at) (drop at s) (omega arith)
 
-pub size-missing : (s : List ℕ) (first j : ℕ) {x : BlockOutline} {P : Type 0} → blockPlace first j + 40 ≤ length s → x ≡ blockOf s first j → x ≡ B.Short → P
-size-missing s first j {x} h e f =
-    let w : B.Whole (wordAt s (blockPlace first j)) (blockPlace first j + 8) ≡ blockOf s first j = block-whole s first j (wordAt s (blockPlace first j)) (blockPlace first j + 8) refl refl h in
-    let same : B.Whole (wordAt s (blockPlace first j)) (blockPlace first j + 8) ≡ B.Short = w ∙ sym e ∙ f in
-    let z : _≡_ {A = ℕ} 0 1 = cc in
-    absurd (omega arith)
+  pub word-missing : {f : Refusal} {P : Type 0} → at + 40 ≤ length s → w ≡ W.Refused f → P
+  word-missing h v =
+      let m = number-missing (word-refused e v refl) in
+      absurd (omega (arith, m, length-take (at + 4 - at) (drop at s), length-drop at s))
 
 -- blocks that were read one after another
 blocks-by : (s : List ℕ) (l : List Block) (first next : ℕ) → Elements block s first l next → (m : List Block) (i : ℕ) → drop i l ≡ m → blocksFrom s first i (length m) ≡ m

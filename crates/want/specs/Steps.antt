@@ -1,3 +1,6 @@
 -- What only steps and proofs need.
 pub mod Blocks
 pub mod Places
+pub mod Runs
+pub mod Index
+pub mod Head

@@ -1,7 +1,11 @@
 // Which blocks to request, and from whom.
 pub mod block;
+pub mod head;
+pub mod index;
 pub mod list;
+pub mod peers;
 pub mod places;
+pub mod run;
 pub mod search;
 
 pub use list::request_list;

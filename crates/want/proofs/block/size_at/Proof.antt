@@ -1,0 +1,26 @@
+-- `want::block::size_at` meets its contract.
+use denote.Ref.{now}
+use Rattle.want.proofs.ListingLaws.{word-there, word-missing}
+use borrow.Author.Needs.{needs}
+use Rattle.want.proofs.block.size_at.Statement.{statement}
+use Rattle.want.proofs.block.size_at.Tie as tie
+
+returns : tie.Need-returns
+returns c = let s = c .before .before .before .before .before in word-missing (now (s .args .s)) (s .args .p) (c .before .before .read-word .ensures) (s .pre) (c .enum-told .given .1)
+
+returns-2 : tie.Need-returns-2
+returns-2 c = let s = c .before .before .before .before .before .before in word-there (now (s .args .s)) (s .args .p) (c .before .before .before .read-word .ensures) (c .before .size .given .1)
+
+pub size-at-spec : {M : Type 1} → statement M
+size-at-spec =
+    tie.close
+    (tie.spec
+    (λ c. search needs)
+    (λ c. search needs)
+    (λ c. search needs)
+    (λ c. search needs)
+    (λ c κs. search needs)
+    (λ c. search needs)
+    (λ c. search needs)
+    returns
+    returns-2)
