@@ -29,7 +29,8 @@ use Rattle.want.proofs.CountLaws.{wanted-count, count-few, length-from,
 use Rattle.want.proofs.HeadLaws.{without}
 use Rattle.want.proofs.SideLaws.{peersTotal, total, total-rises, peers-rise, Walk, walk-starts, Turn, turn, turns-end, turn-merges, turn-name, turn-blocks, turn-within, turn-next, turn-among, turn-grows, turn-passes, turn-peers}
 use Rattle.want.proofs.HeldLaws.{own-held}
-use Rattle.want.proofs.RankLaws.{headed-lowest, headed-after}
+use Rattle.want.proofs.RankLaws.{headed-lowest}
+use Rattle.want.proofs.TurnLaws.{headed-after}
 
 abbrev pub localOf : List (List ℕ) → List File
 localOf ts = records (tableAt ts 0)
@@ -231,13 +232,14 @@ module _ {ts : List (List ℕ)} {ps : List ℕ} {n : ℕ} (g : Five ts) (c : Cou
     pub counted-all : x ≡ O.Short → (n ≡ length (listOf ts)) × (n ≤ 327680)
     counted-all e = (c .counted ∙ ap length (done-all (c .so-far) (headed-lowest h) (h .fields-are) e), counted-small)
 
-    module _ {f : RecordFields} (is : x ≡ O.Whole f) {local t : List ℕ} {count m : ℕ} (z : local ≡ tableAt ts 0) (y : t ≡ tableAt ts best) (q : count ≡ soughtOf best f)
-        (r : m ≡ wantedCount (records local) (blocksFrom t (f .first) 0 count)) where
+    module _ {f : RecordFields} (is : x ≡ O.Whole f) {local t : List ℕ} {first count m : ℕ} (z : local ≡ tableAt ts 0) (y : t ≡ tableAt ts best) (p : first ≡ f .first) (q : count ≡ soughtOf best f)
+        (r : m ≡ wantedCount (records local) (blocksFrom t first 0 count)) where
       counted-here : m ≡ length (these (c .so-far) g (headed-lowest h) (h .fields-are) is)
       counted-here =
           r
-          ∙ ap (λ (l : List ℕ). wantedCount (records l) (blocksFrom t (f .first) 0 count)) z
-          ∙ ap (λ (l : List ℕ). wantedCount (localOf ts) (blocksFrom l (f .first) 0 count)) y
+          ∙ ap (λ (l : List ℕ). wantedCount (records l) (blocksFrom t first 0 count)) z
+          ∙ ap (λ (l : List ℕ). wantedCount (localOf ts) (blocksFrom l first 0 count)) y
+          ∙ ap (λ (i : ℕ). wantedCount (localOf ts) (blocksFrom (tableAt ts best) i 0 count)) p
           ∙ ap (λ (i : ℕ). wantedCount (localOf ts) (blocksFrom (tableAt ts best) (f .first) 0 i)) q
           ∙ sym (wanted-count (localOf ts) (peerAt ts ps (part (tableAt ts best) (f .name) (f .stop))) (c .file) 0 0 (blocksFrom (tableAt ts best) (f .first) 0 (soughtOf best f)))
 

@@ -33,7 +33,8 @@ use Rattle.table.proofs.TableLaws.{word-bytes}
 use Rattle.want.proofs.BlockLaws.{read-here}
 use Rattle.want.proofs.PlaceLaws.{element}
 use Rattle.want.proofs.DoneLaws.{localOf, peersOf, Done, done-all, these, later, done-begins, done-turn}
-use Rattle.want.proofs.RankLaws.{headed-lowest, headed-after}
+use Rattle.want.proofs.RankLaws.{headed-lowest}
+use Rattle.want.proofs.TurnLaws.{headed-after}
 
 -- bytes put right behind others
 pub over-put : (out : List ℕ) (at : ℕ) (l m : List ℕ) {o p : List ℕ} {k : ℕ} → o ≡ over out at l → k ≡ at + length l → k + length m ≤ length out → p ≡ put o k m → p ≡ over out at (l ++ m)

@@ -13,6 +13,9 @@ pub mod HeadLaws
 pub mod FirstLaws
 pub mod SideLaws
 pub mod RankLaws
+pub mod FieldLaws
+pub mod NameLaws
+pub mod TurnLaws
 pub mod SameRecordLaws
 pub mod CountLaws
 pub mod PeerLaws

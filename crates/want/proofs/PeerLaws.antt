@@ -117,6 +117,10 @@ runs-inside ts ps past e =
     (run-inside (tableAt ts 3) (placeAt ps 3) (placeAt past 3))
     (run-inside (tableAt ts 4) (placeAt ps 4) (placeAt past 4)))
 
+-- the entries, in a table that is lent
+pub run-lent : (ts : List (List ℕ)) {rs qs : List Run} → rs ≡ qs → (file : ℕ) {t s : List ℕ} → t ≡ s → (first count : ℕ) → wantedRun ts rs file 0 0 t first count ≡ wantedRun ts qs file 0 0 s first count
+run-lent ts {rs} {qs} e file {t} {s} z first count = ap (λ (l : List Run). wantedRun ts l file 0 0 t first count) e ∙ ap (λ (l : List ℕ). wantedRun ts qs file 0 0 l first count) z
+
 -- where a table goes on past a record of a name, its run is what it lists under that name
 run-lists : (name t : List ℕ) (at : ℕ) (offset : ℕ) (b : Block) → hasRun t (runFrom t at (pastName name t at)) offset b ≡ listsAt t at name offset b
 unfolding runFrom pastName listsAt
@@ -157,9 +161,9 @@ module _ (ts : List (List ℕ)) (ps name : List ℕ) {past : List ℕ} (e : past
       (λ i p q. run-of i p (omega arith) offset b)
 
   -- the entries go by what the peers list under the name
-  pub run-wanted : (file : ℕ) {t s : List ℕ} (first : ℕ) {count n : ℕ} → t ≡ s → count ≡ n
-      → wantedRun ts (runsFrom ts ps past) file 0 0 t first count ≡ wantedBlocks (records (tableAt ts 0)) (peerAt ts ps name) file 0 0 (blocksFrom s first 0 n)
-  run-wanted file {t} {s} first {count} {n} z q =
-      ap (λ (l : List ℕ). wantedRun ts (runsFrom ts ps past) file 0 0 l first count) z
-      ∙ ap (wantedRun ts (runsFrom ts ps past) file 0 0 s first) q
-      ∙ same-peers (records (tableAt ts 0)) (peerIn ts (runsFrom ts ps past)) (peerAt ts ps name) peer-same file 0 0 (blocksFrom s first 0 n)
+  pub run-wanted : (file : ℕ) (t : List ℕ) {first at count n : ℕ} → first ≡ at → count ≡ n
+      → wantedRun ts (runsFrom ts ps past) file 0 0 t first count ≡ wantedBlocks (records (tableAt ts 0)) (peerAt ts ps name) file 0 0 (blocksFrom t at 0 n)
+  run-wanted file t {first} {at} {count} {n} z q =
+      ap (λ (i : ℕ). wantedRun ts (runsFrom ts ps past) file 0 0 t i count) z
+      ∙ ap (wantedRun ts (runsFrom ts ps past) file 0 0 t at) q
+      ∙ same-peers (records (tableAt ts 0)) (peerIn ts (runsFrom ts ps past)) (peerAt ts ps name) peer-same file 0 0 (blocksFrom t at 0 n)

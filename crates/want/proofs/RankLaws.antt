@@ -1,5 +1,5 @@
 -- The next name over five tables: what the loop over them keeps.
-use Prim.Native.Nat.{ℕ, _+_, _-_, _≤_, _<_}
+use Prim.Native.Nat.{ℕ, _+_, _≤_, _<_}
 use mathlib.Core.List.{List, [], _∷_}
 use mathlib.Core.Path.{_≡_, refl, sym, ap, subst, _∙_}
 use mathlib.Core.Logic.{_⊎_, inl, inr}
@@ -12,7 +12,7 @@ use Rattle.record.specs.Outline.{outlineOf}
 use Rattle.record.specs.declared.outline.RecordFields.{RecordFields}
 use Rattle.record.specs.declared.outline.Outline.{Outline}
 use Rattle.record.specs.declared.outline.Outline.the-variants as O
-use Rattle.order.specs.Order.{isEqual, compareLists}
+use Rattle.order.specs.Order.{isEqual, compareLists, part}
 use Rattle.order.specs.declared.compare.Order.{Order}
 use Rattle.order.specs.declared.compare.Order.the-variants.{Less, Equal, Greater}
 use Rattle.order.proofs.OrderLaws.{Below, equal-same, below-trans, below-irrefl, below-asym, greater-above}
@@ -278,8 +278,14 @@ module _ {ts : List (List ℕ)} {ps : List ℕ} {k best : ℕ} {f : Outline} {pa
 pub rank-names : {x n m : Order} (o : Order) → x ≡ n → x ≡ m → rankIn n o ≡ rankIn m o
 rank-names o e f = ap (λ (y : Order). rankIn y o) (sym e ∙ f)
 
-pub rank-records : {x m y v u : Order} → x ≡ Equal → x ≡ m → y ≡ v → y ≡ u → rankIn Equal v ≡ rankIn m u
-rank-records {u = u} e f g h = ap (rankIn Equal) (sym g ∙ h) ∙ ap (λ (z : Order). rankIn z u) (sym e ∙ f)
+pub rank-records : {y v u : Order} → y ≡ v → y ≡ u → rankIn Equal v ≡ rankIn Equal u
+rank-records g h = ap (rankIn Equal) (sym g ∙ h)
+
+pub rank-equal : (a : List ℕ) (f : RecordFields) (b : List ℕ) {g h : RecordFields} {x m : Order} {r : Rank} → x ≡ Equal → x ≡ m → r ≡ rankIn Equal (compareAt a f b g) → g ≡ h → r ≡ rankIn m (compareAt a f b h)
+rank-equal a f b {g} {h} e n q k = q ∙ ap (λ (y : RecordFields). rankIn Equal (compareAt a f b y)) k ∙ ap (λ (o : Order). rankIn o (compareAt a f b h)) (sym e ∙ n)
+
+pub names-by : {x l : List ℕ} (b : List ℕ) (from : ℕ) {y : List ℕ} {to end : ℕ} {o : Order} → x ≡ l → y ≡ part b from to → to ≡ end → o ≡ compareLists x y → o ≡ compareLists l (part b from end)
+names-by {x} {l} b from {y} p q e c = c ∙ ap (λ (z : List ℕ). compareLists z y) p ∙ ap (compareLists l) (q ∙ ap (part b from) e)
 
 module _ (a b : List ℕ) {f g : Outline} {y : RecordFields} (k : g ≡ O.Whole y) where
   pub stands-after : f ≡ O.Short → After ≡ rankOf a f b g
@@ -293,8 +299,11 @@ module _ (a b : List ℕ) {f g : Outline} {y : RecordFields} (k : g ≡ O.Whole 
 pub outline-in : {s t : List ℕ} (at : ℕ) {g : Outline} → g ≡ outlineOf s at → s ≡ t → g ≡ outlineOf t at
 outline-in at e k = e ∙ ap (λ (l : List ℕ). outlineOf l at) k
 
-pub rank-in : {a b s t : List ℕ} (f g : Outline) {r : Rank} → r ≡ rankOf a f b g → a ≡ s → b ≡ t → r ≡ rankOf s f t g
-rank-in {a} {b} {s} f g e k l = e ∙ ap (λ (x : List ℕ). rankOf x f b g) k ∙ ap (λ (x : List ℕ). rankOf s f x g) l
+pub rank-in : {a b s t : List ℕ} (f : Outline) (at : ℕ) {r : Rank} → r ≡ rankOf a f b (outlineOf b at) → a ≡ s → b ≡ t → r ≡ rankOf s f t (outlineOf t at)
+rank-in {a} {b} {s} f at e k l = e ∙ ap (λ (x : List ℕ). rankOf x f b (outlineOf b at)) k ∙ ap (λ (x : List ℕ). rankOf s f x (outlineOf x at)) l
+
+pub past-in : {g h : Outline} {x : ℕ} (at : ℕ) → x ≡ pastOf g at → g ≡ h → x ≡ pastOf h at
+past-in at e k = e ∙ ap (λ (o : Outline). pastOf o at) k
 
 pub head-as : {ts : List (List ℕ)} {ps : List ℕ} {k b c : ℕ} {f g : Outline} {l m : List ℕ} → Headed ts ps k b f l → c ≡ b → g ≡ f → m ≡ l → Headed ts ps k c g m
 head-as {ts} {ps} {k} {b} {c} {f} {g} {l} {m} w p q r =
@@ -321,6 +330,3 @@ pub headed-past : {ts : List (List ℕ)} {ps : List ℕ} {b : ℕ} {f : RecordFi
 headed-past {l = l} w =
     five-places l (w .long)
     ∙ five (w .behind 0 (omega arith) .is) (w .behind 1 (omega arith) .is) (w .behind 2 (omega arith) .is) (w .behind 3 (omega arith) .is) (w .behind 4 (omega arith) .is)
-
-pub headed-after : {ts : List (List ℕ)} {ps : List ℕ} {b : ℕ} {x : Outline} {f : RecordFields} {l : List ℕ} → Headed ts ps 5 b x l → x ≡ O.Whole f → l ≡ placesAfter ts ps (nameAt (tableAt ts b) f)
-headed-after {ts} {ps} {b} {x} {f} {l} w e = headed-past (subst (λ (y : Outline). Headed ts ps 5 b y l) e w)

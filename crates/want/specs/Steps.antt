@@ -4,3 +4,4 @@ pub mod Places
 pub mod Runs
 pub mod Index
 pub mod Head
+pub mod Turn

@@ -2,7 +2,17 @@
 ghost use mathlib.Core.List.{map};
 ghost use mathlib.Core.Path.{_≡_};
 ghost use mathlib.Core.Bool.{true};
-ghost use Rattle.want.specs.Steps.Head.{Ordered, AlikeFields, rankBy, rankOf, pastOf, AllStand, Headed};
+ghost use Prim.Native.Nat.{_≤_};
+ghost use lib.ListN.{length};
+ghost use Rattle.record.specs.Outline.{outlineOf};
+ghost use Rattle.order.specs.declared.compare.Order.the-variants.{Equal};
+ghost use Rattle.order.specs.Order.{part};
+ghost use Rattle.table.specs.Newest.{compareAt};
+ghost use Rattle.want.specs.Steps.Head.{fieldsAt, Stands, Stood, Kept, AlikeFields, rankIn, rankBy, rankOf, pastOf, AllStand, Headed};
+use crate::fields::fields_at;
+use crate::fields::name_stop;
+use crate::fields::record_at;
+use crate::names::compare_names;
 use order::Order;
 use record::Outline;
 use record::RecordFields;
@@ -22,91 +32,88 @@ pub struct Head {
     pub past: [usize; 5],
 }
 
-// Whether the parts of a record follow each other.
-fn is_ordered(f: RecordFields) -> bool
-    ensures { λ r. ⌜ (r ≡ true → Ordered f) ⌝ }
+// The bytes from one place to another.
+fn between(s: &[u8], from: usize, to: usize) -> &[u8]
+    requires { ⌜ (from ≤ to) × (to ≤ length (now s)) ⌝ }
+    ensures { λ r. ⌜ now r ≡ part (now (s .entry)) from to ⌝ }
 {
-    if f.stop < f.name {
-        return false;
-    }
-    if f.rest < f.stop {
-        return false;
-    }
-    f.rest <= f.past
+    &s[from..to]
 }
 
-// Whether two records have the same numbers, and names that are as long.
+// Whether two records have the same numbers.
 fn is_alike(f: RecordFields, g: RecordFields) -> bool
-    requires { ⌜ Ordered f × Ordered g ⌝ }
     ensures { λ r. ⌜ (r ≡ true → AlikeFields f g) ⌝ }
 {
-    if f.stop - f.name != g.stop - g.name {
-        return false;
-    }
-    if f.rest - f.name != g.rest - g.name {
-        return false;
-    }
     if f.modified != g.modified {
         return false;
     }
     if f.version != g.version {
         return false;
     }
+    if f.blocks != g.blocks {
+        return false;
+    }
     f.flags == g.flags
 }
 
-// Whether two records are the same, byte for byte: no only means that it is not known.
+// Whether two records are the same, byte for byte from Flags on: no only means that it is not known.
 fn is_same(a: &[u8], f: RecordFields, b: &[u8], g: RecordFields) -> bool
-    ensures { λ r. ⌜ (r ≡ true → rankBy (now (a .entry)) f (now (b .entry)) g ≡ Rank.Same) ⌝ }
+    requires { ⌜ Stood (now a) f ⌝ }
+    requires { ⌜ Stood (now b) g ⌝ }
+    ensures { λ r. ⌜ (r ≡ true → compareAt (now (a .entry)) f (now (b .entry)) g ≡ Equal) ⌝ }
 {
-    if !is_ordered(f) {
-        return false;
-    }
-    if !is_ordered(g) {
-        return false;
-    }
     if !is_alike(f, g) {
         return false;
     }
-    order::compare_parts(a, f.name, f.past, b, g.name, g.past).is_equal()
+    if f.blocks == 0 {
+        return true;
+    }
+    order::compare_long(between(a, f.first, f.past), between(b, g.first, g.past)).is_equal()
 }
 
-// Two records, each in its own bytes.
-fn ranked(a: &[u8], f: RecordFields, b: &[u8], g: RecordFields) -> Rank
-    ensures { λ r. ⌜ r ≡ rankBy (now (a .entry)) f (now (b .entry)) g ⌝ }
+// Two records of one name, each in its own bytes.
+fn by_records(a: &[u8], f: RecordFields, b: &[u8], g: RecordFields) -> Rank
+    requires { ⌜ Stood (now a) f ⌝ }
+    requires { ⌜ Stood (now b) g ⌝ }
+    ensures { λ r. ⌜ r ≡ rankIn Equal (compareAt (now (a .entry)) f (now (b .entry)) g) ⌝ }
 {
     if is_same(a, f, b, g) {
         return Rank::Same;
     }
-    by_parts(a, f, b, g)
+    match table::compare_records(a, f, b, g) {
+        Order::Less => Rank::Newer,
+        Order::Equal => Rank::Same,
+        Order::Greater => Rank::Same,
+    }
 }
 
-// Two records by their parts, each in its own bytes.
-fn by_parts(a: &[u8], f: RecordFields, b: &[u8], g: RecordFields) -> Rank
-    ensures { λ r. ⌜ r ≡ rankBy (now (a .entry)) f (now (b .entry)) g ⌝ }
+// A record, and the one at a place of other bytes.
+fn ranked(a: &[u8], f: RecordFields, b: &[u8], at: usize) -> Rank
+    requires { ⌜ Stood (now a) f ⌝ }
+    requires { ⌜ Stood (now b) (fieldsAt (now b) at) ⌝ }
+    ensures { λ r. ⌜ r ≡ rankBy (now (a .entry)) f (now (b .entry)) (fieldsAt (now (b .entry)) at) ⌝ }
 {
-    match order::compare_parts(a, f.name, f.stop, b, g.name, g.stop) {
+    let stop = name_stop(b, at);
+    match compare_names(between(a, f.name, f.stop), between(b, at + 4, stop)) {
         Order::Less => Rank::Before,
         Order::Greater => Rank::After,
-        Order::Equal => match table::compare_records(a, f, b, g) {
-            Order::Less => Rank::Newer,
-            Order::Equal => Rank::Same,
-            Order::Greater => Rank::Same,
-        },
+        Order::Equal => by_records(a, f, b, fields_at(b, at)),
     }
 }
 
 // The same where one of them may be none.
-fn standing(a: &[u8], f: Outline, b: &[u8], g: Outline) -> Rank
-    ensures { λ r. ⌜ r ≡ rankOf (now (a .entry)) f (now (b .entry)) g ⌝ }
+fn standing(a: &[u8], f: Outline, b: &[u8], at: usize) -> Rank
+    requires { ⌜ Kept (now a) f ⌝ }
+    requires { ⌜ Stands (now b) at ⌝ }
+    ensures { λ r. ⌜ r ≡ rankOf (now (a .entry)) f (now (b .entry)) (outlineOf (now (b .entry)) at) ⌝ }
 {
-    let Outline::Whole(y) = g else {
+    if b.len() <= at {
         return Rank::Before;
-    };
+    }
     let Outline::Whole(x) = f else {
         return Rank::After;
     };
-    ranked(a, x, b, y)
+    ranked(a, x, b, at)
 }
 
 // Where a table goes on after its record, or where it is.
@@ -125,27 +132,28 @@ pub(crate) fn next_head(tables: [&[u8]; 5], places: [usize; 5]) -> Head
     ensures { λ r. ⌜ Headed (map now (tables .entry)) places 5 (r .best) (r .fields) (r .past) ⌝ }
 {
     let mut best = 0;
-    let mut fields = record::outline_at(tables[0], places[0]);
+    let mut fields = record_at(tables[0], places[0]);
     let mut past = places;
     past[0] = past_of(fields, places[0]);
     let mut k = 1;
     while k < 5 {
-        let g = record::outline_at(tables[k], places[k]);
-        match standing(tables[best], fields, tables[k], g) {
+        let t = tables[k];
+        let at = places[k];
+        match standing(tables[best], fields, t, at) {
             Rank::Before => {}
             Rank::Same => {
-                past[k] = past_of(g, places[k]);
+                past[k] = past_of(record_at(t, at), at);
             }
             Rank::Newer => {
                 best = k;
-                fields = g;
-                past[k] = past_of(g, places[k]);
+                fields = record_at(t, at);
+                past[k] = past_of(fields, at);
             }
             Rank::After => {
                 best = k;
-                fields = g;
+                fields = record_at(t, at);
                 past = places;
-                past[k] = past_of(g, places[k]);
+                past[k] = past_of(fields, at);
             }
         }
         k += 1;

@@ -2,7 +2,7 @@
 ghost use mathlib.Core.Path.{_≡_};
 ghost use mathlib.Core.Bool.{true, cond};
 ghost use mathlib.Core.List.{[], _∷_, map};
-ghost use Prim.Native.Nat.{_+_, _≤_};
+ghost use Prim.Native.Nat.{_+_, _≤_, _<_};
 ghost use lib.ListN.{length};
 ghost use lib.Dec.{leb};
 ghost use Rattle.xdr.specs.Buffer.{over, filled};
@@ -13,21 +13,19 @@ ghost use Rattle.want.specs.Listing.{isHeld};
 ghost use Rattle.want.specs.Steps.Blocks.{blockHere, blocksFrom};
 ghost use Rattle.want.specs.Wanted.{wantedBytes, listBytes, requestOutcome};
 ghost use Rattle.want.specs.Steps.Index.{Serves};
-ghost use Rattle.want.specs.Steps.Places.{tableAt, soughtOf, wantedCount, Begun, Five, listOf};
-ghost use Rattle.want.specs.Steps.Runs.{runsFrom, Along, InTables, wantedHere, wantedRun};
+ghost use Rattle.want.specs.Steps.Places.{tableAt, wantedCount, Begun, Five, listOf};
+ghost use Rattle.want.specs.Steps.Runs.{Along, InTables, wantedHere, wantedRun, wantedTurn};
 use crate::block::hash_at;
-use crate::block::listed;
 use crate::block::place;
 use crate::block::size_at;
-use crate::head::next_head;
 use crate::index::build;
 use crate::index::holds;
 use crate::index::served;
 use crate::peers::ask;
 use crate::peers::runs_at;
 use crate::run::Run;
-use record::Outline;
-use record::RecordFields;
+use crate::turn::Turn;
+use crate::turn::next_turn;
 use xdr::Filling;
 
 // A block to ask for: its file's number and its own, its offset and Length, and the peer.
@@ -75,16 +73,6 @@ fn count_blocks(local: &[u8], index: &[u16], t: &[u8], first: usize, blocks: u32
     n
 }
 
-// How many of a record's blocks may be missing: none of those that the local table, which is number 0, lists itself.
-fn sought(best: usize, f: RecordFields) -> u32
-    ensures { λ r. ⌜ r ≡ soughtOf best f ⌝ }
-{
-    if best == 0 {
-        return 0;
-    }
-    listed(f)
-}
-
 // The first record with blocks that may be missing, by where the tables then are and how many names come before it; or that there is none.
 fn seek(tables: [&[u8]; 5]) -> Start
     requires { ⌜ Five (map now tables) ⌝ }
@@ -93,23 +81,22 @@ fn seek(tables: [&[u8]; 5]) -> Start
     let mut places = [4; 5];
     let mut file = 0;
     loop {
-        let head = next_head(tables, places);
-        let fields = head.fields;
-        let Outline::Whole(f) = fields else {
+        let turn = next_turn(tables, places);
+        if turn.ended {
             return Start {
                 places,
                 file,
                 ended: true,
             };
-        };
-        if sought(head.best, f) != 0 {
+        }
+        if turn.count != 0 {
             return Start {
                 places,
                 file,
                 ended: false,
             };
         }
-        places = head.past;
+        places = turn.past;
         file += 1;
     }
 }
@@ -124,14 +111,13 @@ fn count(tables: [&[u8]; 5], index: &[u16], start: Start) -> usize
     let mut places = start.places;
     let mut n = 0;
     loop {
-        let head = next_head(tables, places);
-        let fields = head.fields;
-        let Outline::Whole(f) = fields else {
+        let turn = next_turn(tables, places);
+        if turn.ended {
             return n;
-        };
-        let best = head.best;
-        n += count_blocks(tables[0], index, tables[best], f.first, sought(best, f));
-        places = head.past;
+        }
+        let best = turn.best;
+        n += count_blocks(tables[0], index, tables[best], turn.first, turn.count);
+        places = turn.past;
     }
 }
 
@@ -239,33 +225,41 @@ fn fill_blocks(
     next
 }
 
-// The same, with what the peers list of the record at their places, where they go on past it.
+// Puts the entries for the record that is next, and answers where the next one goes.
 fn fill_record(
     tables: [&[u8]; 5],
     index: &[u16],
     places: [usize; 5],
-    past: [usize; 5],
-    t: &[u8],
-    first: usize,
-    count: u32,
+    turn: Turn,
     file: u32,
     out: &mut [u8],
     at: usize,
 ) -> usize
     requires { ⌜ isGood (tableAt (map now tables) 0) ≡ true ⌝ }
     requires { ⌜ Serves (tableAt (map now tables) 0) (now index) ⌝ }
-    requires { ⌜ first + blocksSize count ≤ length (now t) ⌝ }
-    requires { ⌜ at + length (listBytes (wantedRun (map now tables) (runsFrom (map now tables) places past) file 0 0 (now t) first count)) ≤ length (now out) ⌝ }
-    ensures { λ r. ⌜ r ≡ at + length
-        (listBytes (wantedRun (map now (tables .entry)) (runsFrom (map now (tables .entry)) places past) file 0 0 (now (t .entry)) first count)) ⌝ }
-    ensures { λ _. ⌜ now (out .exit) ≡ over (now (out .entry)) at
-        (listBytes (wantedRun (map now (tables .entry)) (runsFrom (map now (tables .entry)) places past) file 0 0 (now (t .entry)) first count)) ⌝ }
+    requires { ⌜ (turn .best < 5) × (turn .first + blocksSize (turn .count) ≤ length (tableAt (map now tables) (turn .best))) ⌝ }
+    requires { ⌜ at + length (listBytes (wantedTurn (map now tables) places turn file)) ≤ length (now out) ⌝ }
+    ensures { λ r. ⌜ r ≡ at + length (listBytes (wantedTurn (map now (tables .entry)) places turn file)) ⌝ }
+    ensures { λ _. ⌜ now (out .exit) ≡ over (now (out .entry)) at (listBytes (wantedTurn (map now (tables .entry)) places turn file)) ⌝ }
 {
-    if count == 0 {
+    if turn.count == 0 {
         return at;
     }
+    let past = turn.past;
+    let best = turn.best;
     let runs = runs_at(tables, places, past);
-    fill_blocks(tables, index, runs, t, first, count, file, out, at)
+    let t = tables[best];
+    fill_blocks(
+        tables,
+        index,
+        runs,
+        t,
+        turn.first,
+        turn.count,
+        file,
+        out,
+        at,
+    )
 }
 
 // The list, from the start of the buffer, and how many bytes it has.
@@ -281,28 +275,12 @@ fn fill(tables: [&[u8]; 5], index: &[u16], start: Start, out: &mut [u8]) -> usiz
     let mut file = start.file;
     let mut at = 0;
     loop {
-        let head = next_head(tables, places);
-        let fields = head.fields;
-        let Outline::Whole(f) = fields else {
+        let turn = next_turn(tables, places);
+        if turn.ended {
             return at;
-        };
-        let best = head.best;
-        let past = head.past;
-        let count = sought(best, f);
-        let t = tables[best];
-        at = fill_record(
-            tables,
-            index,
-            places,
-            past,
-            t,
-            f.first,
-            count,
-            file,
-            out,
-            at,
-        );
-        places = past;
+        }
+        at = fill_record(tables, index, places, turn, file, out, at);
+        places = turn.past;
         file += 1;
     }
 }

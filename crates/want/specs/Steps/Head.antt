@@ -1,10 +1,11 @@
 -- For the steps of the list: the next name over several tables, with a place in each: the table with its highest record, and where each goes on after it.
-use Prim.Native.Nat.{ℕ, _-_, _≤_, _<_}
-use mathlib.Core.List.{List}
+use Prim.Native.Nat.{ℕ, _+_, _-_, _≤_, _<_}
+use mathlib.Core.List.{List, _∷_}
 use mathlib.Core.Path.{_≡_}
+use mathlib.Core.Logic.{_⊎_}
 use lib.ListN.{length}
 use Rattle.record.specs.File.{File}
-use Rattle.record.specs.Outline.{outlineOf}
+use Rattle.record.specs.Outline.{wordAt, pastString, fieldsFrom, outlineOf, fieldsOf}
 use Rattle.record.specs.declared.outline.RecordFields.{RecordFields}
 use Rattle.record.specs.declared.outline.Outline.{Outline}
 use Rattle.record.specs.declared.outline.Outline.the-variants as O
@@ -21,18 +22,37 @@ use Rattle.want.specs.declared.head.Rank.the-variants.{Before, Same, New
 abbrev pub nameAt : List ℕ → RecordFields → List ℕ
 nameAt t f = part t (f .name) (f .stop)
 
--- the parts of a record follow each other
-pub record Ordered (f : RecordFields) : Type 0 where
-  pub named : f .name ≤ f .stop
-  pub padded : f .stop ≤ f .rest
-  pub ended : f .rest ≤ f .past
+-- the lower of two lengths
+pub record Shorter (m n r : ℕ) : Type 0 where
+  pub first : r ≤ m
+  pub second : r ≤ n
+  pub one : (r ≡ m) ⊎ (r ≡ n)
 
--- the same numbers, and names that are as long
+-- the fields of the record at a place, by the bytes there
+abbrev pub fieldsAt : List ℕ → ℕ → RecordFields
+fieldsAt t at = fieldsFrom t (at + 4) (at + 4 + wordAt t at) (pastString t at)
+
+-- records stand from a place on
+abbrev pub Stands : List ℕ → ℕ → Type 0
+Stands t at = (fs : List File) × At t at fs
+
+-- fields that are those of a record that stands somewhere
+pub record Stood (t : List ℕ) (f : RecordFields) : Type 0 where
+  pub place : ℕ
+  pub head : File
+  pub tail : List File
+  pub fields-are : f ≡ fieldsOf place head
+  pub here : At t place (head ∷ tail)
+
+-- an outline of a place where records stand
+abbrev pub Kept : List ℕ → Outline → Type 0
+Kept t o = (at : ℕ) × (o ≡ outlineOf t at) × Stands t at
+
+-- the same numbers
 pub record AlikeFields (f g : RecordFields) : Type 0 where
-  pub named : f .stop - f .name ≡ g .stop - g .name
-  pub padded : f .rest - f .name ≡ g .rest - g .name
   pub modified-same : f .modified ≡ g .modified
   pub version-same : f .version ≡ g .version
+  pub blocks-same : f .blocks ≡ g .blocks
   pub flags-same : f .flags ≡ g .flags
 
 -- by how the names compare, and where these are the same by which is the higher
@@ -79,4 +99,4 @@ pub record Headed (ts : List (List ℕ)) (ps : List ℕ) (k best : ℕ) (fields 
 
 -- in each table, records stand from its place on
 abbrev pub AllStand : List (List ℕ) → List ℕ → Type 0
-AllStand ts ps = (k : ℕ) → k < 5 → (fs : List File) × At (tableAt ts k) (placeAt ps k) fs
+AllStand ts ps = (k : ℕ) → k < 5 → Stands (tableAt ts k) (placeAt ps k)

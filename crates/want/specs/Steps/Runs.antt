@@ -15,6 +15,7 @@ use Rattle.want.specs.Steps.Places.{tableAt, placeAt, firstOf}
 use Rattle.table.specs.Table.{records}
 use Rattle.want.specs.Wanted.{wantedBlock, wantedBlocks}
 use Rattle.want.specs.declared.list.Wanted.{Wanted}
+use Rattle.want.specs.declared.turn.Turn.{Turn}
 use Rattle.want.specs.declared.run.Run.{Run}
 use Rattle.want.specs.declared.run.Mark.{Mark}
 
@@ -89,3 +90,7 @@ wantedHere ts rs file j offset b = wantedBlock (records (tableAt ts 0)) (peerIn 
 -- the entries for so many blocks from j on
 abbrev pub wantedRun : List (List ℕ) → List Run → (file j offset : ℕ) → (t : List ℕ) → (first left : ℕ) → List Wanted
 wantedRun ts rs file j offset t first left = wantedBlocks (records (tableAt ts 0)) (peerIn ts rs) file j offset (blocksFrom t first j left)
+
+-- the entries for the record that is next
+abbrev pub wantedTurn : List (List ℕ) → List ℕ → Turn → (file : ℕ) → List Wanted
+wantedTurn ts ps r file = wantedRun ts (runsFrom ts ps (r .past)) file 0 0 (tableAt ts (r .best)) (r .first) (r .count)

@@ -1,7 +1,6 @@
 -- `want::head::is_alike` meets its contract.
 use borrow.Author.Tests.{eqb-true}
 use Rattle.want.proofs.SameRecordLaws.{never}
-use borrow.Author.Needs.{needs}
 use Rattle.want.proofs.head.is_alike.Statement.{statement}
 use Rattle.want.proofs.head.is_alike.Tie as tie
 
@@ -15,12 +14,13 @@ returns-3 : tie.Need-returns-3
 returns-3 c = never
 
 returns-4 : tie.Need-returns-4
-returns-4 c = never
-
-returns-5 : tie.Need-returns-5
-returns-5 c = λ e. record { named = c .before .before .before .before .before .before .before .before .before .before .before .if1 .left; padded = c .before .before .before .before .before .before .before .before .if2 .left; modified-same = c .before .before .before .before .before .if3 .left; version-same = c .before .before .if4 .left; flags-same = eqb-true _ _ e }
+returns-4 c =
+    λ e. record {
+      modified-same = c .before .before .before .before .before .before .before .before .if1 .left;
+      version-same = c .before .before .before .before .before .if2 .left;
+      blocks-same = c .before .before .if3 .left;
+      flags-same = eqb-true _ _ e;
+    }
 
 pub is-alike-spec : {M : Type 1} → statement M
-is-alike-spec =
-    tie.close
-    (tie.spec (λ c. search needs) (λ c. search needs) returns (λ c. search needs) (λ c. search needs) returns-2 returns-3 returns-4 returns-5)
+is-alike-spec = tie.close (tie.spec returns returns-2 returns-3 returns-4)

@@ -1,7 +1,7 @@
 -- `want::head::is_same` meets its contract.
 use borrow.Author.Tests.{not-false}
-use denote.Ref.{now}
-use Rattle.want.proofs.SameRecordLaws.{never, told-same}
+use Rattle.want.proofs.FieldLaws.{within}
+use Rattle.want.proofs.SameRecordLaws.{never, same-empty, told-same}
 use borrow.Author.Needs.{needs}
 use Rattle.want.proofs.head.is_same.Statement.{statement}
 use Rattle.want.proofs.head.is_same.Tie as tie
@@ -10,16 +10,22 @@ returns : tie.Need-returns
 returns c = never
 
 returns-2 : tie.Need-returns-2
-returns-2 c = never
+returns-2 c =
+    let s = c .before .before .before .before .before .before in
+    λ e. same-empty (s .pre .0) (s .pre .1) (c .before .before .before .is-alike .ensures (not-false _ (c .before .before .if1 .left))) (c .if2 .taken)
 
-is-alike-requires : tie.Need-is-alike-requires
-is-alike-requires c κs = ((c .before .before .before .is-ordered .ensures (not-false _ (c .before .before .if1 .left))), (c .before .is-ordered2 .ensures (not-false _ (c .if2 .left))))
+between-requires : tie.Need-between-requires
+between-requires c κs = let w = within (c .before .before .before .before .before .before .pre .0) in (w .listed, w .inside)
+
+between-requires-2 : tie.Need-between-requires-2
+between-requires-2 c κs = let w = within (c .before .before .before .before .before .before .before .pre .1) in (w .listed, w .inside)
 
 returns-3 : tie.Need-returns-3
-returns-3 c = never
-
-returns-4 : tie.Need-returns-4
-returns-4 c = let s = c .before .before .before .before .before .before .before .before .before .before .args in told-same (now (s .a)) (s .f) (now (s .b)) (s .g) (c .before .before .before .before .before .before .before .is-ordered .ensures (not-false _ (c .before .before .before .before .before .before .if1 .left))) (c .before .before .before .before .before .is-ordered2 .ensures (not-false _ (c .before .before .before .before .if2 .left))) (c .before .before .before .is-alike .ensures (not-false _ (c .before .before .if3 .left))) (c .before .compare-parts .ensures) (c .is-equal .ensures)
+returns-3 c =
+    let k = c .before .before .before .before .before .before in
+    let s = k .before .before .before .before in
+    told-same (s .pre .0) (s .pre .1) (k .before .is-alike .ensures (not-false _ (k .if1 .left)))
+    (c .before .before .before .between .ensures) (c .before .before .between2 .ensures) (c .before .compare-long .ensures) (c .is-equal .ensures)
 
 pub is-same-spec : {M : Type 1} → statement M
 is-same-spec =
@@ -27,10 +33,9 @@ is-same-spec =
     (tie.spec
     (λ c κs. search needs)
     returns
-    (λ c κs. search needs)
     returns-2
-    is-alike-requires
-    returns-3
+    between-requires
+    between-requires-2
     (λ c κs. search needs)
     (λ c κs. search needs)
-    returns-4)
+    returns-3)

@@ -6,7 +6,8 @@ use native.Mathlib.Omega.{arith}
 use denote.Ref.{now}
 use Rattle.want.proofs.PlaceLaws.{element, within-lent}
 use Rattle.want.proofs.SideLaws.{total}
-use Rattle.want.proofs.RankLaws.{headed-lowest, headed-after}
+use Rattle.want.proofs.RankLaws.{headed-lowest}
+use Rattle.want.proofs.TurnLaws.{headed-after, turn-ended, turn-goes}
 use Rattle.want.proofs.DoneLaws.{local-good, begun-done, done-stand, blocks-within, done-less, Counted, counted-starts, counted-small, counted-all, counted-more}
 use Rattle.want.proofs.EntryLaws.{serves-first}
 use borrow.Author.Needs.{needs}
@@ -22,40 +23,44 @@ abbrev μ-loop : tie.MeasureT-loop
 loop-holds : tie.Need-loop-holds Inv-loop μ-loop
 loop-holds c = let s = c .before .before in counted-starts (begun-done (map now (s .args .t1)) (s .pre .0) (s .args .start .file) (s .args .start .places) (s .pre .1 .1))
 
-next-head-requires : tie.Need-next-head-requires Inv-loop μ-loop
-next-head-requires c κs = done-stand (c .loop .inv .so-far)
+next-turn-requires : tie.Need-next-turn-requires Inv-loop μ-loop
+next-turn-requires c κs = done-stand (c .loop .inv .so-far)
 
 returns : tie.Need-returns Inv-loop μ-loop
-returns c = counted-all (c .before .before .before .before .before .before .pre .0) (c .before .before .before .loop .inv) (c .before .before .next-head .ensures) (c .enum-told .given .1)
+returns c = let w = c .before .next-turn .ensures in counted-all (c .before .before .before .before .before .pre .0) (c .before .before .loop .inv) (w .headed) (turn-ended w (c .if1 .taken))
 
 mul-count-blocks : tie.Need-mul-count-blocks Inv-loop μ-loop
-mul-count-blocks c = omega (arith, c .before .before .before .before .next-head .ensures .small)
+mul-count-blocks c = omega (arith, c .before .before .next-turn .ensures .headed .small)
 
 array-copy-out-count-blocks-2 : tie.Need-array-copy-out-count-blocks-2 Inv-loop μ-loop
-array-copy-out-count-blocks-2 c = c .before .before .before .before .next-head .ensures .small
+array-copy-out-count-blocks-2 c = c .before .before .next-turn .ensures .headed .small
 
 count-blocks-requires : tie.Need-count-blocks-requires Inv-loop μ-loop
 count-blocks-requires c κs =
-    let s = c .before .before .before .before .before .before .before .before .before .before in
-    let l = c .before .before .before .before .before .before .before in
-    let h = c .before .before .before .before .before .before .next-head .ensures in
-    (local-good now (s .args .t1) _ refl (s .pre .0), (serves-first now (s .args .t1) _ refl (s .pre .1 .0), within-lent now (s .args .t1) _ _ refl (omega (arith, c .sought .ensures, blocks-within (l .loop .inv .so-far) (s .pre .0) (headed-lowest h) (h .fields-are) (c .before .before .before .before .fields .given .1)))))
+    let s = c .before .before .before .before .before .before .before in
+    let w = c .before .before .before .next-turn .ensures in
+    let g = turn-goes w (c .before .before .if1 .left) in
+    (local-good now (s .args .t1) _ refl (s .pre .0), (serves-first now (s .args .t1) _ refl (s .pre .1 .0), within-lent now (s .args .t1) _ _ refl (omega (arith, g .first-is, g .count-is, blocks-within (c .before .before .before .before .loop .inv .so-far) (s .pre .0) (headed-lowest (w .headed)) (w .headed .fields-are) (g .is)))))
 
 add-n : tie.Need-add-n Inv-loop μ-loop
 add-n c =
-    let s = c .before .before .before .before .before .before .before .before .before .before .before in
-    omega (arith, counted-small (s .pre .0) (counted-more (s .pre .0) (c .before .before .before .before .before .before .before .before .loop .inv) (c .before .before .before .before .before .before .before .next-head .ensures) (c .before .before .before .before .before .fields .given .1) (element now (s .args .t1) 0 _ refl) (element now (s .args .t1) _ _ refl) (c .before .sought .ensures) (c .count-blocks .ensures)))
+    let s = c .before .before .before .before .before .before .before .before in
+    let w = c .before .before .before .before .next-turn .ensures in
+    let g = turn-goes w (c .before .before .before .if1 .left) in
+    omega (arith, counted-small (s .pre .0) (counted-more (s .pre .0) (c .before .before .before .before .before .loop .inv) (w .headed) (g .is) (element now (s .args .t1) 0 _ refl) (element now (s .args .t1) _ _ refl) (g .first-is) (g .count-is) (c .count-blocks .ensures)))
 
 loop-less : tie.Need-loop-less Inv-loop μ-loop
 loop-less c =
-    let h = c .before .before .before .before .before .before .before .before .next-head .ensures in
-    let is = c .before .before .before .before .before .before .fields .given .1 in
-    done-less (c .before .before .before .before .before .before .before .before .before .loop .inv .so-far) (c .before .before .before .before .before .before .before .before .before .before .before .before .pre .0) (headed-lowest h) (h .fields-are) is (headed-after h is)
+    let w = c .before .before .before .before .before .next-turn .ensures in
+    let g = turn-goes w (c .before .before .before .before .if1 .left) in
+    done-less (c .before .before .before .before .before .before .loop .inv .so-far) (c .before .before .before .before .before .before .before .before .before .pre .0) (headed-lowest (w .headed)) (w .headed .fields-are) (g .is) (headed-after (w .headed) (g .is))
 
 loop-again : tie.Need-loop-again Inv-loop μ-loop
 loop-again c =
-    let s = c .before .before .before .before .before .before .before .before .before .before .before .before in
-    counted-more (s .pre .0) (c .before .before .before .before .before .before .before .before .before .loop .inv) (c .before .before .before .before .before .before .before .before .next-head .ensures) (c .before .before .before .before .before .before .fields .given .1) (element now (s .args .t1) 0 _ refl) (element now (s .args .t1) _ _ refl) (c .before .before .sought .ensures) (c .before .count-blocks .ensures)
+    let s = c .before .before .before .before .before .before .before .before .before in
+    let w = c .before .before .before .before .before .next-turn .ensures in
+    let g = turn-goes w (c .before .before .before .before .if1 .left) in
+    counted-more (s .pre .0) (c .before .before .before .before .before .before .loop .inv) (w .headed) (g .is) (element now (s .args .t1) 0 _ refl) (element now (s .args .t1) _ _ refl) (g .first-is) (g .count-is) (c .before .count-blocks .ensures)
 
 pub count-spec : {M : Type 1} → statement M
 count-spec =
@@ -64,14 +69,11 @@ count-spec =
     Inv-loop
     μ-loop
     loop-holds
-    next-head-requires
-    (λ c. search needs)
-    (λ c. search needs)
+    next-turn-requires
     returns
     (λ c. search needs)
     mul-count-blocks
     array-copy-out-count-blocks-2
-    (λ c κs. search needs)
     count-blocks-requires
     add-n
     loop-less

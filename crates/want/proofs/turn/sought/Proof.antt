@@ -1,9 +1,9 @@
--- `want::list::sought` meets its contract.
+-- `want::turn::sought` meets its contract.
 use mathlib.Core.Path.{refl}
 use borrow.Author.Tests.{eq-eqb, ne-eqb}
 use borrow.Author.Needs.{needs}
-use Rattle.want.proofs.list.sought.Statement.{statement}
-use Rattle.want.proofs.list.sought.Tie as tie
+use Rattle.want.proofs.turn.sought.Statement.{statement}
+use Rattle.want.proofs.turn.sought.Tie as tie
 
 returns : tie.Need-returns
 returns c = rw (eq-eqb _ _ (c .if1 .taken)) refl
