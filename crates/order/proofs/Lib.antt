@@ -3,4 +3,5 @@ pub mod OrderLaws
 pub mod PartLaws
 pub mod WordLaws
 pub mod SameLaws
-mod HashLaws
+pub mod HashLaws
+pub mod NameLaws

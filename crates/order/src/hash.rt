@@ -8,7 +8,7 @@ use crate::long::same_bytes;
 use xdr::Hyper;
 
 // Eight bytes as a number.
-fn eight_at(s: &[u8], at: usize) -> u64
+pub(crate) fn eight_at(s: &[u8], at: usize) -> u64
     requires { ⌜ at + 8 ≤ length (now s) ⌝ }
     ensures { λ r. ⌜ r ≡ bigEndian 8 (drop at (now (s .entry))) ⌝ }
 {

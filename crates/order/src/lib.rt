@@ -2,6 +2,7 @@
 pub mod compare;
 pub mod hash;
 pub mod long;
+pub mod names;
 
 pub use compare::Order;
 pub use compare::compare_bytes;
@@ -11,3 +12,4 @@ pub use compare::part;
 pub use hash::same_hash;
 pub use long::compare_long;
 pub use long::same_bytes;
+pub use names::compare_names;

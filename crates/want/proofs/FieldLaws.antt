@@ -8,16 +8,14 @@ use borrow.Author.Tests.{le-leb, leb-true}
 use lib.Dec.{leb}
 use lib.ListN.{length, take, drop, length-drop, length-take}
 use Rattle.xdr.specs.Number.{bigEndian}
-use Rattle.xdr.specs.Answers.{wordAnswer, hyperAnswer}
+use Rattle.xdr.specs.Answers.{wordAnswer}
 use Rattle.xdr.specs.Format.{readAt}
-use Rattle.xdr.specs.Fields.{word, hyper}
+use Rattle.xdr.specs.Fields.{word}
 use Rattle.xdr.specs.Pad.{padded}
 use Rattle.xdr.specs.declared.answer.Refusal.{Refusal}
 use Rattle.xdr.specs.declared.answer.Word.{Word}
 use Rattle.xdr.specs.declared.answer.Word.the-variants as W
-use Rattle.xdr.specs.declared.answer.Hyper.{Hyper}
-use Rattle.xdr.specs.declared.answer.Hyper.the-variants as H
-use Rattle.xdr.proofs.Answered.{word-refused, hyper-taken, hyper-refused}
+use Rattle.xdr.proofs.Answered.{word-taken, word-refused}
 use Rattle.xdr.proofs.NumberLaws.{number-first, two-words}
 use Rattle.xdr.proofs.Parts.{number-value, number-missing}
 use Rattle.record.specs.File.{File}
@@ -31,21 +29,16 @@ use Rattle.table.proofs.WalkLaws.{standing, at-whole}
 use Rattle.want.specs.Steps.Head.{fieldsAt, Stands, Stood, Kept}
 
 -- a word that is there, by the answer that was given
-pub word-cut : (s : List ℕ) (at : ℕ) {w : Word} {f : Refusal} {P : Type 0} → w ≡ wordAnswer (readAt word (take (at + 4 - at) (drop at s)) 0) → at + 4 ≤ length s → w ≡ W.Refused f → P
-word-cut s at e h v =
-    let m = number-missing (word-refused e v refl) in
-    absurd (omega (arith, m, length-take (at + 4 - at) (drop at s), length-drop at s))
 
--- eight bytes that are there
+module _ (s : List ℕ) (at : ℕ) {w : Word} (e : w ≡ wordAnswer (readAt word (take (at + 4 - at) (drop at s)) 0)) where
+  pub word-there : {n m : ℕ} → w ≡ W.Taken n m → n ≡ wordAt s at
+  unfolding wordAt
+  word-there v = number-value (word-taken e v) ∙ number-first 4 (at + 4 - at) (drop at s) (omega arith)
 
-module _ (s : List ℕ) (at : ℕ) {w : Hyper} (e : w ≡ hyperAnswer (readAt hyper (take (at + 8 - at) (drop at s)) 0)) where
-  pub eight-there : {x m : ℕ} → w ≡ H.Taken x m → x ≡ bigEndian 8 (drop at s)
-  eight-there v = number-value (hyper-taken e v) ∙ number-first 8 (at + 8 - at) (drop at s) (omega arith)
-
-  pub eight-cut : {f : Refusal} {P : Type 0} → at + 8 ≤ length s → w ≡ H.Refused f → P
-  eight-cut h v =
-      let m = number-missing (hyper-refused e v refl) in
-      absurd (omega (arith, m, length-take (at + 8 - at) (drop at s), length-drop at s))
+  pub word-cut : {f : Refusal} {P : Type 0} → at + 4 ≤ length s → w ≡ W.Refused f → P
+  word-cut h v =
+      let m = number-missing (word-refused e v refl) in
+      absurd (omega (arith, m, length-take (at + 4 - at) (drop at s), length-drop at s))
 
 -- two words, the higher first
 pub eight-is : (s : List ℕ) (at : ℕ) → bigEndian 8 (drop at s) ≡ hyperAt s at

@@ -14,7 +14,6 @@ pub mod FirstLaws
 pub mod SideLaws
 pub mod RankLaws
 pub mod FieldLaws
-pub mod NameLaws
 pub mod TurnLaws
 pub mod SameRecordLaws
 pub mod CountLaws

@@ -1,23 +1,15 @@
 -- The record at a place of a table, and the blocks that it lists.
-use Prim.Native.Nat.{ℕ, _+_, _-_, _*_, _≤_}
+use Prim.Native.Nat.{ℕ, _+_, _*_, _≤_}
 use mathlib.Core.List.{List, [], _∷_}
 use mathlib.Core.Path.{_≡_, refl, sym, ap, _∙_}
 use mathlib.Core.Bool.{Bool, true, false, cond}
 use native.Mathlib.Omega.{arith}
-use lib.ListN.{length, take, drop, length-drop, length-take}
+use lib.ListN.{length, drop}
 use lib.Seq.{drop-drop}
-use Rattle.xdr.specs.Answers.{wordAnswer}
-use Rattle.xdr.specs.Format.{readAt}
-use Rattle.xdr.specs.Fields.{word}
-use Rattle.xdr.specs.declared.answer.Refusal.{Refusal}
-use Rattle.xdr.specs.declared.answer.Word.{Word}
-use Rattle.xdr.specs.declared.answer.Word.the-variants as W
-use Rattle.xdr.proofs.Answered.{word-taken, word-refused}
-use Rattle.xdr.proofs.NumberLaws.{number-first}
-use Rattle.xdr.proofs.Parts.{Elements, number-value, number-missing}
+use Rattle.xdr.proofs.Parts.{Elements}
 use Rattle.record.specs.Block.{Block, block}
 use Rattle.record.specs.File.{File}
-use Rattle.record.specs.Outline.{wordAt, outlineOf, fieldsOf, blockPlace}
+use Rattle.record.specs.Outline.{outlineOf, fieldsOf, blockPlace}
 use Rattle.record.specs.declared.outline.RecordFields.{RecordFields}
 use Rattle.record.specs.declared.outline.Outline.{Outline}
 use Rattle.record.specs.declared.outline.Outline.the-variants as O
@@ -27,18 +19,6 @@ use Rattle.table.specs.Steps.Standing.{bytesOf, At}
 use Rattle.table.proofs.WalkLaws.{at-end, standing}
 use Rattle.want.specs.Listing.{isCurrent, listed}
 use Rattle.want.specs.Steps.Blocks.{blockHere, blocksFrom, listedCount}
-
--- a word that is there, by the answer that was given
-
-module _ (s : List ℕ) (at : ℕ) {w : Word} (e : w ≡ wordAnswer (readAt word (take (at + 4 - at) (drop at s)) 0)) where
-  pub word-there : {n m : ℕ} → w ≡ W.Taken n m → n ≡ wordAt s at
-  unfolding wordAt
-  word-there v = number-value (word-taken e v) ∙ number-first 4 (at + 4 - at) (drop at s) (omega arith)
-
-  pub word-missing : {f : Refusal} {P : Type 0} → at + 40 ≤ length s → w ≡ W.Refused f → P
-  word-missing h v =
-      let m = number-missing (word-refused e v refl) in
-      absurd (omega (arith, m, length-take (at + 4 - at) (drop at s), length-drop at s))
 
 -- blocks that were read one after another
 blocks-by : (s : List ℕ) (l : List Block) (first next : ℕ) → Elements block s first l next → (m : List Block) (i : ℕ) → drop i l ≡ m → blocksFrom s first i (length m) ≡ m

@@ -7,8 +7,8 @@ ghost use lib.ListN.{length, getD, take, drop};
 ghost use Rattle.record.specs.Outline.{wordAt, blockPlace};
 ghost use Rattle.want.specs.Listing.{isCurrent, isSame, blockWith};
 ghost use Rattle.want.specs.Steps.Blocks.{blockHere, listedCount};
+use crate::fields::word_at;
 use record::RecordFields;
-use xdr::Word;
 
 // Valid and undeleted.
 fn is_current(flags: u32) -> bool
@@ -43,11 +43,7 @@ pub(crate) fn size_at(s: &[u8], p: usize) -> u32
     requires { ⌜ p + 40 ≤ length (now s) ⌝ }
     ensures { λ r. ⌜ r ≡ wordAt (now (s .entry)) p ⌝ }
 {
-    let end = p + 4;
-    let Word::Taken(size, _) = xdr::read_word(&s[p..end], 0) else {
-        return 0;
-    };
-    size
+    word_at(s, p)
 }
 
 // Its hash.

@@ -11,7 +11,7 @@ use xdr::Hyper;
 use xdr::Word;
 
 // The word at a place.
-fn word_at(s: &[u8], p: usize) -> u32
+pub(crate) fn word_at(s: &[u8], p: usize) -> u32
     requires { ⌜ p + 4 ≤ length (now s) ⌝ }
     ensures { λ r. ⌜ r ≡ wordAt (now (s .entry)) p ⌝ }
 {
@@ -23,7 +23,7 @@ fn word_at(s: &[u8], p: usize) -> u32
 }
 
 // Eight bytes as a number.
-pub(crate) fn eight_at(s: &[u8], p: usize) -> u64
+fn eight_at(s: &[u8], p: usize) -> u64
     requires { ⌜ p + 8 ≤ length (now s) ⌝ }
     ensures { λ r. ⌜ r ≡ bigEndian 8 (drop p (now (s .entry))) ⌝ }
 {

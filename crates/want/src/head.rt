@@ -12,7 +12,6 @@ ghost use Rattle.want.specs.Steps.Head.{fieldsAt, Stands, Stood, Kept, A
 use crate::fields::fields_at;
 use crate::fields::name_stop;
 use crate::fields::record_at;
-use crate::names::compare_names;
 use order::Order;
 use record::Outline;
 use record::RecordFields;
@@ -94,7 +93,7 @@ fn ranked(a: &[u8], f: RecordFields, b: &[u8], at: usize) -> Rank
     ensures { λ r. ⌜ r ≡ rankBy (now (a .entry)) f (now (b .entry)) (fieldsAt (now (b .entry)) at) ⌝ }
 {
     let stop = name_stop(b, at);
-    match compare_names(between(a, f.name, f.stop), between(b, at + 4, stop)) {
+    match order::compare_names(between(a, f.name, f.stop), between(b, at + 4, stop)) {
         Order::Less => Rank::Before,
         Order::Greater => Rank::After,
         Order::Equal => by_records(a, f, b, fields_at(b, at)),

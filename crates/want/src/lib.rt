@@ -4,7 +4,6 @@ pub mod fields;
 pub mod head;
 pub mod index;
 pub mod list;
-pub mod names;
 pub mod peers;
 pub mod places;
 pub mod run;

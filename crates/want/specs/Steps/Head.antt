@@ -2,7 +2,6 @@
 use Prim.Native.Nat.{ℕ, _+_, _-_, _≤_, _<_}
 use mathlib.Core.List.{List, _∷_}
 use mathlib.Core.Path.{_≡_}
-use mathlib.Core.Logic.{_⊎_}
 use lib.ListN.{length}
 use Rattle.record.specs.File.{File}
 use Rattle.record.specs.Outline.{wordAt, pastString, fieldsFrom, outlineOf, fieldsOf}
@@ -21,12 +20,6 @@ use Rattle.want.specs.declared.head.Rank.the-variants.{Before, Same, New
 -- a record's name
 abbrev pub nameAt : List ℕ → RecordFields → List ℕ
 nameAt t f = part t (f .name) (f .stop)
-
--- the lower of two lengths
-pub record Shorter (m n r : ℕ) : Type 0 where
-  pub first : r ≤ m
-  pub second : r ≤ n
-  pub one : (r ≡ m) ⊎ (r ≡ n)
 
 -- the fields of the record at a place, by the bytes there
 abbrev pub fieldsAt : List ℕ → ℕ → RecordFields

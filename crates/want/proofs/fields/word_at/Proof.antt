@@ -1,7 +1,6 @@
 -- `want::fields::word_at` meets its contract.
 use denote.Ref.{now}
-use Rattle.want.proofs.ListingLaws.{word-there}
-use Rattle.want.proofs.FieldLaws.{word-cut}
+use Rattle.want.proofs.FieldLaws.{word-there, word-cut}
 use borrow.Author.Needs.{needs}
 use Rattle.want.proofs.fields.word_at.Statement.{statement}
 use Rattle.want.proofs.fields.word_at.Tie as tie

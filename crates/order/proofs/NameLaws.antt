@@ -8,13 +8,13 @@ use lib.ListN.{length, take, drop, length-drop}
 use lib.Seq.{take-add, take-take}
 use Rattle.xdr.specs.Number.{IsBytes, bigEndian, digits}
 use Rattle.xdr.proofs.NumberLaws.{bytes-drop, digits-read}
 use Rattle.order.specs.Order.{compareNumbers, compareLists}
 use Rattle.order.specs.declared.compare.Order.{Order}
 use Rattle.order.specs.declared.compare.Order.the-variants.{Less, Equal, Greater}
 use Rattle.order.proofs.OrderLaws.{first-ended, second-ended, both-ended}
 use Rattle.order.proofs.SameLaws.{past-same}
 use Rattle.order.proofs.WordLaws.{word-differs}
-use Rattle.want.specs.Steps.Head.{Shorter}
+use Rattle.order.specs.Steps.{Shorter}
 
 -- what comes after the same bytes decides
 after : (a b : List ℕ) (i : ℕ) → take i a ≡ take i b → compareLists a b ≡ compareLists (drop i a) (drop i b)

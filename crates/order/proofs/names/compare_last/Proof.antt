@@ -1,13 +1,13 @@
--- `want::names::compare_last` meets its contract.
+-- `order::names::compare_last` meets its contract.
 use Prim.Native.Nat.{ℕ, _+_, _-_}
 use mathlib.Core.Path.{_≡_, subst}
 use native.Mathlib.Omega.{arith}
 use denote.Ref.{now}
 use lib.ListN.{take}
-use Rattle.want.proofs.NameLaws.{eight-more, eight-decide, first-shorter, second-shorter, as-long}
+use Rattle.order.proofs.NameLaws.{eight-more, eight-decide, first-shorter, second-shorter, as-long}
 use borrow.Author.Needs.{needs}
-use Rattle.want.proofs.names.compare_last.Statement.{statement}
-use Rattle.want.proofs.names.compare_last.Tie as tie
+use Rattle.order.proofs.names.compare_last.Statement.{statement}
+use Rattle.order.proofs.names.compare_last.Tie as tie
 
 abbrev start : tie.After-eight-at2 → tie.Start
 start c = c .before .before .before .before

@@ -2,10 +2,12 @@
 ghost use mathlib.Core.Path.{_≡_};
 ghost use Prim.Native.Nat.{_-_, _≤_};
 ghost use lib.ListN.{length, take};
 ghost use Rattle.order.specs.Order.{compareLists};
-ghost use Rattle.want.specs.Steps.Head.{Shorter};
-use crate::fields::eight_at;
-use order::Order;
+ghost use Rattle.order.specs.Steps.{Shorter};
+use crate::compare::Order;
+use crate::compare::compare_bytes;
+use crate::compare::compare_numbers;
+use crate::hash::eight_at;
 
 // The lower of two lengths.
 fn shorter(m: usize, n: usize) -> usize
@@ -28,7 +30,7 @@ fn compare_last(a: &[u8], b: &[u8], n: usize) -> Order
     let x = eight_at(a, at);
     let y = eight_at(b, at);
     if x != y {
-        return order::compare_numbers(x, y);
+        return compare_numbers(x, y);
     }
     if a.len() < b.len() {
         return Order::Less;
@@ -40,19 +42,19 @@ fn compare_last(a: &[u8], b: &[u8], n: usize) -> Order
 }
 
 // Two names.
-pub(crate) fn compare_names(a: &[u8], b: &[u8]) -> Order
+pub fn compare_names(a: &[u8], b: &[u8]) -> Order
     ensures { λ r. ⌜ r ≡ compareLists (now (a .entry)) (now (b .entry)) ⌝ }
 {
     let n = shorter(a.len(), b.len());
     if n < 8 {
-        return order::compare_bytes(a, b);
+        return compare_bytes(a, b);
     }
     let mut i = 0;
     while i < n - 8 {
         let x = eight_at(a, i);
         let y = eight_at(b, i);
         if x != y {
-            return order::compare_numbers(x, y);
+            return compare_numbers(x, y);
         }
         i += 8;
     }

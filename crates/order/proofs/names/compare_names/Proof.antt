@@ -1,13 +1,13 @@
--- `want::names::compare_names` meets its contract. The loop's invariant: the bytes before i are the same.
+-- `order::names::compare_names` meets its contract. The loop's invariant: the bytes before i are the same.
 use Prim.Native.Nat.{_-_}
 use mathlib.Core.Path.{_≡_, refl}
 use native.Mathlib.Omega.{arith}
 use denote.Ref.{now}
 use lib.ListN.{take}
-use Rattle.want.proofs.NameLaws.{take-fewer, eight-more, eight-decide}
+use Rattle.order.proofs.NameLaws.{take-fewer, eight-more, eight-decide}
 use borrow.Author.Needs.{needs}
-use Rattle.want.proofs.names.compare_names.Statement.{statement}
-use Rattle.want.proofs.names.compare_names.Tie as tie
+use Rattle.order.proofs.names.compare_names.Statement.{statement}
+use Rattle.order.proofs.names.compare_names.Tie as tie
 
 abbrev Inv-loop : tie.InvT-loop
 Inv-loop a b n i₀ i = take i a ≡ take i b

@@ -1,9 +1,9 @@
--- `want::names::shorter` meets its contract.
+-- `order::names::shorter` meets its contract.
 use mathlib.Core.Path.{refl}
 use mathlib.Core.Logic.{inl, inr}
 use native.Mathlib.Omega.{arith}
-use Rattle.want.proofs.names.shorter.Statement.{statement}
-use Rattle.want.proofs.names.shorter.Tie as tie
+use Rattle.order.proofs.names.shorter.Statement.{statement}
+use Rattle.order.proofs.names.shorter.Tie as tie
 
 returns : tie.Need-returns
 returns c = record { first = omega arith; second = omega arith; one = inl refl }
