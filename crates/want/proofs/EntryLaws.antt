@@ -13,17 +13,16 @@ use Rattle.xdr.proofs.NumberLaws.{length-digits}
 use Rattle.xdr.proofs.BufferLaws.{over-over, length-over, filled-next, FilledTo, filled-none, length-filled}
 use Rattle.record.specs.Block.{Block}
 use Rattle.record.specs.File.{File}
-use Rattle.record.specs.Outline.{wordAt, outlineOf, blockPlace}
+use Rattle.record.specs.Outline.{wordAt, blockPlace}
 use Rattle.record.specs.declared.outline.RecordFields.{RecordFields}
 use Rattle.record.specs.declared.outline.Outline.{Outline}
 use Rattle.record.specs.declared.outline.Outline.the-variants as O
-use Rattle.order.specs.Order.{part}
 use Rattle.table.specs.Table.{isGood, records}
 use Rattle.merge.specs.Merged.{mergedOf}
 use Rattle.want.specs.Listing.{isHeld, blockWith}
-use Rattle.want.specs.Steps.Blocks.{blockHere, blocksFrom, listedCount}
+use Rattle.want.specs.Steps.Blocks.{blockHere, blocksFrom}
 use Rattle.want.specs.Wanted.{wantedBlock, wantedBlocks, wantedFiles, wantedBytes, listBytes}
-use Rattle.want.specs.Steps.Places.{tableAt, placeAt, lowestFrom, Five, listOf}
+use Rattle.want.specs.Steps.Places.{tableAt, Five, listOf}
 use Rattle.want.specs.Steps.Head.{Headed}
 use Rattle.want.specs.Steps.Index.{Serves}
 use Rattle.want.specs.Steps.Runs.{wantedRun}

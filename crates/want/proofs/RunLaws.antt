@@ -11,7 +11,7 @@ use Rattle.record.specs.Block.{Block}
 use Rattle.record.specs.Outline.{wordAt, blocksSize, blockPlace}
 use Rattle.want.specs.Listing.{isSame, hasThere}
 use Rattle.want.specs.Steps.Blocks.{blockHere, blocksFrom}
-use Rattle.want.specs.Steps.Runs.{isAhead, hasRun, markOf, MarkIn, Marked}
+use Rattle.want.specs.Steps.Runs.{isAhead, markOf, MarkIn, Marked}
 use Rattle.want.specs.declared.run.Run.{Run}
 use Rattle.want.specs.declared.run.Mark.{Mark}
 

@@ -184,9 +184,6 @@ module _ {ts : List (List ℕ)} {ps : List ℕ} {ls : List (List File)} (w : Wal
   lead : {k : ℕ} → k ≡ lowestFrom ts ps 0 1 4 → Lead ts ps ls (w .here) k
   lead e = subst (Lead ts ps ls (w .here)) (sym e) (lowest-leads ts ps ls (w .here))
 
-  pub lowest-small : {k : ℕ} → k ≡ lowestFrom ts ps 0 1 4 → k < 5
-  lowest-small e = lead e .small
-
   module _ {k : ℕ} {t : List ℕ} {x : Outline} (e : k ≡ lowestFrom ts ps 0 1 4) (z : t ≡ tableAt ts k) (y : x ≡ outlineOf t (placeAt ps k)) where
     stands : At t (placeAt ps k) (getD ls k [])
     stands = subst (λ (l : List ℕ). At l (placeAt ps k) (getD ls k [])) (sym z) (w .here k (lead e .small))

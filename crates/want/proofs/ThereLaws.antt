@@ -1,21 +1,21 @@
 -- What the record at a place gives for a name.
-use Prim.Native.Nat.{ℕ, suc, _+_, _-_, _*_, _≤_, _<_}
-use mathlib.Core.List.{List, [], _∷_}
+use Prim.Native.Nat.{ℕ, _+_, _-_, _≤_, _<_}
+use mathlib.Core.List.{List}
 use mathlib.Core.Path.{_≡_, refl, sym, ap, _∙_}
-use mathlib.Core.Bool.{Bool, true, false, cond, _&&_, _||_}
+use mathlib.Core.Bool.{Bool, true, false, cond}
 use native.Mathlib.Omega.{arith}
-use borrow.Author.Tests.{ne-eqb, leb-true}
+use borrow.Author.Tests.{leb-true}
 use lib.ListN.{length}
-use lib.Dec.{leb, eqb}
+use lib.Dec.{leb}
 use Rattle.record.specs.Block.{Block}
-use Rattle.record.specs.Outline.{wordAt, blocksSize, outlineFrom, outlineOf, outlined, blockPlace}
+use Rattle.record.specs.Outline.{blocksSize, outlineFrom, outlineOf, outlined}
 use Rattle.record.specs.declared.outline.RecordFields.{RecordFields}
 use Rattle.record.specs.declared.outline.Outline.{Outline}
 use Rattle.record.specs.declared.outline.Outline.the-variants as O
 use Rattle.order.specs.Order.{isEqual, compareLists, part}
 use Rattle.order.specs.declared.compare.Order.{Order}
-use Rattle.want.specs.Listing.{isCurrent, isSame, hasThere}
-use Rattle.want.specs.Steps.Blocks.{blockHere, blocksFrom, listedCount}
+use Rattle.want.specs.Listing.{isCurrent, hasThere}
+use Rattle.want.specs.Steps.Blocks.{blocksFrom, listedCount}
 use Rattle.want.specs.Steps.Places.{pastBy, pastName, listsBy, listsAt}
 use Rattle.want.specs.Steps.Runs.{Marked, markOf}
 use Rattle.want.proofs.ListingLaws.{listed-few}

@@ -18,6 +18,7 @@ ghost use Rattle.want.specs.Steps.Runs.{Along, InTables, wantedHere, wan
 use crate::block::hash_at;
 use crate::block::place;
 use crate::block::size_at;
+use crate::head::next_head;
 use crate::index::build;
 use crate::index::holds;
 use crate::index::served;
@@ -25,7 +26,7 @@ use crate::peers::ask;
 use crate::peers::runs_at;
 use crate::run::Run;
 use crate::turn::Turn;
-use crate::turn::next_turn;
+use crate::turn::turn_of;
 use xdr::Filling;
 
 // A block to ask for: its file's number and its own, its offset and Length, and the peer.
@@ -81,7 +82,9 @@ fn seek(tables: [&[u8]; 5]) -> Start
     let mut places = [4; 5];
     let mut file = 0;
     loop {
-        let turn = next_turn(tables, places);
+        let head = next_head(tables, places);
+        let fields = head.fields;
+        let turn = turn_of(head.best, fields);
         if turn.ended {
             return Start {
                 places,
@@ -96,7 +99,7 @@ fn seek(tables: [&[u8]; 5]) -> Start
                 ended: false,
             };
         }
-        places = turn.past;
+        places = head.past;
         file += 1;
     }
 }
@@ -111,13 +114,15 @@ fn count(tables: [&[u8]; 5], index: &[u16], start: Start) -> usize
     let mut places = start.places;
     let mut n = 0;
     loop {
-        let turn = next_turn(tables, places);
+        let head = next_head(tables, places);
+        let best = head.best;
+        let fields = head.fields;
+        let turn = turn_of(best, fields);
         if turn.ended {
             return n;
         }
-        let best = turn.best;
         n += count_blocks(tables[0], index, tables[best], turn.first, turn.count);
-        places = turn.past;
+        places = head.past;
     }
 }
 
@@ -230,6 +235,8 @@ fn fill_record(
     tables: [&[u8]; 5],
     index: &[u16],
     places: [usize; 5],
+    past: [usize; 5],
+    best: usize,
     turn: Turn,
     file: u32,
     out: &mut [u8],
@@ -237,16 +244,14 @@ fn fill_record(
 ) -> usize
     requires { ⌜ isGood (tableAt (map now tables) 0) ≡ true ⌝ }
     requires { ⌜ Serves (tableAt (map now tables) 0) (now index) ⌝ }
-    requires { ⌜ (turn .best < 5) × (turn .first + blocksSize (turn .count) ≤ length (tableAt (map now tables) (turn .best))) ⌝ }
-    requires { ⌜ at + length (listBytes (wantedTurn (map now tables) places turn file)) ≤ length (now out) ⌝ }
-    ensures { λ r. ⌜ r ≡ at + length (listBytes (wantedTurn (map now (tables .entry)) places turn file)) ⌝ }
-    ensures { λ _. ⌜ now (out .exit) ≡ over (now (out .entry)) at (listBytes (wantedTurn (map now (tables .entry)) places turn file)) ⌝ }
+    requires { ⌜ (best < 5) × (turn .first + blocksSize (turn .count) ≤ length (tableAt (map now tables) best)) ⌝ }
+    requires { ⌜ at + length (listBytes (wantedTurn (map now tables) places past best turn file)) ≤ length (now out) ⌝ }
+    ensures { λ r. ⌜ r ≡ at + length (listBytes (wantedTurn (map now (tables .entry)) places past best turn file)) ⌝ }
+    ensures { λ _. ⌜ now (out .exit) ≡ over (now (out .entry)) at (listBytes (wantedTurn (map now (tables .entry)) places past best turn file)) ⌝ }
 {
     if turn.count == 0 {
         return at;
     }
-    let past = turn.past;
-    let best = turn.best;
     let runs = runs_at(tables, places, past);
     let t = tables[best];
     fill_blocks(
@@ -275,12 +280,16 @@ fn fill(tables: [&[u8]; 5], index: &[u16], start: Start, out: &mut [u8]) -> usiz
     let mut file = start.file;
     let mut at = 0;
     loop {
-        let turn = next_turn(tables, places);
+        let head = next_head(tables, places);
+        let best = head.best;
+        let past = head.past;
+        let fields = head.fields;
+        let turn = turn_of(best, fields);
         if turn.ended {
             return at;
         }
-        at = fill_record(tables, index, places, turn, file, out, at);
-        places = turn.past;
+        at = fill_record(tables, index, places, past, best, turn, file, out, at);
+        places = past;
         file += 1;
     }
 }

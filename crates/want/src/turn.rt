@@ -1,20 +1,15 @@
-// The record that is next over five tables, for the walks of the list.
-ghost use mathlib.Core.List.{map};
+// What a walk of the list does about the record that is next.
 ghost use mathlib.Core.Path.{_≡_};
-ghost use Rattle.want.specs.Steps.Head.{AllStand};
 ghost use Rattle.want.specs.Steps.Places.{soughtOf};
-ghost use Rattle.want.specs.Steps.Turn.{Turned};
+ghost use Rattle.want.specs.Steps.Turn.{turnOf};
 use crate::block::listed;
-use crate::head::next_head;
 use record::Outline;
 use record::RecordFields;
 
-// The table with the next record, where its blocks begin and how many of them may be missing, and where each table goes on after its name; or that none is left.
+// Where the blocks of the next record begin, and how many of them may be missing; or that no record is left.
 pub struct Turn {
-    pub best: usize,
     pub first: usize,
     pub count: u32,
-    pub past: [usize; 5],
     pub ended: bool,
 }
 
@@ -28,30 +23,21 @@ fn sought(best: usize, f: RecordFields) -> u32
     listed(f)
 }
 
-// What is next, from a place in each table.
-pub(crate) fn next_turn(tables: [&[u8]; 5], places: [usize; 5]) -> Turn
-    requires { ⌜ AllStand (map now tables) places ⌝ }
-    ensures { λ r. ⌜ Turned (map now (tables .entry)) places r ⌝ }
+// The turn of the next record, which is that of a table.
+pub fn turn_of(best: usize, fields: Outline) -> Turn
+    ensures { λ r. ⌜ r ≡ turnOf best fields ⌝ }
 {
-    let head = next_head(tables, places);
-    let best = head.best;
-    let past = head.past;
-    let fields = head.fields;
     let Outline::Whole(f) = fields else {
         return Turn {
-            best,
             first: 0,
             count: 0,
-            past,
             ended: true,
         };
     };
     let count = sought(best, f);
     Turn {
-        best,
         first: f.first,
         count,
-        past,
         ended: false,
     }
 }

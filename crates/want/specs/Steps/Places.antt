@@ -20,7 +20,7 @@ use Rattle.merge.specs.declared.next.Next.{Next}
 use Rattle.merge.specs.declared.next.Next.the-variants.{End, More}
 use Rattle.want.specs.Listing.{isHeld, hasThere}
 use Rattle.want.specs.Steps.Blocks.{blocksFrom, listedCount}
-use Rattle.want.specs.Wanted.{wantedBlocks, requestList}
+use Rattle.want.specs.Wanted.{requestList}
 use Rattle.want.specs.declared.list.Wanted.{Wanted}
 
 -- the first of two records is the next
@@ -76,10 +76,6 @@ firstOf is k (suc left) = cond (is k) k (firstOf is (k + 1) left)
 -- the lowest peer whose record at its place is of that name and lists the block there; 0 where none does
 abbrev pub peerAt : List (List ℕ) → List ℕ → (name : List ℕ) → (offset : ℕ) → Block → ℕ
 peerAt ts ps name offset b = firstOf (λ k. listsAt (tableAt ts k) (placeAt ps k) name offset b) 1 4
-
--- the entries for so many blocks from j on of the record whose name all are at
-abbrev pub wantedFrom : List (List ℕ) → List ℕ → (name : List ℕ) → (file j offset : ℕ) → (t : List ℕ) → (first left : ℕ) → List Wanted
-wantedFrom ts ps name file j offset t first left = wantedBlocks (records (tableAt ts 0)) (peerAt ts ps name) file j offset (blocksFrom t first j left)
 
 -- how many blocks of the next record may be missing, by the table that has it
 abbrev pub soughtOf : ℕ → RecordFields → ℕ

@@ -1,5 +1,5 @@
 -- For the steps of the list: runs of blocks, marks in them, and the runs that the peers list under a name.
-use Prim.Native.Nat.{ℕ, zero, suc, _+_, _-_, _*_, _≤_, _<_}
+use Prim.Native.Nat.{ℕ, _+_, _-_, _*_, _≤_, _<_}
 use mathlib.Core.List.{List, [], _∷_}
 use mathlib.Core.Path.{_≡_}
 use mathlib.Core.Bool.{Bool, cond}
@@ -92,5 +92,5 @@ abbrev pub wantedRun : List (List ℕ) → List Run → (file j offset : ℕ) �
 wantedRun ts rs file j offset t first left = wantedBlocks (records (tableAt ts 0)) (peerIn ts rs) file j offset (blocksFrom t first j left)
 
 -- the entries for the record that is next
-abbrev pub wantedTurn : List (List ℕ) → List ℕ → Turn → (file : ℕ) → List Wanted
-wantedTurn ts ps r file = wantedRun ts (runsFrom ts ps (r .past)) file 0 0 (tableAt ts (r .best)) (r .first) (r .count)
+abbrev pub wantedTurn : List (List ℕ) → (ps past : List ℕ) → (best : ℕ) → Turn → (file : ℕ) → List Wanted
+wantedTurn ts ps past best r file = wantedRun ts (runsFrom ts ps past) file 0 0 (tableAt ts best) (r .first) (r .count)

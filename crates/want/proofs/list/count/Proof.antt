@@ -23,44 +23,44 @@ abbrev μ-loop : tie.MeasureT-loop
 loop-holds : tie.Need-loop-holds Inv-loop μ-loop
 loop-holds c = let s = c .before .before in counted-starts (begun-done (map now (s .args .t1)) (s .pre .0) (s .args .start .file) (s .args .start .places) (s .pre .1 .1))
 
-next-turn-requires : tie.Need-next-turn-requires Inv-loop μ-loop
-next-turn-requires c κs = done-stand (c .loop .inv .so-far)
+next-head-requires : tie.Need-next-head-requires Inv-loop μ-loop
+next-head-requires c κs = done-stand (c .loop .inv .so-far)
 
 returns : tie.Need-returns Inv-loop μ-loop
-returns c = let w = c .before .next-turn .ensures in counted-all (c .before .before .before .before .before .pre .0) (c .before .before .loop .inv) (w .headed) (turn-ended w (c .if1 .taken))
+returns c = counted-all (c .before .before .before .before .before .before .pre .0) (c .before .before .before .loop .inv) (c .before .before .next-head .ensures) (turn-ended (c .before .before .next-head .result .best) (c .before .before .next-head .result .fields) (c .before .turn-of .ensures) (c .if1 .taken))
 
 mul-count-blocks : tie.Need-mul-count-blocks Inv-loop μ-loop
-mul-count-blocks c = omega (arith, c .before .before .next-turn .ensures .headed .small)
+mul-count-blocks c = omega (arith, c .before .before .before .next-head .ensures .small)
 
 array-copy-out-count-blocks-2 : tie.Need-array-copy-out-count-blocks-2 Inv-loop μ-loop
-array-copy-out-count-blocks-2 c = c .before .before .next-turn .ensures .headed .small
+array-copy-out-count-blocks-2 c = c .before .before .before .next-head .ensures .small
 
 count-blocks-requires : tie.Need-count-blocks-requires Inv-loop μ-loop
 count-blocks-requires c κs =
-    let s = c .before .before .before .before .before .before .before in
-    let w = c .before .before .before .next-turn .ensures in
-    let g = turn-goes w (c .before .before .if1 .left) in
-    (local-good now (s .args .t1) _ refl (s .pre .0), (serves-first now (s .args .t1) _ refl (s .pre .1 .0), within-lent now (s .args .t1) _ _ refl (omega (arith, g .first-is, g .count-is, blocks-within (c .before .before .before .before .loop .inv .so-far) (s .pre .0) (headed-lowest (w .headed)) (w .headed .fields-are) (g .is)))))
+    let s = c .before .before .before .before .before .before .before .before in
+    let h = c .before .before .before .before .next-head .ensures in
+    let g = turn-goes (c .before .before .before .before .next-head .result .best) (c .before .before .before .before .next-head .result .fields) (c .before .before .before .turn-of .ensures) (c .before .before .if1 .left) in
+    (local-good now (s .args .t1) _ refl (s .pre .0), (serves-first now (s .args .t1) _ refl (s .pre .1 .0), within-lent now (s .args .t1) _ _ refl (omega (arith, g .first-is, g .count-is, blocks-within (c .before .before .before .before .before .loop .inv .so-far) (s .pre .0) (headed-lowest h) (h .fields-are) (g .is)))))
 
 add-n : tie.Need-add-n Inv-loop μ-loop
 add-n c =
-    let s = c .before .before .before .before .before .before .before .before in
-    let w = c .before .before .before .before .next-turn .ensures in
-    let g = turn-goes w (c .before .before .before .if1 .left) in
-    omega (arith, counted-small (s .pre .0) (counted-more (s .pre .0) (c .before .before .before .before .before .loop .inv) (w .headed) (g .is) (element now (s .args .t1) 0 _ refl) (element now (s .args .t1) _ _ refl) (g .first-is) (g .count-is) (c .count-blocks .ensures)))
+    let s = c .before .before .before .before .before .before .before .before .before in
+    let h = c .before .before .before .before .before .next-head .ensures in
+    let g = turn-goes (c .before .before .before .before .before .next-head .result .best) (c .before .before .before .before .before .next-head .result .fields) (c .before .before .before .before .turn-of .ensures) (c .before .before .before .if1 .left) in
+    omega (arith, counted-small (s .pre .0) (counted-more (s .pre .0) (c .before .before .before .before .before .before .loop .inv) h (g .is) (element now (s .args .t1) 0 _ refl) (element now (s .args .t1) _ _ refl) (g .first-is) (g .count-is) (c .count-blocks .ensures)))
 
 loop-less : tie.Need-loop-less Inv-loop μ-loop
 loop-less c =
-    let w = c .before .before .before .before .before .next-turn .ensures in
-    let g = turn-goes w (c .before .before .before .before .if1 .left) in
-    done-less (c .before .before .before .before .before .before .loop .inv .so-far) (c .before .before .before .before .before .before .before .before .before .pre .0) (headed-lowest (w .headed)) (w .headed .fields-are) (g .is) (headed-after (w .headed) (g .is))
+    let h = c .before .before .before .before .before .before .next-head .ensures in
+    let g = turn-goes (c .before .before .before .before .before .before .next-head .result .best) (c .before .before .before .before .before .before .next-head .result .fields) (c .before .before .before .before .before .turn-of .ensures) (c .before .before .before .before .if1 .left) in
+    done-less (c .before .before .before .before .before .before .before .loop .inv .so-far) (c .before .before .before .before .before .before .before .before .before .before .pre .0) (headed-lowest h) (h .fields-are) (g .is) (headed-after h (g .is))
 
 loop-again : tie.Need-loop-again Inv-loop μ-loop
 loop-again c =
-    let s = c .before .before .before .before .before .before .before .before .before in
-    let w = c .before .before .before .before .before .next-turn .ensures in
-    let g = turn-goes w (c .before .before .before .before .if1 .left) in
-    counted-more (s .pre .0) (c .before .before .before .before .before .before .loop .inv) (w .headed) (g .is) (element now (s .args .t1) 0 _ refl) (element now (s .args .t1) _ _ refl) (g .first-is) (g .count-is) (c .before .count-blocks .ensures)
+    let s = c .before .before .before .before .before .before .before .before .before .before in
+    let h = c .before .before .before .before .before .before .next-head .ensures in
+    let g = turn-goes (c .before .before .before .before .before .before .next-head .result .best) (c .before .before .before .before .before .before .next-head .result .fields) (c .before .before .before .before .before .turn-of .ensures) (c .before .before .before .before .if1 .left) in
+    counted-more (s .pre .0) (c .before .before .before .before .before .before .before .loop .inv) h (g .is) (element now (s .args .t1) 0 _ refl) (element now (s .args .t1) _ _ refl) (g .first-is) (g .count-is) (c .before .count-blocks .ensures)
 
 pub count-spec : {M : Type 1} → statement M
 count-spec =
@@ -69,7 +69,8 @@ count-spec =
     Inv-loop
     μ-loop
     loop-holds
-    next-turn-requires
+    next-head-requires
+    (λ c κs. search needs)
     returns
     (λ c. search needs)
     mul-count-blocks

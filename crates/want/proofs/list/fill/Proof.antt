@@ -24,53 +24,50 @@ abbrev μ-loop : tie.MeasureT-loop
 loop-holds : tie.Need-loop-holds Inv-loop μ-loop
 loop-holds c = let s = c .before .before .before in filled-starts (now (s .args .out)) (begun-done (map now (s .args .tables)) (s .pre .0) (s .args .start .file) (s .args .start .places) (s .pre .1 .1 .0))
 
-next-turn-requires : tie.Need-next-turn-requires Inv-loop μ-loop
-next-turn-requires c κs = done-stand (c .loop .inv .so-far)
+next-head-requires : tie.Need-next-head-requires Inv-loop μ-loop
+next-head-requires c κs = done-stand (c .loop .inv .so-far)
 
 same-length : tie.Need-same-length Inv-loop μ-loop
-same-length c = let s = c .before .before .before .before .before .before .pre in filled-same (s .0) (c .before .before .loop .inv) (s .1 .1 .1)
+same-length c = let s = c .before .before .before .before .before .before .before .before .pre in filled-same (s .0) (c .before .before .before .before .loop .inv) (s .1 .1 .1)
 
 returns : tie.Need-returns Inv-loop μ-loop
-returns c =
-    let s = c .before .before .before .before .before .before .pre in
-    let w = c .before .next-turn .ensures in
-    filled-all (s .0) (c .before .before .loop .inv) (s .1 .1 .1) (w .headed) (turn-ended w (c .if1 .taken))
+returns c = let s = c .before .before .before .before .before .before .before .before .pre in filled-all (s .0) (c .before .before .before .before .loop .inv) (s .1 .1 .1) (c .before .before .before .next-head .ensures) (turn-ended (c .before .before .before .next-head .result .best) (c .before .before .before .next-head .result .fields) (c .before .turn-of .ensures) (c .if1 .taken))
 
 fill-record-requires : tie.Need-fill-record-requires Inv-loop μ-loop
 fill-record-requires c κs =
-    let s = c .before .before .before .before .before .before .before in
-    let l = c .before .before .before .loop in
-    let w = c .before .before .next-turn .ensures in
-    let g = turn-goes w (c .before .if1 .left) in
-    let t = tableAt (map now (s .args .tables)) (c .before .before .next-turn .result .best) in (
+    let s = c .before .before .before .before .before .before .before .before .before in
+    let l = c .before .before .before .before .before .loop in
+    let h = c .before .before .before .before .next-head .ensures in
+    let g = turn-goes (c .before .before .before .before .next-head .result .best) (c .before .before .before .before .next-head .result .fields) (c .before .before .turn-of .ensures) (c .before .if1 .left) in
+    let t = tableAt (map now (s .args .tables)) (c .before .before .before .before .next-head .result .best) in (
       s .pre .0 .good 0 (omega arith),
       (
         s .pre .1 .0,
         (
-          (w .headed .small, omega (arith, g .first-is, g .count-is, blocks-within (l .inv .so-far) (s .pre .0) (headed-lowest (w .headed)) (w .headed .fields-are) (g .is))),
-          filled-fits (s .pre .0) (l .inv) (s .pre .1 .1 .1) (w .headed) (g .is) (run-wanted (map now (s .args .tables)) (l .places) (nameAt t (g .record-fields)) (headed-after (w .headed) (g .is)) (l .file) t (g .first-is) (g .count-is)),
+          (h .small, omega (arith, g .first-is, g .count-is, blocks-within (l .inv .so-far) (s .pre .0) (headed-lowest h) (h .fields-are) (g .is))),
+          filled-fits (s .pre .0) (l .inv) (s .pre .1 .1 .1) h (g .is) (run-wanted (map now (s .args .tables)) (l .places) (nameAt t (g .record-fields)) (headed-after h (g .is)) (l .file) t (g .first-is) (g .count-is)),
         ),
       ),
     )
 
 add-file : tie.Need-add-file Inv-loop μ-loop
-add-file c = let d = c .before .before .before .before .before .before .before .loop .inv .so-far in omega (arith, d .few, total-small (c .before .before .before .before .before .before .before .before .before .before .before .pre .0) (d .walk))
+add-file c = let d = c .before .before .before .before .before .before .before .before .loop .inv .so-far in omega (arith, d .few, total-small (c .before .before .before .before .before .before .before .before .before .before .before .before .pre .0) (d .walk))
 
 loop-less : tie.Need-loop-less Inv-loop μ-loop
 loop-less c =
-    let w = c .before .before .before .before .before .before .next-turn .ensures in
-    let g = turn-goes w (c .before .before .before .before .before .if1 .left) in
-    done-less (c .before .before .before .before .before .before .before .loop .inv .so-far) (c .before .before .before .before .before .before .before .before .before .before .before .pre .0) (headed-lowest (w .headed)) (w .headed .fields-are) (g .is) (headed-after (w .headed) (g .is))
+    let h = c .before .before .before .before .before .before .before .next-head .ensures in
+    let g = turn-goes (c .before .before .before .before .before .before .before .next-head .result .best) (c .before .before .before .before .before .before .before .next-head .result .fields) (c .before .before .before .before .before .turn-of .ensures) (c .before .before .before .before .if1 .left) in
+    done-less (c .before .before .before .before .before .before .before .before .loop .inv .so-far) (c .before .before .before .before .before .before .before .before .before .before .before .before .pre .0) (headed-lowest h) (h .fields-are) (g .is) (headed-after h (g .is))
 
 loop-again : tie.Need-loop-again Inv-loop μ-loop
 loop-again c =
-    let s = c .before .before .before .before .before .before .before .before .before .before .before in
-    let l = c .before .before .before .before .before .before .before .loop in
-    let w = c .before .before .before .before .before .before .next-turn .ensures in
-    let g = turn-goes w (c .before .before .before .before .before .if1 .left) in
-    let t = tableAt (map now (s .args .tables)) (c .before .before .before .before .before .before .next-turn .result .best) in
-    let f = c .before .before .before .fill-record .ensures in
-    filled-turn (s .pre .0) (l .inv) (s .pre .1 .1 .1) (w .headed) (g .is) (run-wanted (map now (s .args .tables)) (l .places) (nameAt t (g .record-fields)) (headed-after (w .headed) (g .is)) (l .file) t (g .first-is) (g .count-is)) (f .0) (f .1)
+    let s = c .before .before .before .before .before .before .before .before .before .before .before .before in
+    let l = c .before .before .before .before .before .before .before .before .loop in
+    let h = c .before .before .before .before .before .before .before .next-head .ensures in
+    let g = turn-goes (c .before .before .before .before .before .before .before .next-head .result .best) (c .before .before .before .before .before .before .before .next-head .result .fields) (c .before .before .before .before .before .turn-of .ensures) (c .before .before .before .before .if1 .left) in
+    let t = tableAt (map now (s .args .tables)) (c .before .before .before .before .before .before .before .next-head .result .best) in
+    let f = c .before .before .fill-record .ensures in
+    filled-turn (s .pre .0) (l .inv) (s .pre .1 .1 .1) h (g .is) (run-wanted (map now (s .args .tables)) (l .places) (nameAt t (g .record-fields)) (headed-after h (g .is)) (l .file) t (g .first-is) (g .count-is)) (f .0) (f .1)
 
 pub fill-spec : {M : Type 1} → statement M
 fill-spec =
@@ -79,7 +76,8 @@ fill-spec =
     Inv-loop
     μ-loop
     loop-holds
-    next-turn-requires
+    next-head-requires
+    (λ c κs. search needs)
     same-length
     returns
     fill-record-requires

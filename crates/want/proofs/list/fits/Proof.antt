@@ -1,6 +1,6 @@
 -- `want::list::fits` meets its contract.
 use mathlib.Core.List.{map}
-use mathlib.Core.Path.{sym, ap, _∙_}
+use mathlib.Core.Path.{sym, ap}
 use native.Mathlib.Omega.{arith}
 use borrow.Author.Tests.{le-leb}
 use denote.Ref.{now}

@@ -22,40 +22,40 @@ abbrev μ-loop : tie.MeasureT-loop
 loop-holds : tie.Need-loop-holds Inv-loop μ-loop
 loop-holds c = refl
 
-next-turn-requires : tie.Need-next-turn-requires Inv-loop μ-loop
-next-turn-requires c κs = let s = c .before in done-stand (begun-done (map now (s .args .tables)) (s .pre) (c .loop .file) (c .loop .places) (c .loop .inv))
+next-head-requires : tie.Need-next-head-requires Inv-loop μ-loop
+next-head-requires c κs = let s = c .before in done-stand (begun-done (map now (s .args .tables)) (s .pre) (c .loop .file) (c .loop .places) (c .loop .inv))
 
 returns : tie.Need-returns Inv-loop μ-loop
 returns c =
-    let s = c .before .before .before in
-    let l = c .before .before .loop in
-    let w = c .before .next-turn .ensures in
-    (l .inv, λ e. sym (done-all (begun-done (map now (s .args .tables)) (s .pre) (l .file) (l .places) (l .inv)) (headed-lowest (w .headed)) (w .headed .fields-are) (turn-ended w (c .if1 .taken))))
+    let s = c .before .before .before .before in
+    let l = c .before .before .before .loop in
+    let h = c .before .before .next-head .ensures in
+    (l .inv, λ e. sym (done-all (begun-done (map now (s .args .tables)) (s .pre) (l .file) (l .places) (l .inv)) (headed-lowest h) (h .fields-are) (turn-ended (c .before .before .next-head .result .best) (c .before .before .next-head .result .fields) (c .before .turn-of .ensures) (c .if1 .taken))))
 
 returns-2 : tie.Need-returns-2 Inv-loop μ-loop
-returns-2 c = (c .before .before .before .before .loop .inv, λ e. let z : _≡_ {A = ℕ} 0 1 = cc in absurd (omega arith))
+returns-2 c = (c .before .before .before .before .before .loop .inv, λ e. let z : _≡_ {A = ℕ} 0 1 = cc in absurd (omega arith))
 
 add-file : tie.Need-add-file Inv-loop μ-loop
 add-file c =
-    let s = c .before .before .before .before .before .before in
-    let l = c .before .before .before .before .before .loop in
+    let s = c .before .before .before .before .before .before .before in
+    let l = c .before .before .before .before .before .before .loop in
     let d = begun-done (map now (s .args .tables)) (s .pre) (l .file) (l .places) (l .inv) in
     omega (arith, d .few, total-small (s .pre) (d .walk))
 
 loop-less : tie.Need-loop-less Inv-loop μ-loop
 loop-less c =
-    let s = c .before .before .before .before .before .before in
-    let l = c .before .before .before .before .before .loop in
-    let w = c .before .before .before .before .next-turn .ensures in
-    let g = turn-goes w (c .before .before .before .if1 .left) in
-    done-less (begun-done (map now (s .args .tables)) (s .pre) (l .file) (l .places) (l .inv)) (s .pre) (headed-lowest (w .headed)) (w .headed .fields-are) (g .is) (headed-after (w .headed) (g .is))
+    let s = c .before .before .before .before .before .before .before in
+    let l = c .before .before .before .before .before .before .loop in
+    let h = c .before .before .before .before .before .next-head .ensures in
+    let g = turn-goes (c .before .before .before .before .before .next-head .result .best) (c .before .before .before .before .before .next-head .result .fields) (c .before .before .before .before .turn-of .ensures) (c .before .before .before .if1 .left) in
+    done-less (begun-done (map now (s .args .tables)) (s .pre) (l .file) (l .places) (l .inv)) (s .pre) (headed-lowest h) (h .fields-are) (g .is) (headed-after h (g .is))
 
 loop-again : tie.Need-loop-again Inv-loop μ-loop
 loop-again c =
-    let l = c .before .before .before .before .before .loop in
-    let w = c .before .before .before .before .next-turn .ensures in
-    let g = turn-goes w (c .before .before .before .if1 .left) in
-    begun-turn (l .file) (l .inv) (w .headed) (g .is) (sym (g .count-is) ∙ c .before .if2 .left)
+    let l = c .before .before .before .before .before .before .loop in
+    let h = c .before .before .before .before .before .next-head .ensures in
+    let g = turn-goes (c .before .before .before .before .before .next-head .result .best) (c .before .before .before .before .before .next-head .result .fields) (c .before .before .before .before .turn-of .ensures) (c .before .before .before .if1 .left) in
+    begun-turn (l .file) (l .inv) h (g .is) (sym (g .count-is) ∙ c .before .if2 .left)
 
 pub seek-spec : {M : Type 1} → statement M
 seek-spec =
@@ -64,7 +64,8 @@ seek-spec =
     Inv-loop
     μ-loop
     loop-holds
-    next-turn-requires
+    next-head-requires
+    (λ c κs. search needs)
     returns
     returns-2
     add-file

@@ -10,7 +10,6 @@ use Rattle.want.specs.Steps.Places.{tableAt}
 use Rattle.want.specs.Steps.Runs.{hasRun, runAt, Along}
 use Rattle.want.proofs.PlaceLaws.{element, Asking, asking-starts, asking-found, asking-goes-on, asking-ends}
 use Rattle.want.proofs.PeerLaws.{mark-here, along-turn, told-here}
-use borrow.Author.Needs.{needs}
 use Rattle.want.proofs.peers.ask.Statement.{statement}
 use Rattle.want.proofs.peers.ask.Tie as tie
 

@@ -1,5 +1,4 @@
 -- `want::peers::run_at` meets its contract.
-use Prim.Native.Nat.{ℕ}
 use mathlib.Core.Path.{ap, _∙_}
 use denote.Ref.{now}
 use Rattle.want.proofs.RunLaws.{runOf}
