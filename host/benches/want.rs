@@ -15,8 +15,8 @@ use support::random::Random;
 use support::tables::encode;
 use timing::{compare, heading, keep};
 
-/// Room for the largest list: no table has more than 1,638 blocks.
-const ROOM: usize = 24 * 4 * 1638;
+/// Room for the largest list.
+const ROOM: usize = fordtrumpet::MAX_REQUEST_LIST;
 
 /// Hashes are numbered: those of the local table below this, those of the first peer from here on.
 const PEERS: u32 = 10_000;

@@ -511,7 +511,7 @@ fn is_found_alike(calls: Calls) -> bool {
 #[test]
 fn a_difference_is_found_by_tables_alike() {
     assert!(is_found_alike(Calls {
-        // The last four bytes of a hash count.
+        // Only the last four bytes of a hash count.
         list: |tables, out| blurred_list(tables, out, 0..28),
         ..CALLS
     }));

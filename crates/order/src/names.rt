@@ -1,4 +1,5 @@
-// The order of names. The last eight bytes are taken at once, though some of them were compared before, so that none is compared alone.
+// Short runs of bytes, such as names. From eight bytes on, the last eight of the shorter one are taken at once, though some of them were compared before: so few
+// are compared byte by byte.
 ghost use mathlib.Core.Path.{_≡_};
 ghost use Prim.Native.Nat.{_-_, _≤_};
 ghost use lib.ListN.{length, take};
@@ -41,7 +42,7 @@ fn compare_last(a: &[u8], b: &[u8], n: usize) -> Order
     Order::Equal
 }
 
-// Two names.
+// Two runs of bytes, such as names.
 pub fn compare_names(a: &[u8], b: &[u8]) -> Order
     ensures { λ r. ⌜ r ≡ compareLists (now (a .entry)) (now (b .entry)) ⌝ }
 {

@@ -16,7 +16,8 @@ use order::Order;
 use record::Outline;
 use record::RecordFields;
 
-// How a record stands to the one that is next so far: its name is higher or it is none; its name is the same; that, and it is the higher record; its name is lower.
+// Where the record that is next so far stands to another: before it by name, or there is no other; of the same name, and not lower; of the same name, and the other is
+// the higher; after it.
 pub enum Rank {
     Before,
     Same,

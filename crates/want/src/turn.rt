@@ -24,7 +24,7 @@ fn sought(best: usize, f: RecordFields) -> u32
 }
 
 // The turn of the next record, which is that of a table.
-pub fn turn_of(best: usize, fields: Outline) -> Turn
+pub(crate) fn turn_of(best: usize, fields: Outline) -> Turn
     ensures { λ r. ⌜ r ≡ turnOf best fields ⌝ }
 {
     let Outline::Whole(f) = fields else {

@@ -33,7 +33,7 @@ pub record MarkIn (t : List ℕ) (r : Run) (m : Mark) : Type 0 where
   pub few : m .j ≤ r .count
   pub small : m .from ≤ m .j * 4294967295
 
--- and from an offset on, the mark has before it what the run has
+-- and at this offset and later ones, what the run has stands from the mark on
 pub record Marked (t : List ℕ) (r : Run) (m : Mark) (offset : ℕ) : Type 0 where
   pub within : MarkIn t r m
   pub told : (o : ℕ) (b : Block) → offset ≤ o → hasRun t r o b ≡ isAhead t r m o b
