@@ -1,4 +1,7 @@
 //! How long the library and the reference need for request lists, side by side.
+//!
+//! The reference of a list looks held blocks up in a `HashSet`. The rows that say so are of the plain
+//! one, which searches the local table for each block, as that of `find_local` does.
 
 #[path = "../tests/reference/mod.rs"]
 mod reference;
@@ -8,74 +11,272 @@ mod timing;
 
 use std::hint::black_box;
 use support::encode::{Block, File};
+use support::random::Random;
 use support::tables::encode;
 use timing::{compare, heading, keep};
 
+/// Room for the largest list.
+const ROOM: usize = fordtrumpet::MAX_REQUEST_LIST;
+
+/// Hashes are numbered: those of the local table below this, those of the first peer from here on.
+const PEERS: u32 = 10_000;
+
+type Hash = [u8; 32];
+type Tables = [Vec<u8>; 5];
+
 fn main() {
     heading();
-    let local = files("local", 4, 400, 0);
-    let others = [1, 2, 3, 4].map(|peer| files(&format!("peer {peer}"), 4, 400, 10_000 * peer));
-    compare_lists(
-        "list: 4 peers of 1,600 blocks, none held",
-        &local,
-        [&others[0], &others[1], &others[2], &others[3]],
-    );
-    compare_lists(
-        "list: 4 peers of 1,600 blocks, all held",
-        &local,
-        [&local, &local, &local, &local],
-    );
-    let small = files("file", 512, 0, 0);
-    compare_lists(
-        "list: 5 tables of the same 512 files",
-        &small,
-        [&small, &small, &small, &small],
-    );
-    compare_finding("find_local: the last of 1,600 blocks", &local, 1599);
-    compare_finding("find_local: none of 1,600 blocks", &local, 5000);
+    none_held();
+    all_held();
+    cut_otherwise();
+    small_files();
+    sizes();
+    plain();
+    finding();
 }
 
-/// Files whose hashes differ in the last bytes only.
-fn files(name: &str, count: u32, blocks: u32, first: u32) -> Vec<File> {
-    (0..count)
-        .map(|number| File {
-            name: format!("{name} {number:04}").into_bytes(),
-            flags: 0o644,
-            modified: 1_700_000_000,
-            version: 1,
-            blocks: (0..blocks)
-                .map(|block| Block {
-                    length: 131_072,
-                    hash: hash(first + number * blocks + block),
-                })
-                .collect(),
-        })
-        .collect()
+/// Four peers of 1,600 blocks each, all to be requested.
+fn none_held() {
+    let row = |what, hash: fn(u32) -> Hash| compare_lists(what, &strangers(1600, hash), ROOM);
+    row("list: 4 peers of 1,600 blocks, none held", last_bytes);
+    let tables = strangers(1600, last_bytes);
+    compare_lists("list: none held, just enough room", &tables, 24 * 6400);
+    row("list: none held, random hashes", random);
+    row("list: none held, first bytes differ", first_bytes);
+    row("list: none held, last byte differs", halves);
+    compare_lists(
+        "list: last byte differs, 128 blocks each",
+        &strangers(128, halves),
+        ROOM,
+    );
 }
 
-fn hash(number: u32) -> [u8; 32] {
+/// Four peers of 1,600 blocks each, none to be requested.
+fn all_held() {
+    let local = files("local", 1600, 0, last_bytes);
+    let same = tables([&local, &local, &local, &local, &local]);
+    compare_lists("list: 4 peers of 1,600 blocks, all held", &same, ROOM);
+    let row = |what, change: fn(&mut File, u32)| {
+        let peers = [1, 2, 3, 4].map(|peer| {
+            let mut files = local.clone();
+            files.iter_mut().for_each(|file| change(file, peer));
+            files
+        });
+        let [a, b, c, d] = &peers;
+        compare_lists(what, &tables([&local, a, b, c, d]), ROOM);
+    };
+    row("list: all held, newer, in the same order", |file, peer| {
+        file.version += peer;
+    });
+    row("list: all held, newer, in another order", |file, peer| {
+        file.version += peer;
+        shuffle(&mut file.blocks);
+    });
+    row("list: all held, other names", |file, peer| {
+        file.name.extend(format!(" of {peer}").bytes());
+    });
+}
+
+/// A file of 1,024 blocks. A peer has another version with blocks of other Lengths.
+fn cut_otherwise() {
+    let cut = |length, version| File {
+        version,
+        blocks: (0..1024)
+            .map(|number| Block {
+                length,
+                hash: last_bytes(number),
+            })
+            .collect(),
+        ..file("file".into())
+    };
+    let (older, newer) = ([cut(100_000, 1)], [cut(131_072, 2)]);
+    compare_lists(
+        "list: 1,024 blocks, a peer cuts otherwise",
+        &tables([&[], &older, &newer, &[], &[]]),
+        ROOM,
+    );
+}
+
+/// Five tables of 512 files each.
+fn small_files() {
+    let row = |what, make: fn(u32, u32) -> File| {
+        let sets: [Vec<File>; 5] =
+            std::array::from_fn(|table| (0..512).map(|i| make(i, table as u32)).collect());
+        let [a, b, c, d, e] = &sets;
+        compare_lists(what, &tables([a, b, c, d, e]), ROOM);
+    };
+    row("list: 5 tables of the same 512 files", |i, _| {
+        file(format!("file {i:04}"))
+    });
+    row("list: 5 versions of 512 files", |i, table| File {
+        version: table,
+        ..file(format!("file {i:04}"))
+    });
+    row("list: 5 sets of 512 names", |i, table| {
+        file(format!("file {i:04} of {table}"))
+    });
+    row("list: 5 versions of 512 files of a block", |i, table| {
+        File {
+            version: table,
+            blocks: vec![Block {
+                length: 131_072,
+                hash: last_bytes(PEERS * table + i),
+            }],
+            ..file(format!("file {i:04}"))
+        }
+    });
+}
+
+/// What a list costs against the size of the tables.
+fn sizes() {
+    for (what, blocks) in [
+        ("list: 5 tables of 1 KB, none held", 24),
+        ("list: 5 tables of 4 KB, none held", 100),
+        ("list: 5 tables of 16 KB, none held", 400),
+        ("list: 5 tables of 64 KB, none held", 1600),
+    ] {
+        compare_lists(what, &strangers(blocks, last_bytes), ROOM);
+    }
+}
+
+/// The plain reference.
+fn plain() {
+    let row = |what, tables: &Tables| {
+        compare_lists_with(what, tables, ROOM, reference::request_list);
+    };
+    row("list: none held, plain", &strangers(1600, last_bytes));
+    let local = files("local", 1600, 0, last_bytes);
+    row(
+        "list: all held, plain",
+        &tables([&local, &local, &local, &local, &local]),
+    );
+    let small: Vec<File> = (0..512).map(|i| file(format!("file {i:04}"))).collect();
+    row(
+        "list: the same 512 files, plain",
+        &tables([&small, &small, &small, &small, &small]),
+    );
+}
+
+fn finding() {
+    let table = encode(&files("local", 1600, 0, last_bytes));
+    compare_finding(
+        "find_local: the last of 1,600 blocks",
+        &table,
+        &last_bytes(1599),
+    );
+    compare_finding(
+        "find_local: none of 1,600 blocks",
+        &table,
+        &last_bytes(5000),
+    );
+    compare_finding(
+        "find_local: none of 255, last byte differs",
+        &encode(&files("local", 255, 0, last_byte)),
+        &last_byte(255),
+    );
+}
+
+/// Hashes that differ in the last bytes.
+fn last_bytes(number: u32) -> Hash {
     let mut hash = [0xA7; 32];
     hash[28..].copy_from_slice(&number.to_be_bytes());
     hash
 }
 
-fn compare_lists(what: &str, local: &[File], peers: [&[File]; 4]) {
-    let local = encode(local);
-    let peers = peers.map(encode);
-    let tables: [&[u8]; 5] = [&local, &peers[0], &peers[1], &peers[2], &peers[3]];
-    type Library = fn([&[u8]; 5], &mut [u8]) -> Result<usize, fordtrumpet::Refusal>;
-    type Reference = fn([&[u8]; 5], &mut [u8]) -> Result<usize, reference::Refusal>;
+/// Hashes that differ in the first bytes.
+fn first_bytes(number: u32) -> Hash {
+    let mut hash = [0xA7; 32];
+    hash[..4].copy_from_slice(&number.to_be_bytes());
+    hash
+}
+
+/// Hashes that differ in the last byte.
+fn last_byte(number: u32) -> Hash {
+    let mut hash = [0xA7; 32];
+    hash[31] = number as u8;
+    hash
+}
+
+/// The same: 128 of them for the local table, and the other 128 for the peers.
+fn halves(number: u32) -> Hash {
+    last_byte(number % 128 + 128 * u32::from(number >= PEERS))
+}
+
+fn random(number: u32) -> Hash {
+    let mut hash = [0; 32];
+    Random::new(u64::from(number) << 32).fill(&mut hash);
+    hash
+}
+
+fn shuffle(blocks: &mut [Block]) {
+    let mut random = Random::new(1);
+    for i in (1..blocks.len()).rev() {
+        blocks.swap(i, random.below(i + 1));
+    }
+}
+
+fn file(name: String) -> File {
+    File {
+        name: name.into_bytes(),
+        flags: 0o644,
+        modified: 1_700_000_000,
+        version: 1,
+        blocks: Vec::new(),
+    }
+}
+
+/// Files of up to 400 blocks with the hashes of the numbers from `first` on.
+fn files(name: &str, blocks: u32, first: u32, hash: impl Fn(u32) -> Hash) -> Vec<File> {
+    (0..blocks.div_ceil(400))
+        .map(|number| File {
+            blocks: (400 * number..blocks.min(400 * number + 400))
+                .map(|block| Block {
+                    length: 131_072,
+                    hash: hash(first + block),
+                })
+                .collect(),
+            ..file(format!("{name} {number:04}"))
+        })
+        .collect()
+}
+
+/// Five tables that share no name, and the local one no hash with the others.
+fn strangers(blocks: u32, hash: fn(u32) -> Hash) -> Tables {
+    std::array::from_fn(|table| {
+        let name = match table {
+            0 => "local".to_string(),
+            peer => format!("peer {peer}"),
+        };
+        encode(&files(&name, blocks, PEERS * table as u32, hash))
+    })
+}
+
+fn tables(files: [&[File]; 5]) -> Tables {
+    files.map(encode)
+}
+
+fn compare_lists(what: &str, tables: &Tables, room: usize) {
+    compare_lists_with(what, tables, room, reference::hashed::request_list);
+}
+
+type Library = fn([&[u8]; 5], &mut [u8]) -> Result<usize, fordtrumpet::Refusal>;
+type Reference = fn([&[u8]; 5], &mut [u8]) -> Result<usize, reference::Refusal>;
+
+fn compare_lists_with(what: &str, tables: &Tables, room: usize, reference: Reference) {
+    let [a, b, c, d, e] = tables;
+    let tables: [&[u8]; 5] = [a, b, c, d, e];
     let list = |tables: [&[u8]; 5], out: &mut [u8]| {
         let [local, peers @ ..] = tables;
         fordtrumpet::raw::request_list(local, peers, out).map(|list| list.as_bytes().len())
     };
     let library: Library = black_box(list);
-    let reference: Reference = black_box(reference::request_list);
-    let mut out = vec![0; 24 * 6400];
+    let reference: Reference = black_box(reference);
+    let (mut out, mut expected) = (vec![0; room], vec![0; room]);
     assert_eq!(
         library(tables, &mut out).unwrap(),
-        reference(tables, &mut out).unwrap()
+        reference(tables, &mut expected).unwrap()
     );
+    assert!(out == expected);
     compare(
         what,
         &mut out,
@@ -84,19 +285,17 @@ fn compare_lists(what: &str, local: &[File], peers: [&[File]; 4]) {
     );
 }
 
-fn compare_finding(what: &str, local: &[File], number: u32) {
-    let table = encode(local);
-    let hash = hash(number);
+fn compare_finding(what: &str, table: &[u8], hash: &Hash) {
     let library = black_box(fordtrumpet::raw::find_local);
     let reference = black_box(reference::find_local);
     assert_eq!(
-        library(&table, 131_072, &hash).unwrap(),
-        reference(&table, 131_072, &hash).unwrap()
+        library(table, 131_072, hash).unwrap(),
+        reference(table, 131_072, hash).unwrap()
     );
     compare(
         what,
         &mut [],
-        |_| keep(&library(black_box(&table), 131_072, &hash)),
-        |_| keep(&reference(black_box(&table), 131_072, &hash)),
+        |_| keep(&library(black_box(table), 131_072, hash)),
+        |_| keep(&reference(black_box(table), 131_072, hash)),
     );
 }

@@ -21,8 +21,8 @@
 //! No call allocates but those of the types that own bytes ([`FilesBuilder`], [`OptionsBuilder`],
 //! [`TableBuf`]). Messages and tables go into lent buffers; there is a constant for each:
 //! [`MAX_REQUEST`], [`MAX_RESPONSE`], [`MAX_TABLE`], [`MAX_REQUEST_LIST`] and so on. On the stack
-//! [`accept`] takes about 13 KB, [`merge`] about 9 KB, all other calls under 2 KB. Calls share nothing,
-//! so any thread may call at any time.
+//! [`request_list`] takes about 18 KB, [`accept`] about 13 KB, [`merge`] about 9 KB, all other calls
+//! under 2 KB. Calls share nothing, so any thread may call at any time.
 //!
 //! # Linking
 //!

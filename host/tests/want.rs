@@ -8,6 +8,8 @@ mod support;
 use std::collections::BTreeMap;
 use std::env;
 use std::io::Write;
+use std::ops::Range;
+use support::alike;
 use support::compare::{same, same_bytes, Compared};
 use support::damage;
 use support::draft::{Body, Draft};
@@ -21,6 +23,9 @@ use support::tables::{encode, Pool};
 const INPUTS: u64 = 60_000;
 const SEED: u64 = 0x3A47_ED00_0000_0000;
 
+/// The bytes of the longest list: a table has no more than 1,638 blocks.
+const MOST: usize = 24 * 4 * 1638;
+
 /// The numbers of a record and of its block, or none; or the number of the refusal.
 type Found = Result<Option<(u32, u32)>, u32>;
 
@@ -32,6 +37,11 @@ struct Calls {
 }
 
 const CALLS: Calls = Calls { list, find };
+
+/// The reference that looks held blocks up in a set.
+fn hashed(tables: [&[u8]; 5], out: &mut [u8]) -> Answer<1> {
+    expected(reference::hashed::request_list(tables, out))
+}
 
 fn list(tables: [&[u8]; 5], out: &mut [u8]) -> Answer<1> {
     let [local, peers @ ..] = tables;
@@ -226,13 +236,15 @@ fn compare_input(
     let [a, b, c, d, e] = &tables;
     let tables: [&[u8]; 5] = [a, b, c, d, e];
     let room = 24 * random.below(40) + random.below(24);
-    comparison.fill_all(
-        "list",
-        room,
-        &mut random,
-        |out| (calls.list)(tables, out),
-        |out| expected(reference::request_list(tables, out)),
-    )?;
+    for (what, list) in [("list", calls.list), ("hashed list", hashed)] {
+        comparison.fill_all(
+            what,
+            room,
+            &mut random,
+            |out| list(tables, out),
+            |out| expected(reference::request_list(tables, out)),
+        )?;
+    }
     let block = pool.block(&mut random);
     let length = block.length ^ u32::from(random.once_in(8));
     let hash = match random.below(8) {
@@ -276,6 +288,115 @@ fn generated_lists_get_the_same_answers() {
     }
 }
 
+/// Lists of tables whose blocks are easily taken for each other, in buffers of several lengths.
+fn compare_alike(
+    comparison: &mut TableComparison,
+    calls: Calls,
+    number: u64,
+    met: &mut BTreeMap<&'static str, u64>,
+) -> Compared {
+    let mut random = random_of(number);
+    let files = alike::five(&mut random);
+    let tables = files.each_ref().map(|files| encode(files));
+    let [a, b, c, d, e] = &tables;
+    let tables: [&[u8]; 5] = [a, b, c, d, e];
+    let mut list = vec![0; MOST];
+    let len = reference::request_list(tables, &mut list).map_err(|_| "a table isn't good")?;
+    list.truncate(len);
+    let kind = match len {
+        0 => "nothing wanted",
+        _ => "something wanted",
+    };
+    *met.entry(kind).or_default() += 1;
+    for entry in list.chunks(24) {
+        let peer = ["peer 1", "peer 2", "peer 3", "peer 4"][entry[23] as usize - 1];
+        *met.entry(peer).or_default() += 1;
+    }
+    // A buffer takes the whole list, or stays as it is.
+    let filled = |out: &mut [u8]| match out.get_mut(..len) {
+        Some(out) => {
+            out.copy_from_slice(&list);
+            (0, [len as u64])
+        }
+        None => (14, [0]),
+    };
+    let listed: usize = files[1..]
+        .iter()
+        .flatten()
+        .map(|file| file.blocks.len())
+        .sum();
+    let places: usize = tables[1..].iter().map(|table| table.len() / 40).sum();
+    let rooms = [
+        len,
+        len.saturating_sub(1),
+        random.below(len + 1),
+        // As many blocks as the peers list or could list, or a byte less.
+        (24 * random.pick(&[listed, places])).saturating_sub(random.below(2)),
+        match random.below(8) {
+            0 => random.pick(&[MOST - 1, MOST, MOST + 1000]),
+            _ => 24 * places + random.below(1000),
+        },
+    ];
+    for room in rooms {
+        for (what, list) in [("list", calls.list), ("hashed list", hashed)] {
+            comparison.fill(what, room, &mut random, |out| list(tables, out), filled)?;
+        }
+    }
+    let blocks: Vec<&Block> = files
+        .iter()
+        .flatten()
+        .flat_map(|file| &file.blocks)
+        .collect();
+    if blocks.is_empty() {
+        return Ok(());
+    }
+    let Block {
+        mut length,
+        mut hash,
+    } = *random.pick(&blocks);
+    match random.below(4) {
+        0 => hash[random.below(32)] ^= 1,
+        1 => length = length % 131_072 + 1,
+        _ => {}
+    }
+    comparison.compared += 1;
+    let answer = reference::find_local(a, length, &hash).map_err(|refusal| refusal.number);
+    same("find_local", &(calls.find)(a, length, &hash), &answer)
+}
+
+#[test]
+fn generated_tables_alike_get_the_same_lists() {
+    let from = setting("SOAK_FROM").unwrap_or(0);
+    let inputs = setting("SOAK").unwrap_or(INPUTS) / 4;
+    let mut comparison = TableComparison::new(TABLE_CALLS);
+    let mut met = BTreeMap::new();
+    for number in from..from + inputs {
+        if let Err(difference) = compare_alike(&mut comparison, CALLS, number, &mut met) {
+            panic!("tables alike {number}: {difference}");
+        }
+    }
+    say(&format!(
+        "{inputs} request lists of tables alike: {} calls compared, no difference",
+        comparison.compared
+    ));
+    if inputs >= INPUTS / 4 {
+        for kind in [
+            "nothing wanted",
+            "something wanted",
+            "peer 1",
+            "peer 2",
+            "peer 3",
+            "peer 4",
+        ] {
+            assert!(met.get(kind) >= Some(&1000), "{kind} in {met:?}");
+        }
+        for number in [0, 14] {
+            let times = comparison.seen.get(&("list", number)).copied();
+            assert!(times >= Some(1000), "the list met {number} {times:?} times");
+        }
+    }
+}
+
 /// A table of one file with so many blocks, all different.
 fn large(name: &str, blocks: u32, first: u32) -> Vec<u8> {
     let files: Vec<File> = (0..blocks.div_ceil(1000))
@@ -302,13 +423,13 @@ fn full_tables_get_the_same_answers() {
     let peers = [1, 2, 3, 4].map(|peer| large(&format!("peer {peer}"), 1600, 10_000 * peer));
     let tables: [&[u8]; 5] = [&local, &peers[0], &peers[1], &peers[2], &peers[3]];
     for room in [0, 24 * 6400 - 1, 24 * 6400, 24 * 6400 + 7] {
-        let (mut out, mut expected_out) = (vec![0xEE; room], vec![0xEE; room]);
-        let answer = list(tables, &mut out);
-        assert_eq!(
-            answer,
-            expected(reference::request_list(tables, &mut expected_out))
-        );
-        assert!(out == expected_out);
+        let mut expected_out = vec![0xEE; room];
+        let answer = expected(reference::request_list(tables, &mut expected_out));
+        for list in [list, hashed] {
+            let mut out = vec![0xEE; room];
+            assert_eq!(list(tables, &mut out), answer);
+            assert!(out == expected_out);
+        }
     }
 }
 
@@ -357,6 +478,81 @@ fn a_difference_is_found() {
                 .iter()
                 .find(|answer| matches!(answer, Ok(Some(_))))
                 .unwrap_or(&found[0])
+        },
+        ..CALLS
+    }));
+}
+
+/// A table whose hashes have lost some of their bytes.
+fn blurred(table: &[u8], lost: Range<usize>) -> Vec<u8> {
+    let mut blurred = table.to_vec();
+    let mut at = 4;
+    while let Some(file) = reference::file_at(table, at) {
+        for block in blurred[file.first_block..file.end].chunks_mut(40) {
+            block[8..][lost.clone()].fill(0);
+        }
+        at = file.end;
+    }
+    blurred
+}
+
+fn blurred_list(tables: [&[u8]; 5], out: &mut [u8], lost: Range<usize>) -> Answer<1> {
+    let [a, b, c, d, e] = &tables.map(|table| blurred(table, lost.clone()));
+    list([a, b, c, d, e], out)
+}
+
+/// As `is_found`, by tables that are alike.
+fn is_found_alike(calls: Calls) -> bool {
+    let mut comparison = TableComparison::new(TABLE_CALLS);
+    let mut met = BTreeMap::new();
+    (0..1_000).any(|number| compare_alike(&mut comparison, calls, number, &mut met).is_err())
+}
+
+#[test]
+fn a_difference_is_found_by_tables_alike() {
+    assert!(is_found_alike(Calls {
+        // Only the last four bytes of a hash count.
+        list: |tables, out| blurred_list(tables, out, 0..28),
+        ..CALLS
+    }));
+    assert!(is_found_alike(Calls {
+        // The last eight count.
+        list: |tables, out| blurred_list(tables, out, 0..24),
+        ..CALLS
+    }));
+    assert!(is_found_alike(Calls {
+        // The last byte doesn't count.
+        list: |tables, out| blurred_list(tables, out, 31..32),
+        ..CALLS
+    }));
+    assert!(is_found_alike(Calls {
+        // The last byte doesn't count, as above.
+        find: |table, length, hash| {
+            let mut lost = hash.to_vec();
+            lost[31..].fill(0);
+            find(&blurred(table, 31..32), length, &lost)
+        },
+        ..CALLS
+    }));
+    assert!(is_found_alike(Calls {
+        // A refused list leaves its first block behind.
+        list: |tables, out| {
+            let answer = list(tables, out);
+            if let ((14, _), Some(entry)) = (answer, out.get_mut(..24)) {
+                entry.fill(0);
+            }
+            answer
+        },
+        ..CALLS
+    }));
+    assert!(is_found_alike(Calls {
+        // What is behind the list is cleared.
+        list: |tables, out| {
+            let answer = list(tables, out);
+            if let (0, [len]) = answer {
+                out[len as usize..].fill(0);
+            }
+            answer
         },
         ..CALLS
     }));

@@ -30,15 +30,16 @@ counting-starts local t first count =
     record { same = omega (arith, same); few = omega arith }
 
 module _ {local : List File} {t : List ℕ} {first count n j : ℕ} (w : Counting local t first count n j) where
-  pub counting-turn : {r : ℕ} → j < count → r ≡ cond (isHeld local (blockHere t (blockPlace first j))) 0 1 → Counting local t first count (n + r) (j + 1)
-  counting-turn {r} h e =
+  pub counting-turn : {p r : ℕ} → j < count → p ≡ blockPlace first j → r ≡ cond (isHeld local (blockHere t p)) 0 1 → Counting local t first count (n + r) (j + 1)
+  counting-turn {p} {r} h q d =
+      let e : r ≡ cond (isHeld local (blockHere t (blockPlace first j))) 0 1 = d ∙ ap (λ (k : ℕ). cond (isHeld local (blockHere t k)) 0 1) q in
       let left : count - j ≡ suc (count - (j + 1)) = omega arith in
       let next : wantedCount local (blocksFrom t first j (count - j)) ≡ r + wantedCount local (blocksFrom t first (j + 1) (count - (j + 1))) =
       ap (λ (k : ℕ). wantedCount local (blocksFrom t first j k)) left ∙ ap (λ (k : ℕ). k + wantedCount local (blocksFrom t first (j + 1) (count - (j + 1)))) (sym e) in
       record { same = omega (arith, w .same, next); few = omega (arith, w .few, e, one-or-none (isHeld local (blockHere t (blockPlace first j)))) }
 
-  pub counting-small : {r : ℕ} → r ≡ cond (isHeld local (blockHere t (blockPlace first j))) 0 1 → r ≤ 1
-  counting-small {r} e = omega (arith, e, one-or-none (isHeld local (blockHere t (blockPlace first j))))
+  pub counting-small : (p : ℕ) {r : ℕ} → r ≡ cond (isHeld local (blockHere t p)) 0 1 → r ≤ 1
+  counting-small p e = omega (arith, e, one-or-none (isHeld local (blockHere t p)))
 
   pub counting-ends : count ≤ j → n ≡ wantedCount local (blocksFrom t first 0 count)
   counting-ends h =

@@ -1,7 +1,7 @@
 -- The entries of the list in the buffer: one, those of a record, and all.
 use Prim.Native.Nat.{ℕ, suc, _+_, _-_, _*_, _≤_, _<_}
 use mathlib.Core.List.{List, [], _∷_, _++_, append-assoc, append-nil, map}
-use mathlib.Core.Path.{_≡_, refl, sym, ap, _∙_}
+use mathlib.Core.Path.{_≡_, refl, sym, ap, subst, _∙_}
 use mathlib.Core.Bool.{Bool, true, false}
 use native.Mathlib.Omega.{arith}
 use borrow.Author.Tests.{le-leb}
@@ -13,23 +13,27 @@ use Rattle.xdr.proofs.NumberLaws.{length-digits}
 use Rattle.xdr.proofs.BufferLaws.{over-over, length-over, filled-next, FilledTo, filled-none, length-filled}
 use Rattle.record.specs.Block.{Block}
 use Rattle.record.specs.File.{File}
-use Rattle.record.specs.Outline.{wordAt, outlineOf, blockPlace}
+use Rattle.record.specs.Outline.{wordAt, blockPlace}
 use Rattle.record.specs.declared.outline.RecordFields.{RecordFields}
 use Rattle.record.specs.declared.outline.Outline.{Outline}
 use Rattle.record.specs.declared.outline.Outline.the-variants as O
-use Rattle.order.specs.Order.{part}
 use Rattle.table.specs.Table.{isGood, records}
 use Rattle.merge.specs.Merged.{mergedOf}
 use Rattle.want.specs.Listing.{isHeld, blockWith}
-use Rattle.want.specs.Steps.Blocks.{blockHere, listedCount}
-use Rattle.want.specs.Wanted.{wantedBlock, wantedFiles, wantedBytes, listBytes}
-use Rattle.want.specs.Steps.Places.{tableAt, placeAt, lowestFrom, Five, listOf, wantedHere, wantedFrom}
+use Rattle.want.specs.Steps.Blocks.{blockHere, blocksFrom}
+use Rattle.want.specs.Wanted.{wantedBlock, wantedBlocks, wantedFiles, wantedBytes, listBytes}
+use Rattle.want.specs.Steps.Places.{tableAt, Five, listOf}
+use Rattle.want.specs.Steps.Head.{Headed}
+use Rattle.want.specs.Steps.Index.{Serves}
+use Rattle.want.specs.Steps.Runs.{wantedRun}
+use Rattle.want.specs.declared.run.Run.{Run}
 use Rattle.want.specs.declared.list.Wanted.{Wanted}
 use Rattle.table.proofs.TableLaws.{word-bytes}
+use Rattle.want.proofs.BlockLaws.{read-here}
 use Rattle.want.proofs.PlaceLaws.{element}
-use Rattle.want.proofs.HeadLaws.{without}
-use Rattle.want.proofs.SideLaws.{placesAfter, starts, Turn}
-use Rattle.want.proofs.DoneLaws.{localOf, peersOf, Done, done-starts, done-all, done-begins, done-turn}
+use Rattle.want.proofs.DoneLaws.{localOf, peersOf, Done, done-all, these, later, done-begins, done-turn}
+use Rattle.want.proofs.RankLaws.{headed-lowest}
+use Rattle.want.proofs.TurnLaws.{headed-after}
 
 -- bytes put right behind others
 pub over-put : (out : List ℕ) (at : ℕ) (l m : List ℕ) {o p : List ℕ} {k : ℕ} → o ≡ over out at l → k ≡ at + length l → k + length m ≤ length out → p ≡ put o k m → p ≡ over out at (l ++ m)
@@ -128,69 +132,76 @@ module _ (local : List File) (peer : ℕ → Block → ℕ) (file j offset : ℕ
       (sym (ap length n ∙ wanted-bytes w), h ∙ ap (over out at) (sym n))
 
 -- its Length, hash and peer, as they were read
-module _ (t : List ℕ) (at : ℕ) {n : ℕ} {h : List ℕ} (e : n ≡ wordAt t at) (g : h ≡ take 32 (drop (at + 8) t)) where
-  read-here : blockWith n h ≡ blockHere t at
-  read-here = ap (λ (k : ℕ). blockWith k h) e ∙ ap (λ (l : List ℕ). blockWith (wordAt t at) l) g
-
-  pub held-first : {x y : List ℕ} {r : Bool} → r ≡ isHeld (records x) (blockWith n h) → x ≡ y → r ≡ isHeld (records y) (blockHere t at)
-  held-first {x} {y} {r} f k = f ∙ ap (λ (l : List ℕ). isHeld (records l) (blockWith n h)) k ∙ ap (isHeld (records y)) read-here
-
-  pub wanted-same : (file j offset : ℕ) (peer : ℕ → Block → ℕ) {r : ℕ} → r ≡ peer offset (blockWith n h)
-      → _≡_ {A = Wanted} (record { file = file; block = j; offset = offset; size = n; peer = r }) (record { file = file; block = j; offset = offset; size = blockHere t at .size; peer = peer offset (blockHere t at) })
-  wanted-same file j offset peer {r} f =
-      let p : r ≡ peer offset (blockHere t at) = f ∙ ap (peer offset) read-here in
-      rw (p, e) refl
+pub wanted-same : (t : List ℕ) (at : ℕ) {n : ℕ} {h : List ℕ} → n ≡ wordAt t at → h ≡ take 32 (drop (at + 8) t) → (file j offset : ℕ) (peer : ℕ → Block → ℕ) {r : ℕ} → r ≡ peer offset (blockWith n h)
+    → _≡_ {A = Wanted} (record { file = file; block = j; offset = offset; size = n; peer = r }) (record { file = file; block = j; offset = offset; size = blockHere t at .size; peer = peer offset (blockHere t at) })
+wanted-same t at {n} {h} e g file j offset peer {r} f =
+    let p : r ≡ peer offset (blockHere t at) = f ∙ ap (peer offset) (read-here t at e g) in
+    rw (p, e) refl
 
 pub good-first : {A : Type 0} (f : A → List ℕ) (l : List A) (d : A) → f d ≡ [] → isGood (tableAt (map f l) 0) ≡ true → isGood (f (getD l 0 d)) ≡ true
 good-first f l d e g = ap isGood (element f l 0 d e) ∙ g
 
+pub serves-first : {A : Type 0} (f : A → List ℕ) (l : List A) (d : A) → f d ≡ [] → {index : List ℕ} → Serves (tableAt (map f l) 0) index → Serves (f (getD l 0 d)) index
+serves-first f l d e {index} g = subst (λ (t : List ℕ). Serves t index) (sym (element f l 0 d e)) g
+
+pub held-first : {A : Type 0} (f : A → List ℕ) (l : List A) (d : A) → f d ≡ [] → (b : Block) {r : Bool} → r ≡ isHeld (records (f (getD l 0 d))) b → r ≡ isHeld (records (tableAt (map f l) 0)) b
+held-first f l d e b h = h ∙ ap (λ (t : List ℕ). isHeld (records t) b) (element f l 0 d e)
+
 -- those of a record: what was entered before block j, and what is left
 
-pub record Entered (ts : List (List ℕ)) (ps name : List ℕ) (file : ℕ) (t : List ℕ) (first count at : ℕ) (out₀ out : List ℕ) (next offset j : ℕ) : Type 0 where
+pub record Entered (local : List File) (peer : ℕ → Block → ℕ) (file : ℕ) (t : List ℕ) (first count at : ℕ) (out₀ out : List ℕ) (next offset j : ℕ) : Type 0 where
   pub done : List Wanted
   pub fills : out ≡ over out₀ at (listBytes done)
   pub placed : next ≡ at + length (listBytes done)
-  pub follows : done ++ wantedFrom ts ps name file j offset t first (count - j) ≡ wantedFrom ts ps name file 0 0 t first count
+  pub follows : done ++ wantedBlocks local peer file j offset (blocksFrom t first j (count - j)) ≡ wantedBlocks local peer file 0 0 (blocksFrom t first 0 count)
   pub small : offset ≤ j * 4294967295
 
-pub enter-starts : (ts : List (List ℕ)) (ps name : List ℕ) (file : ℕ) (t : List ℕ) (first count at : ℕ) (out : List ℕ) → Entered ts ps name file t first count at out out at 0 0
-enter-starts ts ps name file t first count at out =
+pub enter-starts : (local : List File) (peer : ℕ → Block → ℕ) (file : ℕ) (t : List ℕ) (first count at : ℕ) (out : List ℕ) → Entered local peer file t first count at out out at 0 0
+enter-starts local peer file t first count at out =
     let all : count - 0 ≡ count = omega arith in
     record {
       done = [];
       fills = over-nothing out at;
       placed = omega arith;
-      follows = ap (wantedFrom ts ps name file 0 0 t first) all;
+      follows = ap (λ (n : ℕ). wantedBlocks local peer file 0 0 (blocksFrom t first 0 n)) all;
       small = omega arith;
     }
 
-module _ {ts : List (List ℕ)} {ps name : List ℕ} {file : ℕ} {t : List ℕ} {first count at : ℕ} {out₀ out : List ℕ} {next offset j : ℕ}
-    (w : Entered ts ps name file t first count at out₀ out next offset j) (room : at + length (listBytes (wantedFrom ts ps name file 0 0 t first count)) ≤ length out₀) where
-  all-bytes : length (listBytes (w .done)) + length (listBytes (wantedFrom ts ps name file j offset t first (count - j))) ≡ length (listBytes (wantedFrom ts ps name file 0 0 t first count))
+module _ {local : List File} {peer : ℕ → Block → ℕ} {file : ℕ} {t : List ℕ} {first count at : ℕ} {out₀ out : List ℕ} {next offset j : ℕ}
+    (w : Entered local peer file t first count at out₀ out next offset j) (room : at + length (listBytes (wantedBlocks local peer file 0 0 (blocksFrom t first 0 count))) ≤ length out₀) where
+  abbrev left-over : List Wanted
+  left-over = wantedBlocks local peer file j offset (blocksFrom t first j (count - j))
+
+  all-bytes : length (listBytes (w .done)) + length (listBytes left-over) ≡ length (listBytes (wantedBlocks local peer file 0 0 (blocksFrom t first 0 count)))
   all-bytes =
-      sym (length-append (listBytes (w .done)) (listBytes (wantedFrom ts ps name file j offset t first (count - j))))
-      ∙ ap length (sym (bytes-append (w .done) (wantedFrom ts ps name file j offset t first (count - j))) ∙ ap listBytes (w .follows))
+      sym (length-append (listBytes (w .done)) (listBytes left-over))
+      ∙ ap length (sym (bytes-append (w .done) left-over) ∙ ap listBytes (w .follows))
 
   pub enter-length : length out ≡ length out₀
   enter-length = ap length (w .fills) ∙ length-over out₀ at (listBytes (w .done)) (omega (arith, all-bytes))
 
-  module _ (h : j < count) where
-    next-entry : wantedFrom ts ps name file j offset t first (count - j) ≡ wantedHere ts ps name file j offset t first ++ wantedFrom ts ps name file (j + 1) (offset + wordAt t (blockPlace first j)) t first (count - (j + 1))
-    next-entry = let left : count - j ≡ suc (count - (j + 1)) = omega arith in ap (wantedFrom ts ps name file j offset t first) left
+  module _ {p : ℕ} (h : j < count) (q : p ≡ blockPlace first j) where
+    abbrev here : List Wanted
+    here = wantedBlock local peer file j offset (blockHere t p)
 
-    pub enter-fits : next + length (listBytes (wantedHere ts ps name file j offset t first)) ≤ length out
+    abbrev rest : ℕ → List Wanted
+    rest n = wantedBlocks local peer file (j + 1) (offset + n) (blocksFrom t first (j + 1) (count - (j + 1)))
+
+    next-entry : left-over ≡ here ++ rest (wordAt t p)
+    next-entry =
+        let left : count - j ≡ suc (count - (j + 1)) = omega arith in
+        ap (λ (n : ℕ). wantedBlocks local peer file j offset (blocksFrom t first j n)) left
+        ∙ ap (λ (k : ℕ). wantedBlock local peer file j offset (blockHere t k) ++ rest (wordAt t k)) (sym q)
+
+    pub enter-fits : next + length (listBytes here) ≤ length out
     enter-fits =
-        let here : List Wanted = wantedHere ts ps name file j offset t first in
-        let rest : List Wanted = wantedFrom ts ps name file (j + 1) (offset + wordAt t (blockPlace first j)) t first (count - (j + 1)) in
-        let n : length (listBytes (wantedFrom ts ps name file j offset t first (count - j))) ≡ length (listBytes here) + length (listBytes rest) =
-        ap (λ (l : List Wanted). length (listBytes l)) next-entry ∙ ap length (bytes-append here rest) ∙ length-append (listBytes here) (listBytes rest) in
+        let n : length (listBytes left-over) ≡ length (listBytes here) + length (listBytes (rest (wordAt t p))) =
+        ap (λ (l : List Wanted). length (listBytes l)) next-entry ∙ ap length (bytes-append here (rest (wordAt t p))) ∙ length-append (listBytes here) (listBytes (rest (wordAt t p))) in
         omega (arith, all-bytes, enter-length, w .placed)
 
-    pub enter-turn : {r n : ℕ} {o : List ℕ} → r ≡ length (listBytes (wantedHere ts ps name file j offset t first)) → o ≡ over out next (listBytes (wantedHere ts ps name file j offset t first))
-        → n ≡ wordAt t (blockPlace first j) → n < 4294967296 → Entered ts ps name file t first count at out₀ o (next + r) (offset + n) (j + 1)
+    pub enter-turn : {r n : ℕ} {o : List ℕ} → r ≡ length (listBytes here) → o ≡ over out next (listBytes here) → n ≡ wordAt t p → n < 4294967296
+        → Entered local peer file t first count at out₀ o (next + r) (offset + n) (j + 1)
     enter-turn {r} {n} {o} e f k m =
-        let here : List Wanted = wantedHere ts ps name file j offset t first in
-        let rest : List Wanted = wantedFrom ts ps name file (j + 1) (offset + wordAt t (blockPlace first j)) t first (count - (j + 1)) in
         record {
           done = w .done ++ here;
           fills =
@@ -201,18 +212,28 @@ module _ {ts : List (List ℕ)} {ps name : List ℕ} {file : ℕ} {t : List ℕ}
               ∙ ap (over out₀ at) (sym (bytes-append (w .done) here));
           placed = omega (arith, w .placed, e, ap length (bytes-append (w .done) here), length-append (listBytes (w .done)) (listBytes here));
           follows =
-              append-assoc (w .done) here (wantedFrom ts ps name file (j + 1) (offset + n) t first (count - (j + 1)))
-              ∙ ap (λ (x : ℕ). w .done ++ (here ++ wantedFrom ts ps name file (j + 1) (offset + x) t first (count - (j + 1)))) k
+              append-assoc (w .done) here (rest n)
+              ∙ ap (λ (x : ℕ). w .done ++ (here ++ rest x)) k
               ∙ ap (λ (l : List Wanted). w .done ++ l) (sym next-entry)
               ∙ w .follows;
           small = omega (arith, w .small);
         }
 
-  pub enter-ends : count ≤ j → (next ≡ at + length (listBytes (wantedFrom ts ps name file 0 0 t first count))) × (out ≡ over out₀ at (listBytes (wantedFrom ts ps name file 0 0 t first count)))
+  pub enter-ends : count ≤ j
+      → (next ≡ at + length (listBytes (wantedBlocks local peer file 0 0 (blocksFrom t first 0 count)))) × (out ≡ over out₀ at (listBytes (wantedBlocks local peer file 0 0 (blocksFrom t first 0 count))))
   enter-ends h =
       let none : count - j ≡ 0 = omega arith in
-      let d : w .done ≡ wantedFrom ts ps name file 0 0 t first count = sym (append-nil (w .done)) ∙ ap (λ (n : ℕ). w .done ++ wantedFrom ts ps name file j offset t first n) (sym none) ∙ w .follows in
+      let d : w .done ≡ wantedBlocks local peer file 0 0 (blocksFrom t first 0 count) =
+      sym (append-nil (w .done)) ∙ ap (λ (n : ℕ). w .done ++ wantedBlocks local peer file j offset (blocksFrom t first j n)) (sym none) ∙ w .follows in
       (w .placed ∙ ap (λ (l : List Wanted). at + length (listBytes l)) d, w .fills ∙ ap (λ (l : List Wanted). over out₀ at (listBytes l)) d)
+
+-- none of a run of no blocks
+module _ (ts : List (List ℕ)) (rs : List Run) (file : ℕ) (t : List ℕ) (first : ℕ) {count : ℕ} (e : count ≡ 0) (out : List ℕ) (at : ℕ) where
+  none : wantedRun ts rs file 0 0 t first count ≡ []
+  none = ap (wantedRun ts rs file 0 0 t first) e
+
+  pub run-nothing : (at ≡ at + length (listBytes (wantedRun ts rs file 0 0 t first count))) × (out ≡ over out at (listBytes (wantedRun ts rs file 0 0 t first count)))
+  run-nothing = (omega (arith, ap (λ (l : List Wanted). length (listBytes l)) none), over-nothing out at ∙ ap (λ (l : List Wanted). over out at (listBytes l)) (sym none))
 
 -- all: those of the records before
 
@@ -221,55 +242,49 @@ pub record Filled (ts : List (List ℕ)) (ps out₀ out : List ℕ) (file at : �
   pub so-far : Done ts ps file done
   pub fills : FilledTo out₀ out (listBytes done) at
 
-pub filled-starts : (ts : List (List ℕ)) (out : List ℕ) → Five ts → Filled ts starts out out 0 0
-filled-starts ts out g = record { done = []; so-far = done-starts ts g; fills = filled-none out }
+pub filled-starts : {ts : List (List ℕ)} {file : ℕ} {ps : List ℕ} (out : List ℕ) → Done ts ps file [] → Filled ts ps out out file 0
+filled-starts out d = record { done = []; so-far = d; fills = filled-none out }
 
-module _ {ts : List (List ℕ)} {ps out₀ out : List ℕ} {file at : ℕ} (w : Filled ts ps out₀ out file at) where
-  pub filled-all : {k : ℕ} {t : List ℕ} {x : Outline} → k ≡ lowestFrom ts ps 0 1 4 → t ≡ tableAt ts k → x ≡ outlineOf t (placeAt ps k) → x ≡ O.Short → out ≡ filled out₀ (listBytes (listOf ts))
-  filled-all e z y g = w .fills .fills ∙ ap (λ (l : List Wanted). filled out₀ (listBytes l)) (done-all (w .so-far) e z y g)
+module _ {ts : List (List ℕ)} {ps out₀ out : List ℕ} {file at : ℕ} (g : Five ts) (w : Filled ts ps out₀ out file at) (room : length (listBytes (listOf ts)) ≤ length out₀) where
+  filled-length : (rest : List Wanted) → w .done ++ rest ≡ listOf ts → (at + length (listBytes rest) ≡ length (listBytes (listOf ts))) × (length out ≡ length out₀)
+  filled-length rest e =
+      let n : length (listBytes (w .done)) + length (listBytes rest) ≡ length (listBytes (listOf ts)) =
+      sym (length-append (listBytes (w .done)) (listBytes rest)) ∙ ap length (sym (bytes-append (w .done) rest) ∙ ap listBytes e) in
+      (omega (arith, w .fills .long), ap length (w .fills .fills) ∙ length-filled out₀ (listBytes (w .done)) (omega arith))
 
-  module _ (room : length (listBytes (listOf ts)) ≤ length out₀) where
-    pub filled-length : (rest : List Wanted) → w .done ++ rest ≡ listOf ts → (at + length (listBytes rest) ≡ length (listBytes (listOf ts))) × (length out ≡ length out₀)
-    filled-length rest e =
-        let n : length (listBytes (w .done)) + length (listBytes rest) ≡ length (listBytes (listOf ts)) =
-        sym (length-append (listBytes (w .done)) (listBytes rest)) ∙ ap length (sym (bytes-append (w .done) rest) ∙ ap listBytes e) in
-        (omega (arith, w .fills .long), ap length (w .fills .fills) ∙ length-filled out₀ (listBytes (w .done)) (omega arith))
+  pub filled-same : length out ≡ length out₀
+  filled-same = filled-length (wantedFiles (localOf ts) (peersOf ts) file (mergedOf (w .so-far .ls))) (w .so-far .follows) .1
 
-    pub filled-same : length out ≡ length out₀
-    filled-same = filled-length (wantedFiles (localOf ts) (peersOf ts) file (mergedOf (w .so-far .ls))) (w .so-far .follows) .1
+  module _ {best : ℕ} {x : Outline} {past : List ℕ} (h : Headed ts ps 5 best x past) where
+    pub filled-all : x ≡ O.Short → (at ≡ length (listBytes (listOf ts))) × (out ≡ filled out₀ (listBytes (listOf ts)))
+    filled-all e =
+        let all = done-all (w .so-far) (headed-lowest h) (h .fields-are) e in
+        (sym (w .fills .long) ∙ ap (λ (l : List Wanted). length (listBytes l)) all, w .fills .fills ∙ ap (λ (l : List Wanted). filled out₀ (listBytes l)) all)
 
-    module _ {k : ℕ} {t : List ℕ} {f : RecordFields} (g : Five ts) (u : Turn ts ps (w .so-far .ls) k t f) {name : List ℕ} {count : ℕ} (n : name ≡ part t (f .name) (f .stop)) (q : count ≡ listedCount f) where
-      abbrev these : List Wanted
-      these = wantedFrom ts ps name file 0 0 t (f .first) count
-
-      begins : w .done ++ (these ++ wantedFiles (localOf ts) (peersOf ts) (file + 1) (mergedOf (map (without (u .head)) (w .so-far .ls)))) ≡ listOf ts
+    module _ {f : RecordFields} (is : x ≡ O.Whole f) {l : List Wanted} (q : l ≡ these (w .so-far) g (headed-lowest h) (h .fields-are) is) where
+      begins : w .done ++ (l ++ later (w .so-far) g (headed-lowest h) (h .fields-are) is) ≡ listOf ts
       begins =
-          ap (λ (i : ℕ). w .done ++ (wantedFrom ts ps name file 0 0 t (f .first) i ++ wantedFiles (localOf ts) (peersOf ts) (file + 1) (mergedOf (map (without (u .head)) (w .so-far .ls))))) q
-          ∙ done-begins (w .so-far) g u n
+          ap (λ (m : List Wanted). w .done ++ (m ++ later (w .so-far) g (headed-lowest h) (h .fields-are) is)) q
+          ∙ done-begins (w .so-far) g (headed-lowest h) (h .fields-are) is
 
-      pub filled-fits : at + length (listBytes these) ≤ length out
+      pub filled-fits : at + length (listBytes l) ≤ length out
       filled-fits =
-          let rest : List Wanted = wantedFiles (localOf ts) (peersOf ts) (file + 1) (mergedOf (map (without (u .head)) (w .so-far .ls))) in
-          let l = filled-length (these ++ rest) begins in
-          omega (arith, l .0, l .1, ap length (bytes-append these rest), length-append (listBytes these) (listBytes rest))
+          let rest : List Wanted = later (w .so-far) g (headed-lowest h) (h .fields-are) is in
+          let n = filled-length (l ++ rest) begins in
+          omega (arith, n .0, n .1, ap length (bytes-append l rest), length-append (listBytes l) (listBytes rest))
 
-      pub filled-turn : (qs : List ℕ) → qs ≡ placesAfter ts ps name → {r : ℕ} {o : List ℕ} → r ≡ at + length (listBytes these) → o ≡ over out at (listBytes these) → Filled ts qs out₀ o (file + 1) r
-      filled-turn qs e {r} {o} i h =
-          let done : List Wanted = w .done ++ wantedFrom ts ps name file 0 0 t (f .first) (listedCount f) in
-          let same : listBytes these ≡ listBytes (wantedFrom ts ps name file 0 0 t (f .first) (listedCount f)) = ap (λ (m : ℕ). listBytes (wantedFrom ts ps name file 0 0 t (f .first) m)) q in
+      pub filled-turn : {r : ℕ} {o : List ℕ} → r ≡ at + length (listBytes l) → o ≡ over out at (listBytes l) → Filled ts past out₀ o (file + 1) r
+      filled-turn {r} {o} i k =
           record {
-            done = done;
-            so-far = done-turn (w .so-far) g u n qs e;
+            done = w .done ++ l;
+            so-far = subst (λ (m : List Wanted). Done ts past (file + 1) (w .done ++ m)) (sym q) (done-turn (w .so-far) g (headed-lowest h) (h .fields-are) is (headed-after h is));
             fills = record {
               fills =
-                  h
-                  ∙ ap (λ (x : List ℕ). over x at (listBytes these)) (w .fills .fills)
-                  ∙ ap (λ (x : ℕ). over (filled out₀ (listBytes (w .done))) x (listBytes these)) (sym (w .fills .long))
-                  ∙ filled-next out₀ (listBytes (w .done)) (listBytes these) (omega (arith, filled-length (these ++ wantedFiles (localOf ts) (peersOf ts) (file + 1) (mergedOf (map (without (u .head)) (w .so-far .ls)))) begins .0, w .fills .long))
-                  ∙ ap (filled out₀) (ap (λ (x : List ℕ). listBytes (w .done) ++ x) same ∙ sym (bytes-append (w .done) (wantedFrom ts ps name file 0 0 t (f .first) (listedCount f))));
-              long =
-                  ap length (bytes-append (w .done) (wantedFrom ts ps name file 0 0 t (f .first) (listedCount f)))
-                  ∙ length-append (listBytes (w .done)) (listBytes (wantedFrom ts ps name file 0 0 t (f .first) (listedCount f)))
-                  ∙ omega (arith, w .fills .long, i, ap length same);
+                  k
+                  ∙ ap (λ (y : List ℕ). over y at (listBytes l)) (w .fills .fills)
+                  ∙ ap (λ (y : ℕ). over (filled out₀ (listBytes (w .done))) y (listBytes l)) (sym (w .fills .long))
+                  ∙ filled-next out₀ (listBytes (w .done)) (listBytes l) (omega (arith, filled-length (l ++ later (w .so-far) g (headed-lowest h) (h .fields-are) is) begins .0, w .fills .long))
+                  ∙ ap (filled out₀) (sym (bytes-append (w .done) l));
+              long = ap length (bytes-append (w .done) l) ∙ length-append (listBytes (w .done)) (listBytes l) ∙ omega (arith, w .fills .long, i);
             };
           }

@@ -44,7 +44,7 @@ module _ (w : File) where
   rest-above (f ∷ fs) (inr e) r g m =
       subst (λ (n : List ℕ). Below n (g .name)) (sym (e .0)) (above-all (f .name) fs (r .0) (r .1) g (subst (λ (l : List File). g ∈ l) (tail-left f fs (e .0)) m))
 
-  rest-in : (l : List File) → Leads w l → (g : File) → g ∈ without w l → g ∈ l
+  pub rest-in : (l : List File) → Leads w l → (g : File) → g ∈ without w l → g ∈ l
   rest-in [] a g m = m
   rest-in (f ∷ fs) (inl p) g m = subst (λ (l : List File). g ∈ l) (all-left f fs p) m
   rest-in (f ∷ fs) (inr e) g m = List·Memᴰ·tail (subst (λ (l : List File). g ∈ l) (tail-left f fs (e .0)) m)

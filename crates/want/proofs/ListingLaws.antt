@@ -1,5 +1,5 @@
 -- The record at a place of a table, and the blocks that it lists.
-use Prim.Native.Nat.{ℕ, _+_, _-_, _*_, _≤_}
+use Prim.Native.Nat.{ℕ, _+_, _*_, _≤_}
 use mathlib.Core.List.{List, [], _∷_}
 use mathlib.Core.Path.{_≡_, refl, sym, ap, _∙_}
 use mathlib.Core.Bool.{Bool, true, false, cond}
@@ -9,34 +9,16 @@ use lib.Seq.{drop-drop}
 use Rattle.xdr.proofs.Parts.{Elements}
 use Rattle.record.specs.Block.{Block, block}
 use Rattle.record.specs.File.{File}
-use Rattle.record.specs.Outline.{wordAt, outlineOf, fieldsOf, blockPlace, blockOf}
+use Rattle.record.specs.Outline.{outlineOf, fieldsOf, blockPlace}
 use Rattle.record.specs.declared.outline.RecordFields.{RecordFields}
 use Rattle.record.specs.declared.outline.Outline.{Outline}
 use Rattle.record.specs.declared.outline.Outline.the-variants as O
-use Rattle.record.specs.declared.outline.BlockOutline.{BlockOutline}
-use Rattle.record.specs.declared.outline.BlockOutline.the-variants as B
-use Rattle.record.proofs.OutlineLaws.{block-whole}
 use Rattle.record.proofs.BlockLaws.{nth-block}
 use Rattle.record.proofs.FileLaws.{encoding-parts}
 use Rattle.table.specs.Steps.Standing.{bytesOf, At}
 use Rattle.table.proofs.WalkLaws.{at-end, standing}
 use Rattle.want.specs.Listing.{isCurrent, listed}
 use Rattle.want.specs.Steps.Blocks.{blockHere, blocksFrom, listedCount}
-
--- the Length of a block that is there, by the answer that was given
-
-pub size-there : (s : List ℕ) (first j : ℕ) {x : BlockOutline} {n at : ℕ} → blockPlace first j + 40 ≤ length s → x ≡ blockOf s first j → x ≡ B.Whole n at → n ≡ wordAt s (blockPlace first j)
-size-there s first j {x} {n} {at} h e f =
-    let w : B.Whole (wordAt s (blockPlace first j)) (blockPlace first j + 8) ≡ blockOf s first j = block-whole s first j (wordAt s (blockPlace first j)) (blockPlace first j + 8) refl refl h in
-    let same : B.Whole n at ≡ B.Whole (wordAt s (blockPlace first j)) (blockPlace first j + 8) = sym f ∙ e ∙ sym w in
-    cc
-
-pub size-missing : (s : List ℕ) (first j : ℕ) {x : BlockOutline} {P : Type 0} → blockPlace first j + 40 ≤ length s → x ≡ blockOf s first j → x ≡ B.Short → P
-size-missing s first j {x} h e f =
-    let w : B.Whole (wordAt s (blockPlace first j)) (blockPlace first j + 8) ≡ blockOf s first j = block-whole s first j (wordAt s (blockPlace first j)) (blockPlace first j + 8) refl refl h in
-    let same : B.Whole (wordAt s (blockPlace first j)) (blockPlace first j + 8) ≡ B.Short = w ∙ sym e ∙ f in
-    let z : _≡_ {A = ℕ} 0 1 = cc in
-    absurd (omega arith)
 
 -- blocks that were read one after another
 blocks-by : (s : List ℕ) (l : List Block) (first next : ℕ) → Elements block s first l next → (m : List Block) (i : ℕ) → drop i l ≡ m → blocksFrom s first i (length m) ≡ m

@@ -1,32 +1,25 @@
--- The loops over the five tables: which has the next record, and which lists a block.
+-- The loops over the five tables: which has the next record, and which is the first of the peers.
 use Prim.Native.Nat.{ℕ, suc, _+_, _-_, _≤_, _<_}
 use mathlib.Core.List.{List, [], _∷_, map}
 use mathlib.Core.Path.{_≡_, refl, sym, ap, _∙_}
 use mathlib.Core.Bool.{Bool, true, false, cond}
 use native.Mathlib.Omega.{arith}
-use lib.ListN.{getD, List·getD-map}
-use Rattle.record.specs.Block.{Block}
+use lib.ListN.{length, getD, List·getD-map}
 use Rattle.merge.specs.Steps.Next.{nextOf}
-use Rattle.want.specs.Steps.Places.{isFirst, tableAt, placeAt, lowerOf, lowestFrom, pastName, listsAt, peerAt}
+use Rattle.want.specs.Steps.Places.{isFirst, tableAt, placeAt, lowerOf, lowestFrom, firstOf}
 
 -- an element of the lent tables
 pub element : {A : Type 0} (f : A → List ℕ) (l : List A) (k : ℕ) (d : A) → f d ≡ [] → f (getD l k d) ≡ tableAt (map f l) k
 element f l k d e = sym (List·getD-map f l k d) ∙ ap (getD (map f l) k) e
 
--- the places after a name
-pub passed-by : {A : Type 0} (f : A → List ℕ) (l : List A) (d : A) → f d ≡ [] → (name ps : List ℕ) (k : ℕ) {r : ℕ} → r ≡ pastName name (f (getD l k d)) (placeAt ps k)
-    → r ≡ pastName name (tableAt (map f l) k) (placeAt ps k)
-passed-by f l d z name ps k e = e ∙ ap (λ (t : List ℕ). pastName name t (placeAt ps k)) (element f l k d z)
+-- what is within the table is within the bytes that are lent for it
+pub within-lent : {A : Type 0} (f : A → List ℕ) (l : List A) (k : ℕ) (d : A) → f d ≡ [] → {n : ℕ} → n ≤ length (tableAt (map f l) k) → n ≤ length (f (getD l k d))
+within-lent f l k d e h = omega (arith, h, ap length (element f l k d e))
 
 pub five : {a b c d e v w x y z : ℕ} → a ≡ v → b ≡ w → c ≡ x → d ≡ y → e ≡ z → (a ∷ b ∷ c ∷ d ∷ e ∷ []) ≡ (v ∷ w ∷ x ∷ y ∷ z ∷ [])
 five {a} {b} {c} {d} {e} {v} {w} {x} {y} {z} p q r s t = cc
 
 module _ (ts : List (List ℕ)) (ps : List ℕ) where
-  pub lower-by : (best k : ℕ) {a b : List ℕ} {r v : Bool} → r ≡ isFirst (nextOf a (placeAt ps best) b (placeAt ps k)) → a ≡ tableAt ts best → b ≡ tableAt ts k → r ≡ v → cond v best k ≡ lowerOf ts ps best k
-  lower-by best k {a} {b} e f g h =
-      ap (λ (t : Bool). cond t best k)
-      (sym h ∙ e ∙ ap (λ (x : List ℕ). isFirst (nextOf x (placeAt ps best) b (placeAt ps k))) f ∙ ap (λ (x : List ℕ). isFirst (nextOf (tableAt ts best) (placeAt ps best) x (placeAt ps k))) g)
-
   pub lower-small : (best k : ℕ) → best < 5 → k < 5 → lowerOf ts ps best k < 5
   lower-small best k p q = go (isFirst (nextOf (tableAt ts best) (placeAt ps best) (tableAt ts k) (placeAt ps k)))
     where
@@ -65,39 +58,35 @@ module _ (ts : List (List ℕ)) (ps : List ℕ) where
       let none : 5 - k ≡ 0 = omega arith in
       sym (w .same ∙ ap (lowestFrom ts ps best k) none ∙ lowest-none best k)
 
-  -- which peer lists a block
-  module _ (name : List ℕ) (offset : ℕ) (b : Block) where
-    pub record Asking (k : ℕ) : Type 0 where
-      pub same : peerAt ts ps name 1 4 offset b ≡ peerAt ts ps name k (5 - k) offset b
-      pub few : k ≤ 5
+-- the lowest of the numbers from 1 to 4
 
-    pub asking-starts : Asking 1
-    asking-starts = record { same = refl; few = omega arith }
+pub first-next : (is : ℕ → Bool) (k left : ℕ) → firstOf is k (suc left) ≡ cond (is k) k (firstOf is (k + 1) left)
+unfolding firstOf
+first-next is k left = refl
 
-    pub peer-next : (k left : ℕ) → peerAt ts ps name k (suc left) offset b ≡ cond (listsAt (tableAt ts k) (placeAt ps k) name offset b) k (peerAt ts ps name (k + 1) left offset b)
-    unfolding peerAt
-    peer-next k left = refl
+pub first-none : (is : ℕ → Bool) (k : ℕ) → firstOf is k 0 ≡ 0
+unfolding firstOf
+first-none is k = refl
 
-    pub peer-none : (k : ℕ) → peerAt ts ps name k 0 offset b ≡ 0
-    unfolding peerAt
-    peer-none k = refl
+-- none of those before k is one
+pub record Asking (is : ℕ → Bool) (k : ℕ) : Type 0 where
+  pub same : firstOf is 1 4 ≡ firstOf is k (5 - k)
+  pub few : k ≤ 5
 
-    pub asking-ends : {k : ℕ} → Asking k → 5 ≤ k → 0 ≡ peerAt ts ps name 1 4 offset b
-    asking-ends {k} w h =
-        let none : 5 - k ≡ 0 = omega arith in
-        sym (w .same ∙ ap (λ (n : ℕ). peerAt ts ps name k n offset b) none ∙ peer-none k)
+pub asking-starts : (is : ℕ → Bool) → Asking is 1
+asking-starts is = record { same = refl; few = omega arith }
 
-    module _ {k : ℕ} {a : List ℕ} {r : Bool} (w : Asking k) (h : k < 5) (e : r ≡ listsAt a (placeAt ps k) name offset b) (f : a ≡ tableAt ts k) where
-      by-list : {v : Bool} → r ≡ v → peerAt ts ps name 1 4 offset b ≡ cond v k (peerAt ts ps name (k + 1) (5 - (k + 1)) offset b)
-      by-list {v} g =
-          let left : 5 - k ≡ suc (5 - (k + 1)) = omega arith in
-          w .same
-          ∙ ap (λ (n : ℕ). peerAt ts ps name k n offset b) left
-          ∙ peer-next k (5 - (k + 1))
-          ∙ ap (λ (t : Bool). cond t k (peerAt ts ps name (k + 1) (5 - (k + 1)) offset b)) (sym (sym g ∙ e ∙ ap (λ (x : List ℕ). listsAt x (placeAt ps k) name offset b) f))
+module _ {is : ℕ → Bool} {k : ℕ} (w : Asking is k) where
+  pub asking-ends : 5 ≤ k → 0 ≡ firstOf is 1 4
+  asking-ends h = let none : 5 - k ≡ 0 = omega arith in sym (w .same ∙ ap (firstOf is k) none ∙ first-none is k)
 
-      pub asking-found : r ≡ true → k ≡ peerAt ts ps name 1 4 offset b
-      asking-found g = sym (by-list g)
+  by-next : k < 5 → {v : Bool} → is k ≡ v → firstOf is 1 4 ≡ cond v k (firstOf is (k + 1) (5 - (k + 1)))
+  by-next h e =
+      let left : 5 - k ≡ suc (5 - (k + 1)) = omega arith in
+      w .same ∙ ap (firstOf is k) left ∙ first-next is k (5 - (k + 1)) ∙ ap (λ (t : Bool). cond t k (firstOf is (k + 1) (5 - (k + 1)))) e
 
-      pub asking-goes-on : r ≡ false → Asking (k + 1)
-      asking-goes-on g = record { same = by-list g; few = omega arith }
+  pub asking-found : k < 5 → is k ≡ true → k ≡ firstOf is 1 4
+  asking-found h e = sym (by-next h e)
+
+  pub asking-goes-on : k < 5 → is k ≡ false → Asking is (k + 1)
+  asking-goes-on h e = record { same = by-next h e; few = omega arith }

@@ -4,7 +4,7 @@ use Prim.Native.Nat.{ℕ, zero, suc, _+_, _-_, _<_}
 use mathlib.Core.List.{List, [], _∷_, _++_, List·Memᴰ, List·Memᴰ·head, List·Memᴰ·tail, List·Memᴰ·cases-cons, List·Memᴰ·not-nil, List·Memᴰ·append-cases, Memᴰ·append-left, Memᴰ·append-right}
 use mathlib.Core.Path.{_≡_, refl, sym, ap, subst, _∙_}
 use mathlib.Core.Logic.{_⊎_, inl, inr, ⊎-elim}
-use mathlib.Core.Bool.{Bool, true, false, cond, _&&_, _||_}
+use mathlib.Core.Bool.{Bool, true, false, cond, _&&_}
 use native.Mathlib.Omega.{arith}
 use borrow.Author.Tests.{eq-eqb}
 use lib.ListN.{length, getD}
@@ -18,6 +18,8 @@ use Rattle.merge.proofs.HighestLaws.{_∈_, above-all, merged-highest}
 use Rattle.want.specs.Listing.{isSame, listed, hasBlock, isHeld, hasThere, listsThere}
 use Rattle.want.specs.Wanted.{peerFrom, wantedBlock, wantedBlocks, wantedFiles, requestList, Earlier, Ordered}
 use Rattle.want.specs.declared.list.Wanted.{Wanted}
+use Rattle.want.proofs.BlockLaws.{same-self}
+use Rattle.want.proofs.HeldLaws.{or-true, has-itself, held-by-record}
 use Rattle.want.proofs.HeadLaws.{Within, in-joined}
 
 -- an entry for one of some blocks, the first of which has a number and an offset
@@ -222,28 +224,9 @@ lowest-from (p ∷ ps) first name offset b m h e = go (listsThere p name offset 
     go false q zero h e ih = let z : _≡_ {A = Bool} false true = sym q ∙ e in let y : _≡_ {A = ℕ} 0 1 = cc in absurd (omega arith)
     go false q (suc m) h e ih = lowest-later q (ih m (omega arith) e)
 
-itself : (b : Block) → isSame b b ≡ true
-itself b = rw (eq-eqb (b .size) (b .size) refl, same-equal (b .hash)) refl
-
-or-true : (a : Bool) → (a || true) ≡ true
-or-true true = refl
-or-true false = refl
-
-has-itself : (front : List Block) (b : Block) (rest : List Block) → hasBlock (front ++ (b ∷ rest)) b ≡ true
-has-itself [] b rest = rw (itself b) refl
-has-itself (c ∷ front) b rest = rw (has-itself front b rest) (or-true (isSame c b))
-
 there-itself : (front : List Block) (b : Block) (rest : List Block) (from offset : ℕ) → offset ≡ from + totalSize front → hasThere from (front ++ (b ∷ rest)) offset b ≡ true
-there-itself [] b rest from offset e = rw (eq-eqb from offset (omega arith), itself b) refl
+there-itself [] b rest from offset e = rw (eq-eqb from offset (omega arith), same-self b) refl
 there-itself (c ∷ front) b rest from offset e = rw (there-itself front b rest (from + c .size) offset (omega arith)) (or-true (eqb from offset && isSame c b))
-
-held-by-record : (fs : List File) (f : File) (b : Block) → f ∈ fs → hasBlock (listed f) b ≡ true → isHeld fs b ≡ true
-held-by-record [] f b m e = absurd (List·Memᴰ·not-nil m)
-held-by-record (g ∷ fs) f b m e = go (List·Memᴰ·cases-cons m) (λ k. held-by-record fs f b k e)
-  where
-    go : (f ≡ g) ⊎ (f ∈ fs) → (f ∈ fs → isHeld fs b ≡ true) → isHeld (g ∷ fs) b ≡ true
-    go (inl q) ih = rw (subst (λ (x : File). hasBlock (listed x) b ≡ true) q e) refl
-    go (inr k) ih = rw (ih k) (or-true (hasBlock (listed g) b))
 
 lists-by-record : (fs : List File) (f : File) (offset : ℕ) (b : Block) → Rising fs → f ∈ fs → listsThere fs (f .name) offset b ≡ hasThere 0 (listed f) offset b
 lists-by-record [] f offset b r m = absurd (List·Memᴰ·not-nil m)

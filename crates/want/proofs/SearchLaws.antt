@@ -84,17 +84,20 @@ module _ {t : List ℕ} {b : Block} {at n : ℕ} {f : RecordFields} {count first
   pub block-there : j < count → blockPlace first j + 40 ≤ length t
   block-there h = omega (arith, w .within)
 
-  pub search-found : {r : Bool} → j < count → r ≡ isSame (blockHere t (blockPlace first j)) b → r ≡ true → F.At n j ≡ foundFrom 0 (records t) b
-  search-found h e g = sym (next-block h ∙ rw (sym e ∙ g) refl)
+  told-there : {p : ℕ} {r v : Bool} → p ≡ blockPlace first j → r ≡ isSame (blockHere t p) b → r ≡ v → isSame (blockHere t (blockPlace first j)) b ≡ v
+  told-there q e g = ap (λ (k : ℕ). isSame (blockHere t k) b) (sym q) ∙ sym e ∙ g
 
-  pub search-passes : {r : Bool} → j < count → r ≡ isSame (blockHere t (blockPlace first j)) b → r ≡ false → Searching t b at n f count first (j + 1)
-  search-passes h e g =
+  pub search-found : {p : ℕ} {r : Bool} → j < count → p ≡ blockPlace first j → r ≡ isSame (blockHere t p) b → r ≡ true → F.At n j ≡ foundFrom 0 (records t) b
+  search-found h q e g = sym (next-block h ∙ rw (told-there q e g) refl)
+
+  pub search-passes : {p : ℕ} {r : Bool} → j < count → p ≡ blockPlace first j → r ≡ isSame (blockHere t p) b → r ≡ false → Searching t b at n f count first (j + 1)
+  search-passes h q e g =
       record {
         head = w .head;
         tail = w .tail;
         here = w .here;
         fields-are = w .fields-are;
-        same = next-block h ∙ rw (sym e ∙ g) refl;
+        same = next-block h ∙ rw (told-there q e g) refl;
         within = w .within;
         few = w .few;
         short = w .short;

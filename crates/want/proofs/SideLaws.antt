@@ -28,11 +28,11 @@ use Rattle.merge.proofs.MergeLaws.{all-ok}
 use Rattle.want.specs.Listing.{listed, isCurrent, hasThere, listsThere}
 use Rattle.want.specs.Steps.Blocks.{blocksFrom, listedCount}
 use Rattle.want.specs.Wanted.{peerFrom}
-use Rattle.want.specs.Steps.Places.{tableAt, placeAt, lowestFrom, pastName, listsAt, peerAt, Five}
+use Rattle.want.specs.Steps.Places.{tableAt, placeAt, lowestFrom, pastName, placesAfter, listsAt, firstOf, peerAt, starts, Five}
 use Rattle.want.proofs.ListingLaws.{listed-few, heads, none-here, listed-blocks, listed-within}
 use Rattle.want.proofs.ThereLaws.{past-none, past-by, lists-none, lists-by}
-use Rattle.want.proofs.PlaceLaws.{peer-next, peer-none}
-use Rattle.want.proofs.HeadLaws.{Leads, without, above-test, same-test, all-left, tail-left, rest-rising, in-joined, length-map, left-of, Heading, head-in, left-above, left-in, merged-next}
+use Rattle.want.proofs.PlaceLaws.{first-next, first-none}
+use Rattle.want.proofs.HeadLaws.{Leads, without, above-test, same-test, all-left, tail-left, rest-in, rest-rising, in-joined, length-map, left-of, Heading, head-in, left-above, left-in, merged-next}
 use Rattle.want.proofs.FirstLaws.{First, Lead, lowest-leads}
 
 -- one of five
@@ -44,22 +44,33 @@ by-five P a b c d e (suc (suc (suc zero))) h = d
 by-five P a b c d e (suc (suc (suc (suc zero)))) h = e
 by-five P a b c d e (suc (suc (suc (suc (suc k))))) h = absurd (omega arith)
 
+-- how far the peers have come
+abbrev pub peersTotal : List ℕ → ℕ
+peersTotal ps = placeAt ps 1 + placeAt ps 2 + placeAt ps 3 + placeAt ps 4
+
 -- how far all have come
 abbrev pub total : List ℕ → ℕ
-total ps = placeAt ps 0 + placeAt ps 1 + placeAt ps 2 + placeAt ps 3 + placeAt ps 4
+total ps = placeAt ps 0 + peersTotal ps
 
-total-rises : (ps qs : List ℕ) (n : ℕ) → ((k : ℕ) → k < 5 → placeAt ps k ≤ placeAt qs k) → (b : ℕ) → b < 5 → placeAt ps b + n ≤ placeAt qs b → total ps + n ≤ total qs
-total-rises ps qs n h =
-    by-five (λ b. placeAt ps b + n ≤ placeAt qs b → total ps + n ≤ total qs)
-    (λ g. omega (arith, h 1 (omega arith), h 2 (omega arith), h 3 (omega arith), h 4 (omega arith)))
-    (λ g. omega (arith, h 0 (omega arith), h 2 (omega arith), h 3 (omega arith), h 4 (omega arith)))
-    (λ g. omega (arith, h 0 (omega arith), h 1 (omega arith), h 3 (omega arith), h 4 (omega arith)))
-    (λ g. omega (arith, h 0 (omega arith), h 1 (omega arith), h 2 (omega arith), h 4 (omega arith)))
-    (λ g. omega (arith, h 0 (omega arith), h 1 (omega arith), h 2 (omega arith), h 3 (omega arith)))
+-- none goes back, and one of them goes on by n
+module _ (ps qs : List ℕ) (n : ℕ) (h : (k : ℕ) → k < 5 → placeAt ps k ≤ placeAt qs k) where
+  pub total-rises : (b : ℕ) → b < 5 → placeAt ps b + n ≤ placeAt qs b → total ps + n ≤ total qs
+  total-rises =
+      by-five (λ b. placeAt ps b + n ≤ placeAt qs b → total ps + n ≤ total qs)
+      (λ g. omega (arith, h 1 (omega arith), h 2 (omega arith), h 3 (omega arith), h 4 (omega arith)))
+      (λ g. omega (arith, h 0 (omega arith), h 2 (omega arith), h 3 (omega arith), h 4 (omega arith)))
+      (λ g. omega (arith, h 0 (omega arith), h 1 (omega arith), h 3 (omega arith), h 4 (omega arith)))
+      (λ g. omega (arith, h 0 (omega arith), h 1 (omega arith), h 2 (omega arith), h 4 (omega arith)))
+      (λ g. omega (arith, h 0 (omega arith), h 1 (omega arith), h 2 (omega arith), h 3 (omega arith)))
 
--- the places after a name
-abbrev pub placesAfter : List (List ℕ) → List ℕ → (name : List ℕ) → List ℕ
-placesAfter ts ps name = map (λ k. pastName name (tableAt ts k) (placeAt ps k)) (0 ∷ 1 ∷ 2 ∷ 3 ∷ 4 ∷ [])
+  pub peers-rise : (b : ℕ) → b < 5 → 0 < b → placeAt ps b + n ≤ placeAt qs b → peersTotal ps + n ≤ peersTotal qs
+  peers-rise =
+      by-five (λ b. 0 < b → placeAt ps b + n ≤ placeAt qs b → peersTotal ps + n ≤ peersTotal qs)
+      (λ z g. absurd (omega arith))
+      (λ z g. omega (arith, h 2 (omega arith), h 3 (omega arith), h 4 (omega arith)))
+      (λ z g. omega (arith, h 1 (omega arith), h 3 (omega arith), h 4 (omega arith)))
+      (λ z g. omega (arith, h 1 (omega arith), h 2 (omega arith), h 4 (omega arith)))
+      (λ z g. omega (arith, h 1 (omega arith), h 2 (omega arith), h 3 (omega arith)))
 
 place-after : (ts : List (List ℕ)) (ps name : List ℕ) (k : ℕ) → k < 5 → placeAt (placesAfter ts ps name) k ≡ pastName name (tableAt ts k) (placeAt ps k)
 place-after ts ps name = by-five (λ k. placeAt (placesAfter ts ps name) k ≡ pastName name (tableAt ts k) (placeAt ps k)) refl refl refl refl refl
@@ -125,6 +136,7 @@ pub record Walk (ts : List (List ℕ)) (ps : List ℕ) (ls : List (List File)) :
   pub many : length ls ≡ 5
   pub here : (k : ℕ) → k < 5 → At (tableAt ts k) (placeAt ps k) (getD ls k [])
   pub rising : (k : ℕ) → k < 5 → Rising (getD ls k [])
+  pub among : (k : ℕ) → k < 5 → (f : File) → f ∈ getD ls k [] → f ∈ records (tableAt ts k)
   pub lists : (f : File) → f ∈ joined ls → (k : ℕ) → k < 5 → (offset : ℕ) (b : Block) → listsThere (records (tableAt ts k)) (f .name) offset b ≡ listsThere (getD ls k []) (f .name) offset b
 
 no-records : records [] ≡ []
@@ -135,8 +147,6 @@ pub records-of : (ts : List (List ℕ)) (k : ℕ) → getD (map records ts) k []
 records-of ts k = ap (getD (map records ts) k) (sym no-records) ∙ List·getD-map records ts k []
 
 -- before the first turn
-abbrev pub starts : List ℕ
-starts = 4 ∷ 4 ∷ 4 ∷ 4 ∷ 4 ∷ []
 
 at-four : (k : ℕ) → k < 5 → placeAt starts k ≡ 4
 at-four = by-five (λ k. placeAt starts k ≡ 4) refl refl refl refl refl
@@ -149,6 +159,7 @@ walk-starts ts g =
           subst (λ (l : List File). At (tableAt ts k) (placeAt starts k) l) (sym (records-of ts k))
           (subst (λ (p : ℕ). At (tableAt ts k) p (records (tableAt ts k))) (sym (at-four k s)) (at-start (good-table (tableAt ts k) (g .bytes k s) (g .good k s))));
       rising = λ k s. subst Rising (sym (records-of ts k)) (good-table (tableAt ts k) (g .bytes k s) (g .good k s) .rising);
+      among = λ k s f m. subst (λ (l : List File). f ∈ l) (records-of ts k) m;
       lists = λ f m k s offset b. ap (λ (l : List File). listsThere l (f .name) offset b) (sym (records-of ts k));
     }
 
@@ -161,6 +172,7 @@ pub record Turn (ts : List (List ℕ)) (ps : List ℕ) (ls : List (List File)) (
   pub fields-are : f ≡ fieldsOf (placeAt ps k) head
   pub here : At t (placeAt ps k) (head ∷ tail)
   pub heading : Heading ls head
+  pub is : getD ls k [] ≡ head ∷ tail
 
 module _ {ts : List (List ℕ)} {ps : List ℕ} {ls : List (List File)} (w : Walk ts ps ls) where
   all-sound : AllOK (joined ls)
@@ -171,9 +183,6 @@ module _ {ts : List (List ℕ)} {ps : List ℕ} {ls : List (List File)} (w : Wal
 
   lead : {k : ℕ} → k ≡ lowestFrom ts ps 0 1 4 → Lead ts ps ls (w .here) k
   lead e = subst (Lead ts ps ls (w .here)) (sym e) (lowest-leads ts ps ls (w .here))
-
-  pub lowest-small : {k : ℕ} → k ≡ lowestFrom ts ps 0 1 4 → k < 5
-  lowest-small e = lead e .small
 
   module _ {k : ℕ} {t : List ℕ} {x : Outline} (e : k ≡ lowestFrom ts ps 0 1 4) (z : t ≡ tableAt ts k) (y : x ≡ outlineOf t (placeAt ps k)) where
     stands : At t (placeAt ps k) (getD ls k [])
@@ -198,6 +207,7 @@ module _ {ts : List (List ℕ)} {ps : List ℕ} {ls : List (List File)} (w : Wal
             rising = λ m s. w .rising m (omega (arith, w .many));
             ok = all-sound;
           };
+          is = h .is;
         }
 
     -- nothing is left
@@ -237,25 +247,30 @@ module _ {ts : List (List ℕ)} {ps : List ℕ} {ls : List (List File)} (w : Wal
               subst (λ (p : ℕ). At (tableAt ts m) p (getD (map (without (u .head)) ls) m [])) (sym (ap (λ (q : List ℕ). placeAt q m) e ∙ place-after ts ps (u .head .name) m s))
               (subst (At (tableAt ts m) (pastName (u .head .name) (tableAt ts m) (placeAt ps m))) (sym (left-of (u .head) ls m)) (past-here (u .head) (getD ls m []) (w .here m s)));
           rising = λ m s. subst Rising (sym (left-of (u .head) ls m)) (rest-rising (u .head) (getD ls m []) (leads m s) (w .rising m s));
+          among = λ m s g i. w .among m s g (rest-in (u .head) (getD ls m []) (leads m s) g (subst (λ (l : List File). g ∈ l) (left-of (u .head) ls m) i));
           lists = λ g i m s offset b.
               w .lists g (left-in (u .heading) g i) m s offset b
               ∙ lists-left (u .head) (getD ls m []) (g .name) (left-above (u .heading) g i) offset b (leads m s)
               ∙ ap (λ (l : List File). listsThere l (g .name) offset b) (sym (left-of (u .head) ls m));
         }
 
-    -- all have come further, by more than the blocks
-    pub turn-rises : (qs : List ℕ) → qs ≡ placesAfter ts ps (u .head .name) → total ps + (listedCount f + 1) ≤ total qs
-    turn-rises qs e =
-        total-rises ps qs (listedCount f + 1)
-        (λ m s. omega (arith, ap (λ (q : List ℕ). placeAt q m) e, place-after ts ps (u .head .name) m s, past-rises (u .head .name) (getD ls m []) (w .here m s)))
-        k (u .small)
-        (omega (arith, ap (λ (q : List ℕ). placeAt q k) e, place-after ts ps (u .head .name) k (u .small), head-past, past-enough))
-      where
-        head-past : pastName (u .head .name) (tableAt ts k) (placeAt ps k) ≡ f .past
-        head-past = ap (λ (l : List ℕ). pastName (u .head .name) l (placeAt ps k)) (sym (u .table-is)) ∙ past-head (u .head) (u .tail) (u .here) ∙ sym (ap (λ (g : RecordFields). g .past) (u .fields-are))
+    -- the record is one of its table's
+    pub turn-among : u .head ∈ records (tableAt ts k)
+    turn-among = w .among k (u .small) (u .head) (subst (λ (l : List File). u .head ∈ l) (sym (u .is)) (List·Memᴰ·head refl))
 
-        past-enough : placeAt ps k + (listedCount f + 1) ≤ f .past
-        past-enough = rw (u .fields-are) (omega (arith, listed-few (isCurrent (u .head .flags)) (length (u .head .blocks))))
+    -- no table goes back, and its own goes on by more than its blocks
+    module _ (qs : List ℕ) (e : qs ≡ placesAfter ts ps (u .head .name)) where
+      pub turn-grows : (m : ℕ) → m < 5 → placeAt ps m ≤ placeAt qs m
+      turn-grows m s = omega (arith, ap (λ (q : List ℕ). placeAt q m) e, place-after ts ps (u .head .name) m s, past-rises (u .head .name) (getD ls m []) (w .here m s))
+
+      pub turn-passes : placeAt ps k + (listedCount f * 40 + 24) ≤ placeAt qs k
+      turn-passes = omega (arith, ap (λ (q : List ℕ). placeAt q k) e, place-after ts ps (u .head .name) k (u .small), head-past, past-enough)
+        where
+          head-past : pastName (u .head .name) (tableAt ts k) (placeAt ps k) ≡ f .past
+          head-past = ap (λ (l : List ℕ). pastName (u .head .name) l (placeAt ps k)) (sym (u .table-is)) ∙ past-head (u .head) (u .tail) (u .here) ∙ sym (ap (λ (g : RecordFields). g .past) (u .fields-are))
+
+          past-enough : placeAt ps k + (listedCount f * 40 + 24) ≤ f .past
+          past-enough = rw (u .fields-are) (omega (arith, listed-few (isCurrent (u .head .flags)) (length (u .head .blocks))))
 
     -- whom to ask
 
@@ -266,8 +281,8 @@ module _ {ts : List (List ℕ)} {ps : List ℕ} {ls : List (List File)} (w : Wal
     head-of (x ∷ l) (suc m) q qs e = head-of l m q qs e
 
     peers-from : (qs : List (List ℕ)) (m : ℕ) → drop m ts ≡ qs → m + length qs ≡ 5 → (offset : ℕ) (b : Block)
-        → peerAt ts ps (u .head .name) m (length qs) offset b ≡ peerFrom m (map records qs) (u .head .name) offset b
-    peers-from [] m d c offset b = peer-none ts ps (u .head .name) offset b m
+        → firstOf (λ k. listsAt (tableAt ts k) (placeAt ps k) (u .head .name) offset b) m (length qs) ≡ peerFrom m (map records qs) (u .head .name) offset b
+    peers-from [] m d c offset b = first-none (λ k. listsAt (tableAt ts k) (placeAt ps k) (u .head .name) offset b) m
     peers-from (q ∷ qs) m d c offset b =
         let s : m < 5 = omega arith in
         let mine : listsAt (tableAt ts m) (placeAt ps m) (u .head .name) offset b ≡ listsThere (records q) (u .head .name) offset b =
@@ -275,9 +290,10 @@ module _ {ts : List (List ℕ)} {ps : List ℕ} {ls : List (List File)} (w : Wal
         ∙ sym (w .lists (u .head) (head-in (u .heading)) m s offset b)
         ∙ ap (λ (l : List ℕ). listsThere (records l) (u .head .name) offset b) (head-of ts m q qs d) in
         let after : drop (m + 1) ts ≡ qs = sym (drop-drop 1 m ts) ∙ ap (drop 1) d in
-        peer-next ts ps (u .head .name) offset b m (length qs)
-        ∙ ap (λ (v : Bool). cond v m (peerAt ts ps (u .head .name) (m + 1) (length qs) offset b)) mine
+        let is : ℕ → Bool = λ k. listsAt (tableAt ts k) (placeAt ps k) (u .head .name) offset b in
+        first-next is m (length qs)
+        ∙ ap (λ (v : Bool). cond v m (firstOf is (m + 1) (length qs))) mine
         ∙ ap (λ (n : ℕ). cond (listsThere (records q) (u .head .name) offset b) m n) (peers-from qs (m + 1) after (omega arith) offset b)
 
-    pub turn-peers : length (drop 1 ts) ≡ 4 → (offset : ℕ) (b : Block) → peerAt ts ps (u .head .name) 1 4 offset b ≡ peerFrom 1 (map records (drop 1 ts)) (u .head .name) offset b
-    turn-peers c offset b = ap (λ (n : ℕ). peerAt ts ps (u .head .name) 1 n offset b) (sym c) ∙ peers-from (drop 1 ts) 1 refl (omega (arith, c)) offset b
+    pub turn-peers : length (drop 1 ts) ≡ 4 → (offset : ℕ) (b : Block) → peerAt ts ps (u .head .name) offset b ≡ peerFrom 1 (map records (drop 1 ts)) (u .head .name) offset b
+    turn-peers c offset b = ap (firstOf (λ k. listsAt (tableAt ts k) (placeAt ps k) (u .head .name) offset b) 1) (sym c) ∙ peers-from (drop 1 ts) 1 refl (omega (arith, c)) offset b

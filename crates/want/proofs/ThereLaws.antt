@@ -1,65 +1,25 @@
--- The loop that looks for a block at an offset, and what the record at a place gives for a name.
-use Prim.Native.Nat.{ℕ, suc, _+_, _-_, _*_, _≤_, _<_}
-use mathlib.Core.List.{List, [], _∷_}
+-- What the record at a place gives for a name.
+use Prim.Native.Nat.{ℕ, _+_, _-_, _≤_, _<_}
+use mathlib.Core.List.{List}
 use mathlib.Core.Path.{_≡_, refl, sym, ap, _∙_}
-use mathlib.Core.Bool.{Bool, true, false, cond, _&&_, _||_}
+use mathlib.Core.Bool.{Bool, true, false, cond}
 use native.Mathlib.Omega.{arith}
-use borrow.Author.Tests.{ne-eqb, leb-true}
+use borrow.Author.Tests.{leb-true}
 use lib.ListN.{length}
-use lib.Dec.{leb, eqb}
+use lib.Dec.{leb}
 use Rattle.record.specs.Block.{Block}
-use Rattle.record.specs.Outline.{wordAt, blocksSize, outlineFrom, outlineOf, outlined, blockPlace}
+use Rattle.record.specs.Outline.{blocksSize, outlineFrom, outlineOf, outlined}
 use Rattle.record.specs.declared.outline.RecordFields.{RecordFields}
 use Rattle.record.specs.declared.outline.Outline.{Outline}
 use Rattle.record.specs.declared.outline.Outline.the-variants as O
 use Rattle.order.specs.Order.{isEqual, compareLists, part}
 use Rattle.order.specs.declared.compare.Order.{Order}
-use Rattle.want.specs.Listing.{isCurrent, isSame, hasThere}
-use Rattle.want.specs.Steps.Blocks.{blockHere, blocksFrom, listedCount}
+use Rattle.want.specs.Listing.{isCurrent, hasThere}
+use Rattle.want.specs.Steps.Blocks.{blocksFrom, listedCount}
 use Rattle.want.specs.Steps.Places.{pastBy, pastName, listsBy, listsAt}
+use Rattle.want.specs.Steps.Runs.{Marked, markOf}
 use Rattle.want.proofs.ListingLaws.{listed-few}
-
--- at offset `from`, before block j: what is asked of all blocks is asked of those left
-pub record Looking (s : List ℕ) (first count offset : ℕ) (b : Block) (from j : ℕ) : Type 0 where
-  pub same : hasThere 0 (blocksFrom s first 0 count) offset b ≡ hasThere from (blocksFrom s first j (count - j)) offset b
-  pub small : from ≤ j * 4294967295
-
-pub look-starts : (s : List ℕ) (first count offset : ℕ) (b : Block) → Looking s first count offset b 0 0
-look-starts s first count offset b =
-    let all : count ≡ count - 0 = omega arith in
-    record { same = ap (λ (k : ℕ). hasThere 0 (blocksFrom s first 0 k) offset b) all; small = omega arith }
-
--- no block is at an offset that is passed
-passed : (l : List Block) (from offset : ℕ) (b : Block) → offset < from → false ≡ hasThere from l offset b
-passed [] from offset b h = refl
-passed (c ∷ l) from offset b h = rw (ne-eqb from offset (λ e. omega arith)) (passed l (from + c .size) offset b (omega arith))
-
-module _ {s : List ℕ} {first count offset : ℕ} {b : Block} {from j : ℕ} (w : Looking s first count offset b from j) where
-  next-block : j < count
-      → hasThere 0 (blocksFrom s first 0 count) offset b
-      ≡ ((eqb from offset && isSame (blockHere s (blockPlace first j)) b) || hasThere (from + wordAt s (blockPlace first j)) (blocksFrom s first (j + 1) (count - (j + 1))) offset b)
-  next-block h =
-      let left : count - j ≡ suc (count - (j + 1)) = omega arith in
-      w .same ∙ ap (λ (k : ℕ). hasThere from (blocksFrom s first j k) offset b) left
-
-  pub look-passed : offset < from → false ≡ hasThere 0 (blocksFrom s first 0 count) offset b
-  look-passed h = passed (blocksFrom s first j (count - j)) from offset b h ∙ sym (w .same)
-
-  pub look-ends : count ≤ j → false ≡ hasThere 0 (blocksFrom s first 0 count) offset b
-  look-ends h =
-      let none : count - j ≡ 0 = omega arith in
-      sym (w .same ∙ ap (λ (k : ℕ). hasThere from (blocksFrom s first j k) offset b) none)
-
-  module _ {r : Bool} (h : j < count) (e : r ≡ (eqb from offset && isSame (blockHere s (blockPlace first j)) b)) where
-    pub look-finds : r ≡ true → true ≡ hasThere 0 (blocksFrom s first 0 count) offset b
-    look-finds g = sym (next-block h ∙ rw (sym e ∙ g) refl)
-
-    pub look-goes-on : {n : ℕ} → r ≡ false → n ≡ wordAt s (blockPlace first j) → n < 4294967296 → Looking s first count offset b (from + n) (j + 1)
-    look-goes-on {n} g k m =
-        record {
-          same = next-block h ∙ rw (sym e ∙ g, k) refl;
-          small = omega (arith, w .small);
-        }
+use Rattle.want.proofs.RunLaws.{runOf, marked-first}
 
 -- the blocks of an outline are within the bytes
 
@@ -76,6 +36,18 @@ inside-by s f g p e =
 pub outline-inside : (s : List ℕ) (at : ℕ) (f : RecordFields) {x : Outline} → x ≡ outlineOf s at → x ≡ O.Whole f → f .first + blocksSize (listedCount f) ≤ length s
 unfolding outlineOf outlineFrom
 outline-inside s at f e g = omega (arith, inside-by s f _ refl (sym e ∙ g), listed-few (isCurrent (f .flags)) (f .blocks))
+
+-- as a run
+pub listed-marked : (s : List ℕ) (at : ℕ) (f : RecordFields) {x : Outline} {count : ℕ} → x ≡ outlineOf s at → x ≡ O.Whole f → count ≡ listedCount f → Marked s (runOf (f .first) count) (markOf 0 0) 0
+listed-marked s at f e g k = marked-first 0 (omega (arith, k, outline-inside s at f e g))
+
+rises-by : (s : List ℕ) (at : ℕ) (f g : RecordFields) → at < g .past → outlined s g ≡ O.Whole f → at < f .past
+rises-by s at f g p e = rw (← whole-by (leb (g .past) (length s)) f g e .1) p
+
+-- and the record ends behind its place
+pub outline-rises : (s : List ℕ) (at : ℕ) (f : RecordFields) → outlineOf s at ≡ O.Whole f → at < f .past
+unfolding outlineOf outlineFrom
+outline-rises s at f e = rises-by s at f _ (omega arith) e
 
 -- by the outline that was given, and whether its name is the one
 

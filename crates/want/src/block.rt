@@ -2,12 +2,12 @@
 ghost use mathlib.Core.Path.{_≡_};
 ghost use mathlib.Core.Bool.{_&&_};
 ghost use lib.Dec.{eqb};
-ghost use Prim.Native.Nat.{_+_, _≤_};
+ghost use Prim.Native.Nat.{_+_, _≤_, _<_};
 ghost use lib.ListN.{length, getD, take, drop};
-ghost use Rattle.record.specs.Outline.{wordAt, blocksSize, blockPlace};
-ghost use Rattle.want.specs.Listing.{isCurrent, isSame, hasThere, blockWith};
-ghost use Rattle.want.specs.Steps.Blocks.{blockHere, blocksFrom, listedCount};
-use record::BlockOutline;
+ghost use Rattle.record.specs.Outline.{wordAt, blockPlace};
+ghost use Rattle.want.specs.Listing.{isCurrent, isSame, blockWith};
+ghost use Rattle.want.specs.Steps.Blocks.{blockHere, listedCount};
+use crate::fields::word_at;
 use record::RecordFields;
 
 // Valid and undeleted.
@@ -30,35 +30,40 @@ pub fn listed(f: RecordFields) -> u32
     0
 }
 
-// The Length of block j.
-pub(crate) fn block_size(s: &[u8], first: usize, j: u32) -> u32
-    requires { ⌜ blockPlace first j + 40 ≤ length (now s) ⌝ }
-    ensures { λ r. ⌜ r ≡ wordAt (now (s .entry)) (blockPlace first j) ⌝ }
+// Where block j is, the first being at a place.
+pub(crate) fn place(first: usize, j: u32) -> usize
+    requires { ⌜ blockPlace first j < 18446744073709551616 ⌝ }
+    ensures { λ r. ⌜ r ≡ blockPlace first j ⌝ }
 {
-    let BlockOutline::Whole { size, hash: _ } = record::block_at(s, first, j) else {
-        return 0;
-    };
-    size
+    first + (j as usize) * 40
 }
 
-// The hash of block j.
-pub(crate) fn block_hash(s: &[u8], first: usize, j: u32) -> &[u8]
-    requires { ⌜ blockPlace first j + 40 ≤ length (now s) ⌝ }
-    ensures { λ r. ⌜ now r ≡ take 32 (drop (blockPlace first j + 8) (now (s .entry))) ⌝ }
+// The Length of the block at a place.
+pub(crate) fn size_at(s: &[u8], p: usize) -> u32
+    requires { ⌜ p + 40 ≤ length (now s) ⌝ }
+    ensures { λ r. ⌜ r ≡ wordAt (now (s .entry)) p ⌝ }
 {
-    let at = first + (j as usize) * 40 + 8;
+    word_at(s, p)
+}
+
+// Its hash.
+pub(crate) fn hash_at(s: &[u8], p: usize) -> &[u8]
+    requires { ⌜ p + 40 ≤ length (now s) ⌝ }
+    ensures { λ r. ⌜ now r ≡ take 32 (drop (p + 8) (now (s .entry))) ⌝ }
+{
+    let at = p + 8;
     &s[at..at + 32]
 }
 
-// Whether block j has a Length and a hash.
-fn same_block(s: &[u8], first: usize, j: u32, size: u32, hash: &[u8]) -> bool
-    requires { ⌜ blockPlace first j + 40 ≤ length (now s) ⌝ }
-    ensures { λ r. ⌜ r ≡ isSame (blockHere (now (s .entry)) (blockPlace first j)) (blockWith size (now (hash .entry))) ⌝ }
+// Whether the block at a place has a Length and a hash.
+pub(crate) fn same_block(s: &[u8], p: usize, size: u32, hash: &[u8]) -> bool
+    requires { ⌜ p + 40 ≤ length (now s) ⌝ }
+    ensures { λ r. ⌜ r ≡ isSame (blockHere (now (s .entry)) p) (blockWith size (now (hash .entry))) ⌝ }
 {
-    if !order::same_bytes(block_hash(s, first, j), hash) {
+    if !order::same_hash(hash_at(s, p), hash) {
         return false;
     }
-    block_size(s, first, j) == size
+    size_at(s, p) == size
 }
 
 // Whether both are 32 bytes long and end alike.
@@ -73,50 +78,12 @@ fn ends_alike(a: &[u8], b: &[u8]) -> bool
 }
 
 // The same as same_block, for the search: most hashes differ in the last byte, and that test is small enough to stand in its loop.
-pub(crate) fn is_block(s: &[u8], first: usize, j: u32, size: u32, hash: &[u8]) -> bool
-    requires { ⌜ blockPlace first j + 40 ≤ length (now s) ⌝ }
-    ensures { λ r. ⌜ r ≡ isSame (blockHere (now (s .entry)) (blockPlace first j)) (blockWith size (now (hash .entry))) ⌝ }
+pub(crate) fn is_block(s: &[u8], p: usize, size: u32, hash: &[u8]) -> bool
+    requires { ⌜ p + 40 ≤ length (now s) ⌝ }
+    ensures { λ r. ⌜ r ≡ isSame (blockHere (now (s .entry)) p) (blockWith size (now (hash .entry))) ⌝ }
 {
-    if !ends_alike(block_hash(s, first, j), hash) {
+    if !ends_alike(hash_at(s, p), hash) {
         return false;
     }
-    same_block(s, first, j, size, hash)
-}
-
-// Whether block j, which is at one offset, has a Length and a hash at another.
-fn is_there(s: &[u8], first: usize, j: u32, from: u64, offset: u64, size: u32, hash: &[u8]) -> bool
-    requires { ⌜ blockPlace first j + 40 ≤ length (now s) ⌝ }
-    ensures { λ r. ⌜ r ≡ (eqb from offset && isSame (blockHere (now (s .entry)) (blockPlace first j)) (blockWith size (now (hash .entry)))) ⌝ }
-{
-    if from != offset {
-        return false;
-    }
-    same_block(s, first, j, size, hash)
-}
-
-// Whether one of so many blocks has a Length and a hash at an offset.
-pub(crate) fn has_there(
-    s: &[u8],
-    first: usize,
-    count: u32,
-    offset: u64,
-    size: u32,
-    hash: &[u8],
-) -> bool
-    requires { ⌜ first + blocksSize count ≤ length (now s) ⌝ }
-    ensures { λ r. ⌜ r ≡ hasThere 0 (blocksFrom (now (s .entry)) first 0 count) offset (blockWith size (now (hash .entry))) ⌝ }
-{
-    let mut from: u64 = 0;
-    let mut j = 0;
-    while j < count {
-        if offset < from {
-            return false;
-        }
-        if is_there(s, first, j, from, offset, size, hash) {
-            return true;
-        }
-        from += block_size(s, first, j) as u64;
-        j += 1;
-    }
-    false
+    same_block(s, p, size, hash)
 }

@@ -1,8 +1,14 @@
 // Which blocks to request, and from whom.
 pub mod block;
+pub mod fields;
+pub mod head;
+pub mod index;
 pub mod list;
+pub mod peers;
 pub mod places;
+pub mod run;
 pub mod search;
+pub mod turn;
 
 pub use list::request_list;
 pub use search::Found;

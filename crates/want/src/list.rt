@@ -2,24 +2,31 @@
 ghost use mathlib.Core.Path.{_≡_};
 ghost use mathlib.Core.Bool.{true, cond};
 ghost use mathlib.Core.List.{[], _∷_, map};
-ghost use Prim.Native.Nat.{_+_, _≤_};
+ghost use Prim.Native.Nat.{_+_, _≤_, _<_};
 ghost use lib.ListN.{length};
+ghost use lib.Dec.{leb};
 ghost use Rattle.xdr.specs.Buffer.{over, filled};
 ghost use Rattle.xdr.specs.Filling.{Fills};
-ghost use Rattle.record.specs.Outline.{blocksSize, blockPlace};
+ghost use Rattle.record.specs.Outline.{blocksSize};
 ghost use Rattle.table.specs.Table.{isGood, allGood, records};
 ghost use Rattle.want.specs.Listing.{isHeld};
 ghost use Rattle.want.specs.Steps.Blocks.{blockHere, blocksFrom};
 ghost use Rattle.want.specs.Wanted.{wantedBytes, listBytes, requestOutcome};
-ghost use Rattle.want.specs.Steps.Places.{tableAt, wantedHere, wantedFrom, wantedCount, Five, listOf};
-use crate::block::block_hash;
-use crate::block::block_size;
-use crate::block::listed;
-use crate::places::advanced;
-use crate::places::lowest;
-use crate::places::peer_of;
-use crate::search::is_held;
-use record::Outline;
+ghost use Rattle.want.specs.Steps.Index.{Serves};
+ghost use Rattle.want.specs.Steps.Places.{tableAt, wantedCount, Begun, Five, listOf};
+ghost use Rattle.want.specs.Steps.Runs.{Along, InTables, wantedHere, wantedRun, wantedTurn};
+use crate::block::hash_at;
+use crate::block::place;
+use crate::block::size_at;
+use crate::head::next_head;
+use crate::index::build;
+use crate::index::holds;
+use crate::index::served;
+use crate::peers::ask;
+use crate::peers::runs_at;
+use crate::run::Run;
+use crate::turn::Turn;
+use crate::turn::turn_of;
 use xdr::Filling;
 
 // A block to ask for: its file's number and its own, its offset and Length, and the peer.
@@ -31,48 +38,91 @@ pub struct Wanted {
     pub peer: u32,
 }
 
-// 1 where block j is not held, and 0 where it is.
-fn count_block(local: &[u8], t: &[u8], first: usize, j: u32) -> usize
+// Where a walk of the tables begins: a place in each, how many names come before, and whether no record is left.
+pub struct Start {
+    pub places: [usize; 5],
+    pub file: u32,
+    pub ended: bool,
+}
+
+// 1 where the block at a place is not held, and 0 where it is.
+fn count_block(local: &[u8], index: &[u16], t: &[u8], p: usize) -> usize
     requires { ⌜ isGood (now local) ≡ true ⌝ }
-    requires { ⌜ blockPlace first j + 40 ≤ length (now t) ⌝ }
-    ensures { λ r. ⌜ r ≡ cond (isHeld (records (now (local .entry))) (blockHere (now (t .entry)) (blockPlace first j))) 0 1 ⌝ }
+    requires { ⌜ Serves (now local) (now index) ⌝ }
+    requires { ⌜ p + 40 ≤ length (now t) ⌝ }
+    ensures { λ r. ⌜ r ≡ cond (isHeld (records (now (local .entry))) (blockHere (now (t .entry)) p)) 0 1 ⌝ }
 {
-    if is_held(local, block_size(t, first, j), block_hash(t, first, j)) {
+    if holds(local, index, t, p) {
         return 0;
     }
     1
 }
 
-// How many of a record's blocks are not held.
-fn count_blocks(local: &[u8], t: &[u8], first: usize, blocks: u32) -> usize
+// How many of so many blocks, the first being at a place, are not held.
+fn count_blocks(local: &[u8], index: &[u16], t: &[u8], first: usize, blocks: u32) -> usize
     requires { ⌜ isGood (now local) ≡ true ⌝ }
+    requires { ⌜ Serves (now local) (now index) ⌝ }
     requires { ⌜ first + blocksSize blocks ≤ length (now t) ⌝ }
     ensures { λ r. ⌜ r ≡ wantedCount (records (now (local .entry))) (blocksFrom (now (t .entry)) first 0 blocks) ⌝ }
 {
     let mut n = 0;
     let mut j = 0;
     while j < blocks {
-        n += count_block(local, t, first, j);
+        n += count_block(local, index, t, place(first, j));
         j += 1;
     }
     n
 }
 
-// How many entries the list has: fewer than the five tables have bytes (5 x 65,536), so 24 times as many don't overflow.
-fn count(tables: [&[u8]; 5]) -> usize
+// The first record with blocks that may be missing, by where the tables then are and how many names come before it; or that there is none.
+fn seek(tables: [&[u8]; 5]) -> Start
     requires { ⌜ Five (map now tables) ⌝ }
-    ensures { λ r. ⌜ (r ≡ length (listOf (map now (tables .entry)))) × (r ≤ 327680) ⌝ }
+    ensures { λ r. ⌜ Begun (map now (tables .entry)) (r .file) (r .places) × (r .ended ≡ true → listOf (map now (tables .entry)) ≡ []) ⌝ }
 {
     let mut places = [4; 5];
+    let mut file = 0;
+    loop {
+        let head = next_head(tables, places);
+        let fields = head.fields;
+        let turn = turn_of(head.best, fields);
+        if turn.ended {
+            return Start {
+                places,
+                file,
+                ended: true,
+            };
+        }
+        if turn.count != 0 {
+            return Start {
+                places,
+                file,
+                ended: false,
+            };
+        }
+        places = head.past;
+        file += 1;
+    }
+}
+
+// How many entries the list has: fewer than the five tables have bytes (5 x 65,536), so 24 times as many don't overflow.
+fn count(tables: [&[u8]; 5], index: &[u16], start: Start) -> usize
+    requires { ⌜ Five (map now tables) ⌝ }
+    requires { ⌜ Serves (tableAt (map now tables) 0) (now index) ⌝ }
+    requires { ⌜ Begun (map now tables) (start .file) (start .places) ⌝ }
+    ensures { λ r. ⌜ (r ≡ length (listOf (map now (tables .entry)))) × (r ≤ 327680) ⌝ }
+{
+    let mut places = start.places;
     let mut n = 0;
     loop {
-        let k = lowest(tables, places);
-        let t = tables[k];
-        let Outline::Whole(f) = record::outline_at(t, places[k]) else {
+        let head = next_head(tables, places);
+        let best = head.best;
+        let fields = head.fields;
+        let turn = turn_of(best, fields);
+        if turn.ended {
             return n;
-        };
-        n += count_blocks(tables[0], t, f.first, listed(f));
-        places = advanced(tables, places, order::part(t, f.name, f.stop));
+        }
+        n += count_blocks(tables[0], index, tables[best], turn.first, turn.count);
+        places = head.past;
     }
 }
 
@@ -88,38 +138,42 @@ fn put_wanted(out: &mut [u8], at: usize, w: Wanted)
     xdr::put_word(out, at + 20, w.peer);
 }
 
-// Puts the entry for block j, which is at an offset, where it is not held, and answers how many bytes it took.
+// Puts the entry for the block at a place, which is at an offset, where it is not held, and answers how many bytes it took.
 fn fill_block(
     tables: [&[u8]; 5],
-    places: [usize; 5],
-    name: &[u8],
+    index: &[u16],
+    runs: [Run; 5],
+    js: &mut [u32],
+    froms: &mut [u64],
     t: &[u8],
-    first: usize,
-    j: u32,
+    p: usize,
     file: u32,
+    block: u32,
     offset: u64,
     out: &mut [u8],
     at: usize,
 ) -> usize
     requires { ⌜ isGood (tableAt (map now tables) 0) ≡ true ⌝ }
-    requires { ⌜ blockPlace first j + 40 ≤ length (now t) ⌝ }
-    requires { ⌜ at + length (listBytes (wantedHere (map now tables) places (now name) file j offset (now t) first)) ≤ length (now out) ⌝ }
-    ensures { λ r. ⌜ r ≡ length (listBytes (wantedHere (map now (tables .entry)) places (now (name .entry)) file j offset (now (t .entry)) first)) ⌝ }
+    requires { ⌜ Serves (tableAt (map now tables) 0) (now index) ⌝ }
+    requires { ⌜ Along (map now tables) runs (now js) (now froms) offset ⌝ }
+    requires { ⌜ p + 40 ≤ length (now t) ⌝ }
+    requires { ⌜ at + length (listBytes (wantedHere (map now tables) runs file block offset (blockHere (now t) p))) ≤ length (now out) ⌝ }
+    ensures { λ r. ⌜ r ≡ length (listBytes (wantedHere (map now (tables .entry)) runs file block offset (blockHere (now (t .entry)) p))) ⌝ }
     ensures { λ _. ⌜ now (out .exit) ≡ over (now (out .entry)) at
-        (listBytes (wantedHere (map now (tables .entry)) places (now (name .entry)) file j offset (now (t .entry)) first)) ⌝ }
+        (listBytes (wantedHere (map now (tables .entry)) runs file block offset (blockHere (now (t .entry)) p))) ⌝ }
+    ensures { λ _. ⌜ Along (map now (tables .entry)) runs (now (js .exit)) (now (froms .exit)) offset ⌝ }
 {
-    let size = block_size(t, first, j);
-    let hash = block_hash(t, first, j);
-    if is_held(tables[0], size, hash) {
+    if holds(tables[0], index, t, p) {
         return 0;
     }
-    let peer = peer_of(tables, places, name, offset, size, hash);
+    let size = size_at(t, p);
+    let peer = ask(tables, runs, js, froms, offset, size, hash_at(t, p));
     put_wanted(
         out,
         at,
         Wanted {
             file,
-            block: j,
+            block,
             offset,
             size,
             peer,
@@ -128,11 +182,11 @@ fn fill_block(
     24
 }
 
-// Puts the entries for so many blocks of a record, and answers where the next one goes.
+// Puts the entries for so many blocks of the record that is next, and answers where the next one goes.
 fn fill_blocks(
     tables: [&[u8]; 5],
-    places: [usize; 5],
-    name: &[u8],
+    index: &[u16],
+    runs: [Run; 5],
     t: &[u8],
     first: usize,
     count: u32,
@@ -141,44 +195,124 @@ fn fill_blocks(
     at: usize,
 ) -> usize
     requires { ⌜ isGood (tableAt (map now tables) 0) ≡ true ⌝ }
+    requires { ⌜ Serves (tableAt (map now tables) 0) (now index) ⌝ }
+    requires { ⌜ InTables (map now tables) runs ⌝ }
     requires { ⌜ first + blocksSize count ≤ length (now t) ⌝ }
-    requires { ⌜ at + length (listBytes (wantedFrom (map now tables) places (now name) file 0 0 (now t) first count)) ≤ length (now out) ⌝ }
-    ensures { λ r. ⌜ r ≡ at + length
-        (listBytes (wantedFrom (map now (tables .entry)) places (now (name .entry)) file 0 0 (now (t .entry)) first count)) ⌝ }
+    requires { ⌜ at + length (listBytes (wantedRun (map now tables) runs file 0 0 (now t) first count)) ≤ length (now out) ⌝ }
+    ensures { λ r. ⌜ r ≡ at + length (listBytes (wantedRun (map now (tables .entry)) runs file 0 0 (now (t .entry)) first count)) ⌝ }
     ensures { λ _. ⌜ now (out .exit) ≡ over (now (out .entry)) at
-        (listBytes (wantedFrom (map now (tables .entry)) places (now (name .entry)) file 0 0 (now (t .entry)) first count)) ⌝ }
+        (listBytes (wantedRun (map now (tables .entry)) runs file 0 0 (now (t .entry)) first count)) ⌝ }
 {
+    let mut js = [0; 5];
+    let mut froms = [0; 5];
     let mut next = at;
     let mut offset: u64 = 0;
     let mut j = 0;
     while j < count {
-        next += fill_block(tables, places, name, t, first, j, file, offset, out, next);
-        offset += block_size(t, first, j) as u64;
+        let p = place(first, j);
+        next += fill_block(
+            tables,
+            index,
+            runs,
+            &mut js,
+            &mut froms,
+            t,
+            p,
+            file,
+            j,
+            offset,
+            out,
+            next,
+        );
+        offset += size_at(t, p) as u64;
         j += 1;
     }
     next
 }
 
-// The list, from the start of the buffer.
-fn fill(tables: [&[u8]; 5], out: &mut [u8])
+// Puts the entries for the record that is next, and answers where the next one goes.
+fn fill_record(
+    tables: [&[u8]; 5],
+    index: &[u16],
+    places: [usize; 5],
+    past: [usize; 5],
+    best: usize,
+    turn: Turn,
+    file: u32,
+    out: &mut [u8],
+    at: usize,
+) -> usize
+    requires { ⌜ isGood (tableAt (map now tables) 0) ≡ true ⌝ }
+    requires { ⌜ Serves (tableAt (map now tables) 0) (now index) ⌝ }
+    requires { ⌜ (best < 5) × (turn .first + blocksSize (turn .count) ≤ length (tableAt (map now tables) best)) ⌝ }
+    requires { ⌜ at + length (listBytes (wantedTurn (map now tables) places past best turn file)) ≤ length (now out) ⌝ }
+    ensures { λ r. ⌜ r ≡ at + length (listBytes (wantedTurn (map now (tables .entry)) places past best turn file)) ⌝ }
+    ensures { λ _. ⌜ now (out .exit) ≡ over (now (out .entry)) at (listBytes (wantedTurn (map now (tables .entry)) places past best turn file)) ⌝ }
+{
+    if turn.count == 0 {
+        return at;
+    }
+    let runs = runs_at(tables, places, past);
+    let t = tables[best];
+    fill_blocks(
+        tables,
+        index,
+        runs,
+        t,
+        turn.first,
+        turn.count,
+        file,
+        out,
+        at,
+    )
+}
+
+// The list, from the start of the buffer, and how many bytes it has.
+fn fill(tables: [&[u8]; 5], index: &[u16], start: Start, out: &mut [u8]) -> usize
     requires { ⌜ Five (map now tables) ⌝ }
+    requires { ⌜ Serves (tableAt (map now tables) 0) (now index) ⌝ }
+    requires { ⌜ Begun (map now tables) (start .file) (start .places) ⌝ }
     requires { ⌜ length (listBytes (listOf (map now tables))) ≤ length (now out) ⌝ }
+    ensures { λ r. ⌜ r ≡ length (listBytes (listOf (map now (tables .entry)))) ⌝ }
     ensures { λ _. ⌜ now (out .exit) ≡ filled (now (out .entry)) (listBytes (listOf (map now (tables .entry)))) ⌝ }
 {
-    let mut places = [4; 5];
-    let mut file = 0;
+    let mut places = start.places;
+    let mut file = start.file;
     let mut at = 0;
     loop {
-        let k = lowest(tables, places);
-        let t = tables[k];
-        let Outline::Whole(f) = record::outline_at(t, places[k]) else {
-            return;
-        };
-        let name = order::part(t, f.name, f.stop);
-        at = fill_blocks(tables, places, name, t, f.first, listed(f), file, out, at);
-        places = advanced(tables, places, name);
+        let head = next_head(tables, places);
+        let best = head.best;
+        let past = head.past;
+        let fields = head.fields;
+        let turn = turn_of(best, fields);
+        if turn.ended {
+            return at;
+        }
+        at = fill_record(tables, index, places, past, best, turn, file, out, at);
+        places = past;
         file += 1;
     }
+}
+
+// How many bytes the list has at most: 24 for each 40 of the peers' tables.
+fn most(tables: [&[u8]; 5]) -> usize
+    requires { ⌜ Five (map now tables) ⌝ }
+    ensures { λ r. ⌜ length (listBytes (listOf (map now (tables .entry)))) ≤ r ⌝ }
+{
+    (tables[1].len() + tables[2].len() + tables[3].len() + tables[4].len()) / 40 * 24
+}
+
+// Whether the list fits into so many bytes: where that isn't sure, its entries are counted.
+fn fits(tables: [&[u8]; 5], index: &[u16], start: Start, room: usize) -> bool
+    requires { ⌜ Five (map now tables) ⌝ }
+    requires { ⌜ Serves (tableAt (map now tables) 0) (now index) ⌝ }
+    requires { ⌜ Begun (map now tables) (start .file) (start .places) ⌝ }
+    ensures { λ r. ⌜ r ≡ leb (length (listBytes (listOf (map now (tables .entry))))) room ⌝ }
+{
+    if most(tables) <= room {
+        return true;
+    }
+    count(tables, index, start) * 24 <= room
 }
 
 // Whether five tables are good.
@@ -217,10 +351,15 @@ pub fn request_list<'a>(
         return xdr::refused(15);
     }
     let tables = [local, peer1, peer2, peer3, peer4];
-    let size = count(tables) * 24;
-    if out.len() < size {
+    let start = seek(tables);
+    if start.ended {
+        return Filling::Filled(0);
+    }
+    let mut slots = [0; 8192];
+    let built = build(local, &mut slots);
+    let index = served(&slots, built);
+    if !fits(tables, index, start, out.len()) {
         return xdr::refused(14);
     }
-    fill(tables, out);
-    Filling::Filled(size)
+    Filling::Filled(fill(tables, index, start, out))
 }

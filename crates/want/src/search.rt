@@ -6,6 +6,7 @@ ghost use Rattle.want.specs.Listing.{isHeld, blockWith};
 ghost use Rattle.want.specs.Found.{foundFrom, foundIn};
 use crate::block::is_block;
 use crate::block::listed;
+use crate::block::place;
 use record::Outline;
 use xdr::Refusal;
 
@@ -32,7 +33,7 @@ fn search(table: &[u8], size: u32, hash: &[u8]) -> Found
         let first = f.first;
         j = 0;
         while j < count {
-            if is_block(table, first, j, size, hash) {
+            if is_block(table, place(first, j), size, hash) {
                 break 'records;
             }
             j += 1;

@@ -1,8 +1,9 @@
 //! Times two calls side by side.
 //!
 //! `cargo bench` prints a table in nanoseconds a call. A figure is the best of several runs, so that
-//! other work on the machine shows as little as possible; the runs of the two alternate. Both are
-//! called through pointers the compiler can't see through, as functions of another library are.
+//! other work on the machine shows as little as possible; the runs of the two alternate. Slow calls
+//! get fewer runs. Both are called through pointers the compiler can't see through, as functions of
+//! another library are.
 
 // Each benchmark uses its own part of this module.
 #![allow(dead_code)]
@@ -12,6 +13,9 @@ use std::time::{Duration, Instant};
 
 const RUNS: usize = 100;
 const RUN: Duration = Duration::from_millis(1);
+/// After this time a line gets no more than the fewest runs.
+const LINE: Duration = Duration::from_secs(1);
+const FEWEST_RUNS: usize = 10;
 
 pub fn heading() {
     println!(
@@ -35,12 +39,18 @@ pub fn compare(
     let library_calls = calls_in_a_run(out, &library);
     let reference_calls = calls_in_a_run(out, &reference);
     let (mut library_best, mut reference_best) = (f64::MAX, f64::MAX);
-    for _ in 0..RUNS {
+    for _ in runs() {
         library_best = library_best.min(time(library_calls, out, &library));
         reference_best = reference_best.min(time(reference_calls, out, &reference));
     }
     let ratio = library_best / reference_best;
     println!("{what:<44}{library_best:>12.1}{reference_best:>14.1}{ratio:>8.2}");
+}
+
+/// The runs of a line from now on.
+fn runs() -> impl Iterator<Item = usize> {
+    let start = Instant::now();
+    (0..RUNS).take_while(move |&run| run < FEWEST_RUNS || start.elapsed() < LINE)
 }
 
 /// As many calls as fill one run. Finding out warms up caches and clock.
@@ -65,7 +75,7 @@ fn time(calls: u64, out: &mut [u8], call: &impl Fn(&mut [u8])) -> f64 {
 /// Times one call and prints a line.
 pub fn time_alone(what: &str, out: &mut [u8], call: impl Fn(&mut [u8])) {
     let calls = calls_in_a_run(out, &call);
-    let best = (0..RUNS)
+    let best = runs()
         .map(|_| time(calls, out, &call))
         .fold(f64::MAX, f64::min);
     println!("{what:<44}{best:>12.1}");

@@ -7,6 +7,7 @@
 #![allow(dead_code, unused_imports)]
 
 mod fields;
+pub mod hashed;
 mod queue;
 mod read;
 mod records;

@@ -5,19 +5,19 @@ use super::{compare, read, Body, File, Refusal, Span, BLOCK_LEN, DELETED, INVALI
 use std::cmp::Ordering;
 
 /// Bytes of one entry of a request list.
-const ENTRY_LEN: usize = 24;
+pub(super) const ENTRY_LEN: usize = 24;
 
-fn is_there(file: &File) -> bool {
+pub(super) fn is_there(file: &File) -> bool {
     file.flags & (DELETED | INVALID) == 0
 }
 
 /// The blocks of a record as they are encoded.
-fn blocks<'a>(array: &'a [u8], file: &File) -> &'a [[u8; BLOCK_LEN]] {
+pub(super) fn blocks<'a>(array: &'a [u8], file: &File) -> &'a [[u8; BLOCK_LEN]] {
     array[file.first_block..file.end].as_chunks().0
 }
 
 /// The Length of an encoded block.
-fn length(block: &[u8; BLOCK_LEN]) -> u32 {
+pub(super) fn length(block: &[u8; BLOCK_LEN]) -> u32 {
     u32::from_be_bytes([block[0], block[1], block[2], block[3]])
 }
 
@@ -89,60 +89,75 @@ pub fn request_list(tables: [&[u8]; 5], out: &mut [u8]) -> Result<usize, Refusal
 
 /// Hands the entries on in their order.
 fn wanted(tables: [&[u8]; 5], mut take: impl FnMut([u8; ENTRY_LEN])) {
-    let mut records = tables.map(Records::new);
-    let mut files: [Option<File>; 5] = std::array::from_fn(|i| records[i].next());
-    for number in 0u32.. {
-        let names = (0..5).filter_map(|i| files[i].map(|file| file.name.of(tables[i])));
-        let Some(name) = names.min() else { return };
-        let named: [Option<File>; 5] =
-            std::array::from_fn(|i| files[i].filter(|file| file.name.of(tables[i]) == name));
-        let highest = (0..5)
-            .filter(|&i| named[i].is_some())
-            .reduce(|i, j| {
-                let (f, g) = (named[i].unwrap(), named[j].unwrap());
-                match compare(tables[i], &f, tables[j], &g) {
-                    Ordering::Less => j,
-                    _ => i,
-                }
-            })
-            .expect("one of them has the name");
-        blocks_of(tables, &named, highest, number, &mut take);
-        for i in 0..5 {
-            if named[i].is_some() {
-                files[i] = records[i].next();
+    by_name(tables, |number, files, highest| {
+        let file = files[highest].expect("it has the name");
+        if !is_there(file) {
+            return;
+        }
+        let mut offset = 0;
+        for (index, block) in blocks(tables[highest], file).iter().enumerate() {
+            if find(tables[0], block).is_none() {
+                let peer = (1..5)
+                    .find(|&i| files[i].is_some_and(|file| lists(tables[i], file, offset, block)))
+                    .expect("the highest record is a peer's");
+                take(entry(number, index, offset, block, peer));
             }
+            offset += u64::from(length(block));
+        }
+    });
+}
+
+/// Goes through the names of good tables as they rise. Hands on the name's number, each table's record
+/// of that name, and which of these is the highest: the first, where some are equal.
+pub(super) fn by_name(tables: [&[u8]; 5], mut take: impl FnMut(u32, [Option<&File>; 5], usize)) {
+    let mut records = tables.map(Records::new);
+    let mut next: [Option<File>; 5] = std::array::from_fn(|i| records[i].next());
+    for number in 0.. {
+        // Which tables have the lowest name so far, and the highest of their records.
+        let mut named = [false; 5];
+        let mut highest: Option<(usize, &File)> = None;
+        for (i, file) in next.iter().enumerate() {
+            let Some(file) = file else { continue };
+            let name = file.name.of(tables[i]);
+            let order = highest.map(|(j, other)| name.cmp(other.name.of(tables[j])));
+            match (order, highest) {
+                (Some(Ordering::Greater), _) => continue,
+                (Some(Ordering::Equal), Some((j, other))) => {
+                    if compare(tables[i], file, tables[j], other).is_gt() {
+                        highest = Some((i, file));
+                    }
+                }
+                _ => {
+                    named = [false; 5];
+                    highest = Some((i, file));
+                }
+            }
+            named[i] = true;
+        }
+        let Some((highest, _)) = highest else { return };
+        let files = std::array::from_fn(|i| next[i].as_ref().filter(|_| named[i]));
+        take(number, files, highest);
+        for i in (0..5).filter(|&i| named[i]) {
+            next[i] = records[i].next();
         }
     }
 }
 
-/// Hands on the entries of one highest record.
-fn blocks_of(
-    tables: [&[u8]; 5],
-    named: &[Option<File>; 5],
-    highest: usize,
+/// One entry of a request list.
+pub(super) fn entry(
     number: u32,
-    take: &mut impl FnMut([u8; ENTRY_LEN]),
-) {
-    let file = named[highest].expect("it has the name");
-    if !is_there(&file) {
-        return;
-    }
-    let mut offset = 0u64;
-    for (index, block) in blocks(tables[highest], &file).iter().enumerate() {
-        if find(tables[0], block).is_none() {
-            let peer = (1..5)
-                .find(|&i| named[i].is_some_and(|file| lists(tables[i], &file, offset, block)))
-                .expect("the highest record is a peer's");
-            let mut entry = [0; ENTRY_LEN];
-            entry[..4].copy_from_slice(&number.to_be_bytes());
-            entry[4..8].copy_from_slice(&(index as u32).to_be_bytes());
-            entry[8..16].copy_from_slice(&offset.to_be_bytes());
-            entry[16..20].copy_from_slice(&block[..4]);
-            entry[20..].copy_from_slice(&(peer as u32).to_be_bytes());
-            take(entry);
-        }
-        offset += u64::from(length(block));
-    }
+    index: usize,
+    offset: u64,
+    block: &[u8; BLOCK_LEN],
+    peer: usize,
+) -> [u8; ENTRY_LEN] {
+    let mut entry = [0; ENTRY_LEN];
+    entry[..4].copy_from_slice(&number.to_be_bytes());
+    entry[4..8].copy_from_slice(&(index as u32).to_be_bytes());
+    entry[8..16].copy_from_slice(&offset.to_be_bytes());
+    entry[16..20].copy_from_slice(&block[..4]);
+    entry[20..].copy_from_slice(&(peer as u32).to_be_bytes());
+    entry
 }
 
 /// What is done about an incoming Request.

@@ -3,6 +3,7 @@
 // Each test program uses its own part of this module.
 #![allow(dead_code, unused_imports)]
 
+pub mod alike;
 pub mod compare;
 pub mod damage;
 pub mod draft;

@@ -4,11 +4,13 @@ use Prim.Native.Nat.{ℕ, zero, suc, _+_, _<_}
 use mathlib.Core.List.{List, [], _∷_, map}
 use mathlib.Core.Path.{_≡_}
 use mathlib.Core.Bool.{Bool, true, false, cond}
+use lib.Dec.{eqb}
 use lib.ListN.{length, getD, drop}
 use Rattle.xdr.specs.Number.{IsBytes}
 use Rattle.record.specs.Block.{Block}
 use Rattle.record.specs.File.{File}
-use Rattle.record.specs.Outline.{outlineOf, blockPlace}
+use Rattle.record.specs.Outline.{outlineOf}
+use Rattle.record.specs.declared.outline.RecordFields.{RecordFields}
 use Rattle.record.specs.declared.outline.Outline.{Outline}
 use Rattle.record.specs.declared.outline.Outline.the-variants as O
 use Rattle.table.specs.Table.{isGood, records}
@@ -17,8 +19,8 @@ use Rattle.merge.specs.Steps.Next.{nextOf}
 use Rattle.merge.specs.declared.next.Next.{Next}
 use Rattle.merge.specs.declared.next.Next.the-variants.{End, More}
 use Rattle.want.specs.Listing.{isHeld, hasThere}
-use Rattle.want.specs.Steps.Blocks.{blockHere, blocksFrom, listedCount}
-use Rattle.want.specs.Wanted.{wantedBlock, wantedBlocks, requestList}
+use Rattle.want.specs.Steps.Blocks.{blocksFrom, listedCount}
+use Rattle.want.specs.Wanted.{requestList}
 use Rattle.want.specs.declared.list.Wanted.{Wanted}
 
 -- the first of two records is the next
@@ -52,6 +54,10 @@ pastBy name t at (O.Whole f) = cond (isEqual (compareLists (part t (f .name) (f 
 unfoldable pub pastName : (name t : List ℕ) → (at : ℕ) → ℕ
 pastName name t at = pastBy name t at (outlineOf t at)
 
+-- where the tables go on after a name
+abbrev pub placesAfter : List (List ℕ) → List ℕ → (name : List ℕ) → List ℕ
+placesAfter ts ps name = map (λ k. pastName name (tableAt ts k) (placeAt ps k)) (0 ∷ 1 ∷ 2 ∷ 3 ∷ 4 ∷ [])
+
 -- by its outline: a record is of that name and lists a block there
 abbrev pub listsBy : (t name : List ℕ) → (offset : ℕ) → Block → Outline → Bool
 listsBy t name offset b O.Short = false
@@ -62,18 +68,36 @@ listsBy t name offset b (O.Whole f) =
 unfoldable pub listsAt : (t : List ℕ) → (at : ℕ) → (name : List ℕ) → (offset : ℕ) → Block → Bool
 listsAt t at name offset b = listsBy t name offset b (outlineOf t at)
 
--- the lowest of so many tables from k on that lists the block there; 0 where none does
-unfoldable pub peerAt : List (List ℕ) → List ℕ → (name : List ℕ) → (k left : ℕ) → (offset : ℕ) → Block → ℕ
-peerAt ts ps name k zero offset b = 0
-peerAt ts ps name k (suc left) offset b = cond (listsAt (tableAt ts k) (placeAt ps k) name offset b) k (peerAt ts ps name (k + 1) left offset b)
+-- the lowest of so many numbers from k on that is one of these; 0 where none is
+unfoldable pub firstOf : (ℕ → Bool) → (k left : ℕ) → ℕ
+firstOf is k zero = 0
+firstOf is k (suc left) = cond (is k) k (firstOf is (k + 1) left)
 
--- the entry for block j of the record whose name all are at
-abbrev pub wantedHere : List (List ℕ) → List ℕ → (name : List ℕ) → (file j offset : ℕ) → (t : List ℕ) → (first : ℕ) → List Wanted
-wantedHere ts ps name file j offset t first = wantedBlock (records (tableAt ts 0)) (peerAt ts ps name 1 4) file j offset (blockHere t (blockPlace first j))
+-- the lowest peer whose record at its place is of that name and lists the block there; 0 where none does
+abbrev pub peerAt : List (List ℕ) → List ℕ → (name : List ℕ) → (offset : ℕ) → Block → ℕ
+peerAt ts ps name offset b = firstOf (λ k. listsAt (tableAt ts k) (placeAt ps k) name offset b) 1 4
 
--- the entries for so many of its blocks from j on
-abbrev pub wantedFrom : List (List ℕ) → List ℕ → (name : List ℕ) → (file j offset : ℕ) → (t : List ℕ) → (first left : ℕ) → List Wanted
-wantedFrom ts ps name file j offset t first left = wantedBlocks (records (tableAt ts 0)) (peerAt ts ps name 1 4) file j offset (blocksFrom t first j left)
+-- how many blocks of the next record may be missing, by the table that has it
+abbrev pub soughtOf : ℕ → RecordFields → ℕ
+soughtOf best f = cond (eqb best 0) 0 (listedCount f)
+
+-- where the tables begin
+abbrev pub starts : List ℕ
+starts = 4 ∷ 4 ∷ 4 ∷ 4 ∷ 4 ∷ []
+
+-- the record that is next at some places has no block that may be missing, and the tables go on at others
+pub record Idle (ts : List (List ℕ)) (ps qs : List ℕ) : Type 0 where
+  pub best : ℕ
+  pub fields : RecordFields
+  pub lowest : best ≡ lowestFrom ts ps 0 1 4
+  pub outline-is : outlineOf (tableAt ts best) (placeAt ps best) ≡ O.Whole fields
+  pub none : soughtOf best fields ≡ 0
+  pub after : qs ≡ placesAfter ts ps (part (tableAt ts best) (fields .name) (fields .stop))
+
+-- the places after so many such records
+abbrev pub Begun : List (List ℕ) → (file : ℕ) → List ℕ → Type 0
+Begun ts zero qs = qs ≡ starts
+Begun ts (suc file) qs = (ps : List ℕ) × Begun ts file ps × Idle ts ps qs
 
 -- how many blocks are not held
 abbrev pub wantedCount : List File → List Block → ℕ

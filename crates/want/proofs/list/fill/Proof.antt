@@ -1,55 +1,73 @@
 -- `want::list::fill` meets its contract.
 use Prim.Native.Nat.{_-_}
 use mathlib.Core.List.{map}
-use mathlib.Core.Path.{refl}
 use native.Mathlib.Omega.{arith}
 use denote.Ref.{now}
-use Rattle.want.proofs.PlaceLaws.{element}
-use Rattle.want.proofs.SideLaws.{total, lowest-small, turn, turn-within}
-use Rattle.want.proofs.DoneLaws.{total-small, done-less}
+use Rattle.want.specs.Steps.Head.{nameAt}
+use Rattle.want.specs.Steps.Places.{tableAt}
+use Rattle.want.proofs.SideLaws.{total}
+use Rattle.want.proofs.RankLaws.{headed-lowest}
+use Rattle.want.proofs.TurnLaws.{headed-after, turn-ended, turn-goes}
+use Rattle.want.proofs.PeerLaws.{run-wanted}
+use Rattle.want.proofs.DoneLaws.{total-small, begun-done, done-stand, blocks-within, done-less}
 use Rattle.want.proofs.EntryLaws.{Filled, filled-starts, filled-same, filled-all, filled-fits, filled-turn}
 use borrow.Author.Needs.{needs}
 use Rattle.want.proofs.list.fill.Statement.{statement}
 use Rattle.want.proofs.list.fill.Tie as tie
 
 abbrev Inv-loop : tie.InvT-loop
-Inv-loop t1 out₀ tables places₀ file₀ at₀ out places file at = Filled (map now t1) places out₀ out file at
+Inv-loop tables index out₀ places₀ file₀ at₀ out places file at = Filled (map now tables) places out₀ out file at
 
 abbrev μ-loop : tie.MeasureT-loop
-μ-loop t1 out₀ tables places₀ file₀ at₀ out places file at = 327680 - total places
+μ-loop tables index out₀ places₀ file₀ at₀ out places file at = 327680 - total places
 
 loop-holds : tie.Need-loop-holds Inv-loop μ-loop
-loop-holds c = let s = c .before in filled-starts (map now (s .args .t1)) (now (s .args .out)) (s .pre .0)
+loop-holds c = let s = c .before .before .before in filled-starts (now (s .args .out)) (begun-done (map now (s .args .tables)) (s .pre .0) (s .args .start .file) (s .args .start .places) (s .pre .1 .1 .0))
 
-mul-t : tie.Need-mul-t Inv-loop μ-loop
-mul-t c = omega (arith, lowest-small (c .before .loop .inv .so-far .walk) (c .lowest .ensures))
-
-array-copy-out-t : tie.Need-array-copy-out-t Inv-loop μ-loop
-array-copy-out-t c = lowest-small (c .before .loop .inv .so-far .walk) (c .lowest .ensures)
-
-mul-outline-at : tie.Need-mul-outline-at Inv-loop μ-loop
-mul-outline-at c = omega (arith, lowest-small (c .before .before .loop .inv .so-far .walk) (c .before .lowest .ensures))
-
-array-read-outline-at : tie.Need-array-read-outline-at Inv-loop μ-loop
-array-read-outline-at c = lowest-small (c .before .before .loop .inv .so-far .walk) (c .before .lowest .ensures)
+next-head-requires : tie.Need-next-head-requires Inv-loop μ-loop
+next-head-requires c κs = done-stand (c .loop .inv .so-far)
 
 same-length : tie.Need-same-length Inv-loop μ-loop
-same-length c = filled-same (c .before .before .before .before .before .loop .inv) (c .before .before .before .before .before .before .before .pre .1)
+same-length c = let s = c .before .before .before .before .before .before .before .before .pre in filled-same (s .0) (c .before .before .before .before .loop .inv) (s .1 .1 .1)
 
 returns : tie.Need-returns Inv-loop μ-loop
-returns c = filled-all (c .before .before .before .before .before .loop .inv) (c .before .before .before .before .lowest .ensures) (element now (c .before .before .before .before .before .before .before .args .t1) _ _ refl) (c .before .before .outline-at .ensures) (c .enum-told .given .1)
+returns c = let s = c .before .before .before .before .before .before .before .before .pre in filled-all (s .0) (c .before .before .before .before .loop .inv) (s .1 .1 .1) (c .before .before .before .next-head .ensures) (turn-ended (c .before .before .before .next-head .result .best) (c .before .before .before .next-head .result .fields) (c .before .turn-of .ensures) (c .if1 .taken))
 
-fill-blocks-requires : tie.Need-fill-blocks-requires Inv-loop μ-loop
-fill-blocks-requires c κs = ((c .before .before .before .before .before .before .before .before .before .before .before .pre .0) .good 0 (omega arith), (omega (arith, turn-within (c .before .before .before .before .before .before .before .before .before .loop .inv .so-far .walk) (turn (c .before .before .before .before .before .before .before .before .before .loop .inv .so-far .walk) (c .before .before .before .before .before .before .before .before .lowest .ensures) (element now (c .before .before .before .before .before .before .before .before .before .before .before .args .t1) _ _ refl) (c .before .before .before .before .before .before .outline-at .ensures) (c .before .before .before .before .f .given .1)), c .before .listed .ensures), filled-fits (c .before .before .before .before .before .before .before .before .before .loop .inv) (c .before .before .before .before .before .before .before .before .before .before .before .pre .1) (c .before .before .before .before .before .before .before .before .before .before .before .pre .0) (turn (c .before .before .before .before .before .before .before .before .before .loop .inv .so-far .walk) (c .before .before .before .before .before .before .before .before .lowest .ensures) (element now (c .before .before .before .before .before .before .before .before .before .before .before .args .t1) _ _ refl) (c .before .before .before .before .before .before .outline-at .ensures) (c .before .before .before .before .f .given .1)) (c .before .before .part .ensures) (c .before .listed .ensures)))
+fill-record-requires : tie.Need-fill-record-requires Inv-loop μ-loop
+fill-record-requires c κs =
+    let s = c .before .before .before .before .before .before .before .before .before in
+    let l = c .before .before .before .before .before .loop in
+    let h = c .before .before .before .before .next-head .ensures in
+    let g = turn-goes (c .before .before .before .before .next-head .result .best) (c .before .before .before .before .next-head .result .fields) (c .before .before .turn-of .ensures) (c .before .if1 .left) in
+    let t = tableAt (map now (s .args .tables)) (c .before .before .before .before .next-head .result .best) in (
+      s .pre .0 .good 0 (omega arith),
+      (
+        s .pre .1 .0,
+        (
+          (h .small, omega (arith, g .first-is, g .count-is, blocks-within (l .inv .so-far) (s .pre .0) (headed-lowest h) (h .fields-are) (g .is))),
+          filled-fits (s .pre .0) (l .inv) (s .pre .1 .1 .1) h (g .is) (run-wanted (map now (s .args .tables)) (l .places) (nameAt t (g .record-fields)) (headed-after h (g .is)) (l .file) t (g .first-is) (g .count-is)),
+        ),
+      ),
+    )
 
 add-file : tie.Need-add-file Inv-loop μ-loop
-add-file c = omega (arith, c .before .before .before .before .before .before .before .before .before .before .before .before .before .loop .inv .so-far .few, total-small (c .before .before .before .before .before .before .before .before .before .before .before .before .before .before .before .pre .0) (c .before .before .before .before .before .before .before .before .before .before .before .before .before .loop .inv .so-far .walk))
+add-file c = let d = c .before .before .before .before .before .before .before .before .loop .inv .so-far in omega (arith, d .few, total-small (c .before .before .before .before .before .before .before .before .before .before .before .before .pre .0) (d .walk))
 
 loop-less : tie.Need-loop-less Inv-loop μ-loop
-loop-less c = done-less (c .before .before .before .before .before .before .before .before .before .before .before .before .before .loop .inv .so-far) (c .before .before .before .before .before .before .before .before .before .before .before .before .before .before .before .pre .0) (turn (c .before .before .before .before .before .before .before .before .before .before .before .before .before .loop .inv .so-far .walk) (c .before .before .before .before .before .before .before .before .before .before .before .before .lowest .ensures) (element now (c .before .before .before .before .before .before .before .before .before .before .before .before .before .before .before .args .t1) _ _ refl) (c .before .before .before .before .before .before .before .before .before .before .outline-at .ensures) (c .before .before .before .before .before .before .before .before .f .given .1)) (c .before .before .before .before .before .before .part .ensures) _ (c .advanced .ensures)
+loop-less c =
+    let h = c .before .before .before .before .before .before .before .next-head .ensures in
+    let g = turn-goes (c .before .before .before .before .before .before .before .next-head .result .best) (c .before .before .before .before .before .before .before .next-head .result .fields) (c .before .before .before .before .before .turn-of .ensures) (c .before .before .before .before .if1 .left) in
+    done-less (c .before .before .before .before .before .before .before .before .loop .inv .so-far) (c .before .before .before .before .before .before .before .before .before .before .before .before .pre .0) (headed-lowest h) (h .fields-are) (g .is) (headed-after h (g .is))
 
 loop-again : tie.Need-loop-again Inv-loop μ-loop
-loop-again c = filled-turn (c .before .before .before .before .before .before .before .before .before .before .before .before .before .loop .inv) (c .before .before .before .before .before .before .before .before .before .before .before .before .before .before .before .pre .1) (c .before .before .before .before .before .before .before .before .before .before .before .before .before .before .before .pre .0) (turn (c .before .before .before .before .before .before .before .before .before .before .before .before .before .loop .inv .so-far .walk) (c .before .before .before .before .before .before .before .before .before .before .before .before .lowest .ensures) (element now (c .before .before .before .before .before .before .before .before .before .before .before .before .before .before .before .args .t1) _ _ refl) (c .before .before .before .before .before .before .before .before .before .before .outline-at .ensures) (c .before .before .before .before .before .before .before .before .f .given .1)) (c .before .before .before .before .before .before .part .ensures) (c .before .before .before .before .before .listed .ensures) _ (c .advanced .ensures) (c .before .before .before .fill-blocks .ensures .0) (c .before .before .before .fill-blocks .ensures .1)
+loop-again c =
+    let s = c .before .before .before .before .before .before .before .before .before .before .before .before in
+    let l = c .before .before .before .before .before .before .before .before .loop in
+    let h = c .before .before .before .before .before .before .before .next-head .ensures in
+    let g = turn-goes (c .before .before .before .before .before .before .before .next-head .result .best) (c .before .before .before .before .before .before .before .next-head .result .fields) (c .before .before .before .before .before .turn-of .ensures) (c .before .before .before .before .if1 .left) in
+    let t = tableAt (map now (s .args .tables)) (c .before .before .before .before .before .before .before .next-head .result .best) in
+    let f = c .before .before .fill-record .ensures in
+    filled-turn (s .pre .0) (l .inv) (s .pre .1 .1 .1) h (g .is) (run-wanted (map now (s .args .tables)) (l .places) (nameAt t (g .record-fields)) (headed-after h (g .is)) (l .file) t (g .first-is) (g .count-is)) (f .0) (f .1)
 
 pub fill-spec : {M : Type 1} → statement M
 fill-spec =
@@ -58,20 +76,11 @@ fill-spec =
     Inv-loop
     μ-loop
     loop-holds
+    next-head-requires
     (λ c κs. search needs)
-    mul-t
-    array-copy-out-t
-    mul-outline-at
-    array-read-outline-at
-    (λ c κs. search needs)
-    (λ c. search needs)
-    (λ c. search needs)
     same-length
     returns
-    (λ c κs. search needs)
-    (λ c κs. search needs)
-    fill-blocks-requires
-    (λ c κs. search needs)
+    fill-record-requires
     add-file
     loop-less
     loop-again)

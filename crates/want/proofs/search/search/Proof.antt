@@ -30,17 +30,20 @@ returns c = search-ends (c .before .before .before .records .inv) (c .before .be
 loop-holds : tie.Need-loop-holds Inv-loop μ-loop Inv-records μ-records
 loop-holds c = search-opens (c .before .before .before .before .before .records .inv) (c .before .before .before .before .outline-at .ensures) (c .before .before .f .given .1) (c .listed .ensures)
 
+place-requires : tie.Need-place-requires Inv-loop μ-loop Inv-records μ-records
+place-requires c κs = omega (arith, block-there (c .before .loop .inv) (c .loop-test .taken), c .before .before .before .before .before .before .before .before .before .before .good)
+
 is-block-requires : tie.Need-is-block-requires Inv-loop μ-loop Inv-records μ-records
-is-block-requires c κs = block-there (c .before .loop .inv) (c .loop-test .taken)
+is-block-requires c κs = omega (arith, c .place .ensures, block-there (c .before .before .loop .inv) (c .before .loop-test .taken))
 
 add-j : tie.Need-add-j Inv-loop μ-loop Inv-records μ-records
-add-j c = omega (arith, c .before .before .loop-test .taken)
+add-j c = omega (arith, c .before .before .before .loop-test .taken)
 
 loop-less : tie.Need-loop-less Inv-loop μ-loop Inv-records μ-records
-loop-less c = omega (arith, c .before .before .loop-test .taken)
+loop-less c = omega (arith, c .before .before .before .loop-test .taken)
 
 loop-again : tie.Need-loop-again Inv-loop μ-loop Inv-records μ-records
-loop-again c = search-passes (c .before .before .before .loop .inv) (c .before .before .loop-test .taken) (c .before .is-block .ensures) (c .if1 .left)
+loop-again c = search-passes (c .before .before .before .before .loop .inv) (c .before .before .before .loop-test .taken) (c .before .before .place .ensures) (c .before .is-block .ensures) (c .if1 .left)
 
 add-n : tie.Need-add-n Inv-loop μ-loop Inv-records μ-records
 add-n c = let w = c .before .loop .inv in omega (arith, w .few, grows w, inside w, w .short)
@@ -52,7 +55,7 @@ records-again : tie.Need-records-again Inv-loop μ-loop Inv-records μ-records
 records-again c = search-closes (c .before .loop .inv) (c .loop-test .left)
 
 returns-2 : tie.Need-returns-2 Inv-loop μ-loop Inv-records μ-records
-returns-2 c = search-found (c .before .before .before .loop .inv) (c .before .before .loop-test .taken) (c .before .is-block .ensures) (c .if1 .taken)
+returns-2 c = search-found (c .before .before .before .before .loop .inv) (c .before .before .before .loop-test .taken) (c .before .before .place .ensures) (c .before .is-block .ensures) (c .if1 .taken)
 
 pub search-spec : {M : Type 1} → statement M
 search-spec =
@@ -69,6 +72,7 @@ search-spec =
     returns
     (λ c κs. search needs)
     loop-holds
+    place-requires
     is-block-requires
     add-j
     loop-less
