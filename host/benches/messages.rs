@@ -1,5 +1,6 @@
 //! How long the library and the reference need for the same calls on messages, side by side.
 
+mod by_std;
 #[path = "../tests/reference/mod.rs"]
 mod reference;
 #[path = "../tests/support/mod.rs"]
@@ -21,6 +22,7 @@ fn main() {
     for (what, draft) in &drafts {
         compare_writing(what, draft);
     }
+    compare_texts();
     compare_walking_files("walk 512 files", &index(512, 0, "directory/file name"));
     compare_walking_options("walk 64 options", &options(64));
     time_copying();
@@ -124,6 +126,39 @@ fn compare_reading(what: &str, draft: &Draft) {
     assert_eq!(reference(&message).unwrap().end, message.len());
     compare(
         &format!("read {what}"),
+        &mut [],
+        |_| keep(&library(black_box(&message))),
+        |_| keep(&reference(black_box(&message))),
+    );
+}
+
+/// Reads messages that are names and little else. Each gets a second line, in which the reference takes
+/// the standard library's UTF-8 for its text rule.
+fn compare_texts() {
+    let long = |name: &str| name.repeat(250 / name.len());
+    for (what, name) in [
+        ("512 names, ASCII", "directory/file name".to_string()),
+        ("512 names, Cyrillic", "каталог/имя".to_string()),
+        ("512 long names, ASCII", long("directory/file name")),
+        ("512 long names, Cyrillic", long("каталог/имя")),
+        ("512 long names, Chinese", long("目录/文件名")),
+        ("512 long names, emoji", long("📁📄🎬🎧")),
+    ] {
+        let draft = index(512, 0, &name);
+        compare_reading(what, &draft);
+        compare_reading_by_std("  by std::str::from_utf8", &draft);
+    }
+}
+
+fn compare_reading_by_std(what: &str, draft: &Draft) {
+    let message = draft.encode().bytes;
+    type Library = fn(&[u8]) -> Result<fordtrumpet::ReadMessage<'_>, fordtrumpet::Refusal>;
+    type Reference = fn(&[u8]) -> Result<by_std::Message, reference::Refusal>;
+    let library: Library = black_box(fordtrumpet::read);
+    let reference: Reference = black_box(by_std::read);
+    assert_eq!(reference(&message).unwrap().end, message.len());
+    compare(
+        what,
         &mut [],
         |_| keep(&library(black_box(&message))),
         |_| keep(&reference(black_box(&message))),

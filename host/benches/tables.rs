@@ -153,7 +153,8 @@ fn compare_accepting(what: &str, kind: u32, old: &[File], sent: &[File]) {
     let mut message = Encoding::new();
     message.header(kind, 0).string(b"default", 64).files(sent);
     let message = message.bytes;
-    type Library = fn(&[u8], &[u8], &[u8], &mut [u8]) -> Result<usize, fordtrumpet::Refusal>;
+    type Library =
+        fn(&[u8], &[u8], &'static [u8], &mut [u8]) -> Result<usize, fordtrumpet::Refusal>;
     type Reference = fn(&[u8], &[u8], &[u8], &mut [u8]) -> Result<usize, reference::Refusal>;
     let library: Library = black_box(fordtrumpet::raw::accept);
     let reference: Reference = black_box(reference::accept);

@@ -25,7 +25,7 @@ use std::path::{Path, PathBuf};
 use std::sync::mpsc::{sync_channel, Receiver};
 use std::{env, thread, time::Duration};
 
-const REPOSITORY: &[u8] = b"default";
+const REPOSITORY: &str = "default";
 
 /// A peer that neither sends nor takes anything for so long is given up.
 const PATIENCE: Duration = Duration::from_secs(60);

@@ -19,16 +19,16 @@ fn main() -> Result<(), Box<dyn Error>> {
     };
     let mut files = FilesBuilder::new();
     files.push(
-        b"notes/a.txt",
+        "notes/a.txt",
         Flags(0o644),
         1_700_000_000,
         2,
         [first, second],
     );
-    files.push(b"notes/b.txt", Flags::DELETED, 1_700_000_100, 0, []);
+    files.push("notes/b.txt", Flags::DELETED, 1_700_000_100, 0, []);
 
     let mut out = [0; 1024];
-    let length = write_index(1, b"default", files.as_bytes(), &mut out)?;
+    let length = write_index(1, "default", files.as_bytes(), &mut out)?;
     fs::write(&path, &out[..length])?;
     println!("{length} bytes written to {}", path.display());
     Ok(())

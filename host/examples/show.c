@@ -14,7 +14,7 @@ static const char *const type_names[] = {
     "", "Index", "Request", "Response", "Ping", "Pong", "IndexUpdate", "Options"
 };
 
-/* Strings are bytes, so what isn't plain text is shown as an escape. */
+/* A string may hold what a terminal obeys, so all but plain ASCII is shown as an escape. */
 static void show_text(const char *field, const uint8_t *bytes, uint64_t len)
 {
     printf("%s ", field);

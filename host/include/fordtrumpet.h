@@ -14,6 +14,9 @@
  * opaque is its length word; the place of a field that isn't there is where it would begin. A
  * refused call leaves the lent buffer as it was. An accepted one changes only its first bytes, as
  * many as it reports.
+ *
+ * Strings. A Repository, Name, Key or Value that was read is UTF-8 (RFC 3629). It has no zero byte
+ * after it, and may have some inside.
  */
 #ifndef FORDTRUMPET_H
 #define FORDTRUMPET_H
@@ -57,7 +60,7 @@ enum {
     BEP_REFUSED_ABOVE_LIMIT = 5,
     /* a pad byte isn't zero */
     BEP_REFUSED_PAD = 6,
-    /* text rule broken */
+    /* text rule broken: a string isn't UTF-8 (RFC 3629) */
     BEP_REFUSED_TEXT = 7,
     /* empty Name */
     BEP_REFUSED_EMPTY_NAME = 8,
@@ -102,7 +105,7 @@ static inline const char *bep_refusal_text(uint32_t number)
     case BEP_REFUSED_RESERVED: return "the reserved bits aren't 0";
     case BEP_REFUSED_ABOVE_LIMIT: return "a length, a count or a Message ID is above its limit";
     case BEP_REFUSED_PAD: return "a pad byte isn't zero";
-    case BEP_REFUSED_TEXT: return "a string breaks the text rule";
+    case BEP_REFUSED_TEXT: return "a string isn't UTF-8";
     case BEP_REFUSED_EMPTY_NAME: return "the Name is empty";
     case BEP_REFUSED_HASH_LENGTH: return "the hash isn't 32 bytes long";
     case BEP_REFUSED_LENGTH: return "the Length is 0 or above 131,072";

@@ -17,10 +17,10 @@ use alloc::vec::Vec;
 ///
 /// let hash = [0xAB; 32];
 /// let mut files = FilesBuilder::new();
-/// files.push(b"a.txt", Flags(0o644), 1_700_000_000, 0, [Block { length: 5, hash: &hash }]);
-/// files.push(b"b.txt", Flags::DELETED, 1_700_000_000, 3, []);
+/// files.push("a.txt", Flags(0o644), 1_700_000_000, 0, [Block { length: 5, hash: &hash }]);
+/// files.push("b.txt", Flags::DELETED, 1_700_000_000, 3, []);
 /// let mut out = [0; 200];
-/// let length = write_index(0, b"default", files.as_bytes(), &mut out)?;
+/// let length = write_index(0, "default", files.as_bytes(), &mut out)?;
 /// # assert_eq!(length, 124);
 /// # Ok::<(), fordtrumpet::Refusal>(())
 /// ```
@@ -50,18 +50,18 @@ impl FilesBuilder {
     /// use fordtrumpet::{FilesBuilder, Flags};
     ///
     /// let mut files = FilesBuilder::new();
-    /// files.push(b"a", Flags(0o644), -1, 2, []);
+    /// files.push("a", Flags(0o644), -1, 2, []);
     /// assert_eq!(files.as_bytes().len(), 4 + 28);
     /// ```
     pub fn push<'b>(
         &mut self,
-        name: &[u8],
+        name: impl AsRef<[u8]>,
         flags: Flags,
         modified: i64,
         version: u32,
         blocks: impl IntoIterator<Item = Block<'b>>,
     ) {
-        let array = &mut self.array;
+        let (name, array) = (name.as_ref(), &mut self.array);
         self.starts.push(array.bytes.len());
         array.count();
         array.string(name);
@@ -87,7 +87,7 @@ impl FilesBuilder {
     ///
     /// let files = FilesBuilder::new();
     /// let mut out = [0; 12];
-    /// write_index(0, b"", files.as_bytes(), &mut out)?;
+    /// write_index(0, "", files.as_bytes(), &mut out)?;
     /// # Ok::<(), fordtrumpet::Refusal>(())
     /// ```
     pub fn as_bytes(&self) -> &[u8] {
@@ -114,7 +114,7 @@ impl FilesBuilder {
     /// use fordtrumpet::{FilesBuilder, Flags};
     ///
     /// let mut files = FilesBuilder::new();
-    /// files.push(b"a", Flags(0o644), 0, 0, []);
+    /// files.push("a", Flags(0o644), 0, 0, []);
     /// files.clear();
     /// assert_eq!(files.as_bytes(), FilesBuilder::new().as_bytes());
     /// ```
@@ -139,8 +139,8 @@ impl Default for FilesBuilder {
 /// use fordtrumpet::{write_options, OptionsBuilder};
 ///
 /// let mut options = OptionsBuilder::new();
-/// options.push(b"clientId", b"fordtrumpet");
-/// options.push(b"clientVersion", b"v0.1.0");
+/// options.push("clientId", "fordtrumpet");
+/// options.push("clientVersion", "v0.1.0");
 /// let mut out = [0; 100];
 /// let length = write_options(0, options.as_bytes(), &mut out)?;
 /// # assert_eq!(length, 68);
@@ -167,10 +167,11 @@ impl OptionsBuilder {
     ///
     /// ```
     /// let mut options = fordtrumpet::OptionsBuilder::new();
-    /// options.push(b"ab", b"");
+    /// options.push("ab", "");
     /// assert_eq!(options.as_bytes(), b"\0\0\0\x01\0\0\0\x02ab\0\0\0\0\0\0");
     /// ```
-    pub fn push(&mut self, key: &[u8], value: &[u8]) {
+    pub fn push(&mut self, key: impl AsRef<[u8]>, value: impl AsRef<[u8]>) {
+        let (key, value) = (key.as_ref(), value.as_ref());
         self.array.count();
         self.array.string(key);
         self.array.string(value);
@@ -194,7 +195,7 @@ impl OptionsBuilder {
     ///
     /// ```
     /// let mut options = fordtrumpet::OptionsBuilder::new();
-    /// options.push(b"a", b"b");
+    /// options.push("a", "b");
     /// options.clear();
     /// assert_eq!(options.as_bytes(), [0, 0, 0, 0]);
     /// ```

@@ -14,7 +14,9 @@
 //!
 //! A [`RequestQueue`] keeps the requests of a link that aren't answered yet.
 //!
-//! Names and other strings are bytes: the protocol's text rule lets through some that aren't UTF-8.
+//! Names and other strings of what was read are `&str`: the library lets through UTF-8 and nothing
+//! else, which is proved, so there is no second check. Where a call is given a string, `&str` and
+//! `&[u8]` will both do; the writers check it.
 //!
 //! # Buffers, stack and threads
 //!
@@ -41,16 +43,16 @@
 //! use fordtrumpet::{read, write_index, FilesBuilder, Flags, Message};
 //!
 //! let mut files = FilesBuilder::new();
-//! files.push(b"notes.txt", Flags(0o644), 1_700_000_000, 0, []);
+//! files.push("notes.txt", Flags(0o644), 1_700_000_000, 0, []);
 //! let mut out = [0; 100];
-//! let length = write_index(1, b"default", files.as_bytes(), &mut out)?;
+//! let length = write_index(1, "default", files.as_bytes(), &mut out)?;
 //!
 //! let read = read(&out[..length])?;
 //! assert_eq!(read.used, length);
 //! let Message::Index(index) = read.message else { panic!("not an Index") };
-//! assert_eq!(index.repository, b"default");
+//! assert_eq!(index.repository, "default");
 //! for file in index.files {
-//!     assert_eq!(file.name, b"notes.txt");
+//!     assert_eq!(file.name, "notes.txt");
 //!     assert_eq!(file.flags.mode(), 0o644);
 //! }
 //! # Ok::<(), fordtrumpet::Refusal>(())

@@ -1,7 +1,7 @@
 //! Reading a message, and what it holds.
 
-use crate::answer::{size, span, word};
-use crate::show::{Hex, Text};
+use crate::answer::{size, span, text, word};
+use crate::show::Hex;
 use crate::{ffi, Files, KeyValues, Refusal};
 use core::fmt;
 
@@ -38,8 +38,8 @@ pub fn read(input: &[u8]) -> Result<ReadMessage<'_>, Refusal> {
         1 => Message::Index(index(input, id, &answer)),
         2 => Message::Request(Request {
             id,
-            repository: span(input, answer[3], answer[4]),
-            name: span(input, answer[5], answer[6]),
+            repository: text(input, answer[3], answer[4]),
+            name: text(input, answer[5], answer[6]),
             offset: answer[7],
             length: word(answer[8]),
             hash: span(input, answer[9], answer[10])
@@ -68,7 +68,7 @@ pub fn read(input: &[u8]) -> Result<ReadMessage<'_>, Refusal> {
 fn index<'a>(input: &'a [u8], id: u32, answer: &[u64; 11]) -> Index<'a> {
     Index {
         id,
-        repository: span(input, answer[3], answer[4]),
+        repository: text(input, answer[3], answer[4]),
         files: Files::new(span(input, answer[5], answer[6]), size(answer[7])),
     }
 }
@@ -145,15 +145,15 @@ impl Message<'_> {
 /// use fordtrumpet::{read, Message};
 ///
 /// let Message::Index(index) = read(&[0, 1, 1, 0, 0, 0, 0, 0, 0, 0, 0, 0])?.message else { panic!() };
-/// assert_eq!((index.id, index.repository, index.files.len()), (1, &b""[..], 0));
+/// assert_eq!((index.id, index.repository, index.files.len()), (1, "", 0));
 /// # Ok::<(), fordtrumpet::Refusal>(())
 /// ```
-#[derive(Clone, Copy, PartialEq, Eq)]
+#[derive(Clone, Copy, Debug, PartialEq, Eq)]
 pub struct Index<'a> {
     /// The Message ID.
     pub id: u32,
-    /// The repository's name, up to 64 bytes. The protocol's text rule is wider than UTF-8.
-    pub repository: &'a [u8],
+    /// The repository's name, up to 64 bytes.
+    pub repository: &'a str,
     /// The files, in the order they were sent in.
     pub files: Files<'a>,
 }
@@ -164,9 +164,9 @@ pub struct Index<'a> {
 /// use fordtrumpet::{read, write_request, Message, MAX_REQUEST};
 ///
 /// let mut out = [0; MAX_REQUEST];
-/// let length = write_request(3, b"default", b"a", 131_072, 5, &[7; 32], &mut out)?;
+/// let length = write_request(3, "default", "a", 131_072, 5, &[7; 32], &mut out)?;
 /// let Message::Request(request) = read(&out[..length])?.message else { panic!() };
-/// assert_eq!((request.name, request.offset, request.hash), (&b"a"[..], 131_072, &[7; 32]));
+/// assert_eq!((request.name, request.offset, request.hash), ("a", 131_072, &[7; 32]));
 /// # Ok::<(), fordtrumpet::Refusal>(())
 /// ```
 #[derive(Clone, Copy, PartialEq, Eq)]
@@ -174,9 +174,9 @@ pub struct Request<'a> {
     /// The Message ID.
     pub id: u32,
     /// The repository's name, up to 64 bytes.
-    pub repository: &'a [u8],
+    pub repository: &'a str,
     /// The file's name, 1 to 255 bytes.
-    pub name: &'a [u8],
+    pub name: &'a str,
     /// Where the block starts in the file.
     pub offset: u64,
     /// The block's length, 1 to 131,072.
@@ -247,22 +247,12 @@ pub struct Options<'a> {
     pub options: KeyValues<'a>,
 }
 
-impl fmt::Debug for Index<'_> {
-    fn fmt(&self, f: &mut fmt::Formatter<'_>) -> fmt::Result {
-        f.debug_struct("Index")
-            .field("id", &self.id)
-            .field("repository", &Text(self.repository))
-            .field("files", &self.files)
-            .finish()
-    }
-}
-
 impl fmt::Debug for Request<'_> {
     fn fmt(&self, f: &mut fmt::Formatter<'_>) -> fmt::Result {
         f.debug_struct("Request")
             .field("id", &self.id)
-            .field("repository", &Text(self.repository))
-            .field("name", &Text(self.name))
+            .field("repository", &self.repository)
+            .field("name", &self.name)
             .field("offset", &self.offset)
             .field("length", &self.length)
             .field("hash", &Hex(self.hash))

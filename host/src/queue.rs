@@ -14,7 +14,7 @@ use core::fmt;
 ///
 /// let mut queue = RequestQueue::open();
 /// let mut out = [0; 100];
-/// let issued = queue.issue(b"default", b"notes.txt", 0, 3, &[0xA7; 32], &mut out)?;
+/// let issued = queue.issue("default", "notes.txt", 0, 3, &[0xA7; 32], &mut out)?;
 /// // Send `out[..issued.written]`, and there comes the answer:
 /// let length = write_response(issued.id, b"abc", &mut out)?;
 /// let answered = queue.answer(&out[..length])?;
@@ -32,7 +32,7 @@ pub struct RequestQueue {
 /// ```
 /// use fordtrumpet::{Issued, RequestQueue};
 ///
-/// let issued = RequestQueue::open().issue(b"default", b"a", 0, 5, &[7; 32], &mut [0; 100])?;
+/// let issued = RequestQueue::open().issue("default", "a", 0, 5, &[7; 32], &mut [0; 100])?;
 /// assert_eq!(issued, Issued { id: 0, written: 72 });
 /// # Ok::<(), fordtrumpet::Refusal>(())
 /// ```
@@ -51,7 +51,7 @@ pub struct Issued {
 /// use fordtrumpet::{Answered, Outcome, RequestQueue};
 ///
 /// let mut queue = RequestQueue::open();
-/// let _ = queue.issue(b"default", b"a", 0, 5, &[7; 32], &mut [0; 100])?;
+/// let _ = queue.issue("default", "a", 0, 5, &[7; 32], &mut [0; 100])?;
 /// let answered = queue.answer(&[0, 0, 3, 0, 0, 0, 0, 0])?;
 /// assert_eq!(answered, Answered { id: 0, length: 5, outcome: Outcome::NotAvailable });
 /// # Ok::<(), fordtrumpet::Refusal>(())
@@ -73,7 +73,7 @@ pub struct Answered<'a> {
 /// use fordtrumpet::{Outcome, RequestQueue};
 ///
 /// let mut queue = RequestQueue::open();
-/// let _ = queue.issue(b"default", b"a", 0, 5, &[7; 32], &mut [0; 100])?;
+/// let _ = queue.issue("default", "a", 0, 5, &[7; 32], &mut [0; 100])?;
 /// match queue.answer(&[0, 0, 3, 0, 0, 0, 0, 1, b'x', 0, 0, 0])?.outcome {
 ///     Outcome::Data(data) => println!("{} bytes", data.len()),
 ///     Outcome::NotAvailable => println!("ask another peer"),
@@ -151,20 +151,21 @@ impl RequestQueue {
     ///
     /// let mut queue = RequestQueue::open_with(1)?;
     /// let mut out = [0; 100];
-    /// queue.issue(b"default", b"a", 0, 131_072, &[0xA7; 32], &mut out)?;
-    /// let again = queue.issue(b"default", b"a", 131_072, 5, &[0xA8; 32], &mut out);
+    /// queue.issue("default", "a", 0, 131_072, &[0xA7; 32], &mut out)?;
+    /// let again = queue.issue("default", "a", 131_072, 5, &[0xA8; 32], &mut out);
     /// assert_eq!(again.unwrap_err().number(), 16);
     /// # Ok::<(), fordtrumpet::Refusal>(())
     /// ```
     pub fn issue(
         &mut self,
-        repository: &[u8],
-        name: &[u8],
+        repository: impl AsRef<[u8]>,
+        name: impl AsRef<[u8]>,
         offset: u64,
         length: u32,
         hash: &[u8; 32],
         out: &mut [u8],
     ) -> Result<Issued, Refusal> {
+        let (repository, name) = (repository.as_ref(), name.as_ref());
         let mut answer = [0; 2];
         // SAFETY: each pointer and length are those of one slice, `out` and the queue are borrowed for
         // this call alone, and queue and answer have the sizes asked for.
@@ -203,7 +204,7 @@ impl RequestQueue {
     ///
     /// let mut queue = RequestQueue::open();
     /// let mut out = [0; 100];
-    /// let id = queue.issue(b"default", b"a", 0, 5, &[0xA7; 32], &mut out)?.id;
+    /// let id = queue.issue("default", "a", 0, 5, &[0xA7; 32], &mut out)?.id;
     /// let length = write_response(id, b"", &mut out)?;
     /// assert_eq!(queue.answer(&out[..length])?.outcome, Outcome::NotAvailable);
     /// assert_eq!(queue.answer(&out[..length]).unwrap_err().number(), 20);
@@ -240,10 +241,10 @@ impl RequestQueue {
     /// # use fordtrumpet::RequestQueue;
     /// # let mut queue = RequestQueue::open();
     /// # let mut out = [0; 100];
-    /// queue.issue(b"default", b"a", 0, 5, &[0xA7; 32], &mut out)?;
+    /// queue.issue("default", "a", 0, 5, &[0xA7; 32], &mut out)?;
     /// queue.drop_link();
     /// assert_eq!(queue.outstanding_bytes(), 0);
-    /// assert_eq!(queue.issue(b"default", b"a", 0, 5, &[0xA7; 32], &mut out)?.id, 1);
+    /// assert_eq!(queue.issue("default", "a", 0, 5, &[0xA7; 32], &mut out)?.id, 1);
     /// # Ok::<(), fordtrumpet::Refusal>(())
     /// ```
     pub fn drop_link(&mut self) {
@@ -258,7 +259,7 @@ impl RequestQueue {
     /// # use fordtrumpet::RequestQueue;
     /// # let mut queue = RequestQueue::open();
     /// # let mut out = [0; 100];
-    /// queue.issue(b"default", b"a", 0, 5, &[0xA7; 32], &mut out)?;
+    /// queue.issue("default", "a", 0, 5, &[0xA7; 32], &mut out)?;
     /// assert_eq!((queue.outstanding(), queue.outstanding_bytes()), (1, 5));
     /// # Ok::<(), fordtrumpet::Refusal>(())
     /// ```

@@ -7,7 +7,7 @@
 //! assert_eq!(raw::merge(b"", b"\0\0\0\0", &mut [0; 100]), Err(Refusal::BadTable));
 //! ```
 
-use crate::answer::{size, span, word, written};
+use crate::answer::{size, text, word, written};
 use crate::{ffi, Refusal, RequestList, Serving};
 
 pub use crate::walker::Walker;
@@ -40,9 +40,9 @@ pub fn is_good(table: &[u8]) -> bool {
 /// use fordtrumpet::{FilesBuilder, Flags};
 ///
 /// let (mut ours, mut theirs) = (FilesBuilder::new(), FilesBuilder::new());
-/// ours.push(b"a", Flags(0o644), 1_700_000_000, 0, []);
-/// theirs.push(b"a", Flags(0o644), 1_700_000_000, 1, []);
-/// theirs.push(b"b", Flags(0o644), 1_700_000_000, 0, []);
+/// ours.push("a", Flags(0o644), 1_700_000_000, 0, []);
+/// theirs.push("a", Flags(0o644), 1_700_000_000, 1, []);
+/// theirs.push("b", Flags(0o644), 1_700_000_000, 0, []);
 /// let mut out = [0; 100];
 /// let length = merge(ours.as_bytes(), theirs.as_bytes(), &mut out)?;
 /// assert_eq!(out[..length], *theirs.as_bytes());
@@ -83,21 +83,22 @@ pub fn merge(a: &[u8], b: &[u8], out: &mut [u8]) -> Result<usize, Refusal> {
 /// use fordtrumpet::{write_index_update, FilesBuilder, Flags, Table};
 ///
 /// let (mut old, mut sent) = (FilesBuilder::new(), FilesBuilder::new());
-/// old.push(b"a", Flags(0o644), 1_700_000_000, 0, []);
-/// sent.push(b"b", Flags(0o644), 1_700_000_000, 0, []);
+/// old.push("a", Flags(0o644), 1_700_000_000, 0, []);
+/// sent.push("b", Flags(0o644), 1_700_000_000, 0, []);
 /// let (mut message, mut out) = ([0; 100], [0; 100]);
-/// let length = write_index_update(0, b"default", sent.as_bytes(), &mut message)?;
-/// let length = accept(old.as_bytes(), &message[..length], b"default", &mut out)?;
+/// let length = write_index_update(0, "default", sent.as_bytes(), &mut message)?;
+/// let length = accept(old.as_bytes(), &message[..length], "default", &mut out)?;
 /// let table = Table::new(&out[..length])?;
-/// assert!(table.files().iter().map(|file| file.name).eq([b"a", b"b"]));
+/// assert!(table.files().iter().map(|file| file.name).eq(["a", "b"]));
 /// # Ok::<(), fordtrumpet::Refusal>(())
 /// ```
 pub fn accept(
     old: &[u8],
     message: &[u8],
-    repository: &[u8],
+    repository: impl AsRef<[u8]>,
     out: &mut [u8],
 ) -> Result<usize, Refusal> {
+    let repository = repository.as_ref();
     let mut answer = [0];
     // SAFETY: each pointer and length are those of one slice, `out` is borrowed for this call alone,
     // and the answer has the size asked for.
@@ -134,9 +135,9 @@ pub fn accept(
 ///
 /// let (first, second) = ([1; 32], [2; 32]);
 /// let (mut local, mut peer) = (FilesBuilder::new(), FilesBuilder::new());
-/// local.push(b"a", Flags(0), 0, 0, [Block { length: 131_072, hash: &first }]);
+/// local.push("a", Flags(0), 0, 0, [Block { length: 131_072, hash: &first }]);
 /// let blocks = [Block { length: 131_072, hash: &first }, Block { length: 5, hash: &second }];
-/// peer.push(b"b", Flags(0), 0, 0, blocks);
+/// peer.push("b", Flags(0), 0, 0, blocks);
 ///
 /// let peers: [&[u8]; 4] = [b"\0\0\0\0", peer.as_bytes(), b"\0\0\0\0", b"\0\0\0\0"];
 /// let mut out = [0; 1000];
@@ -189,8 +190,8 @@ pub fn request_list<'a>(
 ///
 /// let hash = [7; 32];
 /// let mut table = FilesBuilder::new();
-/// table.push(b"a", Flags(0), 0, 0, []);
-/// table.push(b"b", Flags(0), 0, 0, [Block { length: 9, hash: &hash }]);
+/// table.push("a", Flags(0), 0, 0, []);
+/// table.push("b", Flags(0), 0, 0, [Block { length: 9, hash: &hash }]);
 /// assert_eq!(find_local(table.as_bytes(), 9, &hash)?, Some((1, 0)));
 /// assert_eq!(find_local(table.as_bytes(), 8, &hash)?, None);
 /// # Ok::<(), fordtrumpet::Refusal>(())
@@ -236,25 +237,26 @@ pub fn find_local(
 ///
 /// let hash = [7; 32];
 /// let mut table = FilesBuilder::new();
-/// table.push(b"a", Flags(0), 0, 0, [Block { length: 9, hash: &hash }]);
+/// table.push("a", Flags(0), 0, 0, [Block { length: 9, hash: &hash }]);
 ///
 /// let mut request = [0; 380];
-/// let length = write_request(5, b"default", b"a", 0, 9, &hash, &mut request)?;
+/// let length = write_request(5, "default", "a", 0, 9, &hash, &mut request)?;
 /// let mut out = [0; 8];
-/// let serving = serve(table.as_bytes(), b"default", &request[..length], &mut out)?;
-/// assert_eq!(serving, Serving::Served { id: 5, name: b"a", offset: 0, length: 9 });
+/// let serving = serve(table.as_bytes(), "default", &request[..length], &mut out)?;
+/// assert_eq!(serving, Serving::Served { id: 5, name: "a", offset: 0, length: 9 });
 ///
-/// let serving = serve(table.as_bytes(), b"another", &request[..length], &mut out)?;
+/// let serving = serve(table.as_bytes(), "another", &request[..length], &mut out)?;
 /// assert_eq!(serving, Serving::Replied(8));
 /// assert_eq!(out, [0, 5, 3, 0, 0, 0, 0, 0]);
 /// # Ok::<(), fordtrumpet::Refusal>(())
 /// ```
 pub fn serve<'a>(
     table: &[u8],
-    repository: &[u8],
+    repository: impl AsRef<[u8]>,
     message: &'a [u8],
     out: &mut [u8],
 ) -> Result<Serving<'a>, Refusal> {
+    let repository = repository.as_ref();
     let mut answer = [0; 5];
     // SAFETY: each pointer and length are those of one slice, `out` is borrowed for this call alone,
     // and the answer has the size asked for.
@@ -276,7 +278,7 @@ pub fn serve<'a>(
         (0, [_, start, len, offset, length]) => Ok(Serving::Served {
             // A message that was accepted has the ID in the low 12 bits of its first two bytes.
             id: u32::from(u16::from_be_bytes([message[0], message[1]]) & 0x0FFF),
-            name: span(message, start, len),
+            name: text(message, start, len),
             offset,
             length: word(length),
         }),

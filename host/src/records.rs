@@ -1,8 +1,8 @@
 //! The elements of an accepted message: files with their blocks, and options.
 
-use crate::answer::{size, span, word};
+use crate::answer::{size, text, word};
 use crate::ffi;
-use crate::show::{Hex, Text};
+use crate::show::Hex;
 use core::fmt;
 use core::iter::FusedIterator;
 use core::ops::BitOr;
@@ -18,15 +18,15 @@ const BLOCK_LEN: usize = 40;
 /// ```
 /// # use fordtrumpet::*;
 /// # let mut array = FilesBuilder::new();
-/// # array.push(b"a", Flags(0o644), 5, 0, []);
-/// # array.push(b"b", Flags::DELETED, 6, 0, []);
+/// # array.push("a", Flags(0o644), 5, 0, []);
+/// # array.push("b", Flags::DELETED, 6, 0, []);
 /// # let mut out = [0; 100];
-/// # let used = write_index(0, b"", array.as_bytes(), &mut out).unwrap();
+/// # let used = write_index(0, "", array.as_bytes(), &mut out).unwrap();
 /// # let input = &out[..used];
 /// let Message::Index(index) = read(input)?.message else { panic!("not an Index") };
 /// assert_eq!(index.files.len(), 2);
 /// for file in index.files {
-///     println!("{}", file.name.escape_ascii());
+///     println!("{}", file.name.escape_debug());
 /// }
 /// # Ok::<(), Refusal>(())
 /// ```
@@ -87,9 +87,9 @@ impl<'a> Files<'a> {
     /// ```
     /// # use fordtrumpet::*;
     /// # let mut array = FilesBuilder::new();
-    /// # array.push(b"a", Flags::DELETED, 5, 0, []);
+    /// # array.push("a", Flags::DELETED, 5, 0, []);
     /// # let mut out = [0; 100];
-    /// # write_index(0, b"", array.as_bytes(), &mut out).unwrap();
+    /// # write_index(0, "", array.as_bytes(), &mut out).unwrap();
     /// # let Message::Index(index) = read(&out).unwrap().message else { panic!() };
     /// let deleted = index.files.iter().filter(|file| file.flags.is_deleted());
     /// assert_eq!(deleted.count(), 1);
@@ -171,15 +171,15 @@ impl FusedIterator for FilesIter<'_> {}
 /// use fordtrumpet::{FilesBuilder, Flags, Table};
 ///
 /// let mut files = FilesBuilder::new();
-/// files.push(b"a", Flags(0o600), -1, 2, []);
+/// files.push("a", Flags(0o600), -1, 2, []);
 /// let file = Table::new(files.as_bytes())?.get(0).unwrap();
-/// assert_eq!((file.name, file.modified, file.version), (&b"a"[..], -1, 2));
+/// assert_eq!((file.name, file.modified, file.version), ("a", -1, 2));
 /// # Ok::<(), fordtrumpet::Refusal>(())
 /// ```
 #[derive(Clone, Copy, PartialEq, Eq)]
 pub struct FileInfo<'a> {
-    /// The name, 1 to 255 bytes. The protocol's text rule is wider than UTF-8.
-    pub name: &'a [u8],
+    /// The name, 1 to 255 bytes.
+    pub name: &'a str,
     /// Deleted, invalid, and the Unix mode.
     pub flags: Flags,
     /// The time of modification in seconds since the Unix epoch.
@@ -193,13 +193,13 @@ pub struct FileInfo<'a> {
 }
 
 impl<'a> FileInfo<'a> {
-    /// The record at a place of an array, by the words of an answer.
+    /// The record at a place of an array that was accepted, by the words of an answer.
     #[inline]
     pub(crate) fn new(bytes: &'a [u8], at: usize, answer: [u64; 8]) -> Self {
         let [end, name, name_len, flags, modified, version, _, first_block] = answer;
         FileInfo {
             bytes: &bytes[at..size(end)],
-            name: span(bytes, name, name_len),
+            name: text(bytes, name, name_len),
             flags: Flags(word(flags)),
             modified: modified.cast_signed(),
             version: word(version),
@@ -214,7 +214,7 @@ impl<'a> FileInfo<'a> {
     /// ```
     /// # use fordtrumpet::*;
     /// # let mut array = FilesBuilder::new();
-    /// # array.push(b"a", Flags::DELETED, 5, 0, []);
+    /// # array.push("a", Flags::DELETED, 5, 0, []);
     /// # let table = Table::new(array.as_bytes()).unwrap();
     /// # let file = table.files().iter().next().unwrap();
     /// assert_eq!(file.as_bytes().len(), 28);
@@ -306,9 +306,9 @@ impl BitOr for Flags {
 /// # use fordtrumpet::*;
 /// # let hash = [7; 32];
 /// # let mut array = FilesBuilder::new();
-/// # array.push(b"a", Flags(0o644), 5, 0, [Block { length: 9, hash: &hash }]);
+/// # array.push("a", Flags(0o644), 5, 0, [Block { length: 9, hash: &hash }]);
 /// # let mut out = [0; 100];
-/// # write_index(0, b"", array.as_bytes(), &mut out).unwrap();
+/// # write_index(0, "", array.as_bytes(), &mut out).unwrap();
 /// # let Message::Index(index) = read(&out).unwrap().message else { panic!() };
 /// # let file = index.files.iter().next().unwrap();
 /// let size: u64 = file.blocks.iter().map(|block| u64::from(block.length)).sum();
@@ -326,9 +326,9 @@ impl<'a> Blocks<'a> {
     /// ```
     /// # use fordtrumpet::*;
     /// # let mut array = FilesBuilder::new();
-    /// # array.push(b"a", Flags::DELETED, 5, 0, []);
+    /// # array.push("a", Flags::DELETED, 5, 0, []);
     /// # let mut out = [0; 100];
-    /// # write_index(0, b"", array.as_bytes(), &mut out).unwrap();
+    /// # write_index(0, "", array.as_bytes(), &mut out).unwrap();
     /// # let Message::Index(index) = read(&out).unwrap().message else { panic!() };
     /// # let deleted = index.files.iter().next().unwrap();
     /// assert_eq!(deleted.blocks.len(), 0);
@@ -342,9 +342,9 @@ impl<'a> Blocks<'a> {
     /// ```
     /// # use fordtrumpet::*;
     /// # let mut array = FilesBuilder::new();
-    /// # array.push(b"a", Flags::DELETED, 5, 0, []);
+    /// # array.push("a", Flags::DELETED, 5, 0, []);
     /// # let mut out = [0; 100];
-    /// # write_index(0, b"", array.as_bytes(), &mut out).unwrap();
+    /// # write_index(0, "", array.as_bytes(), &mut out).unwrap();
     /// # let Message::Index(index) = read(&out).unwrap().message else { panic!() };
     /// # let deleted = index.files.iter().next().unwrap();
     /// assert!(deleted.blocks.is_empty());
@@ -359,9 +359,9 @@ impl<'a> Blocks<'a> {
     /// # use fordtrumpet::*;
     /// # let hash = [7; 32];
     /// # let mut array = FilesBuilder::new();
-    /// # array.push(b"a", Flags(0o644), 5, 0, [Block { length: 9, hash: &hash }]);
+    /// # array.push("a", Flags(0o644), 5, 0, [Block { length: 9, hash: &hash }]);
     /// # let mut out = [0; 100];
-    /// # write_index(0, b"", array.as_bytes(), &mut out).unwrap();
+    /// # write_index(0, "", array.as_bytes(), &mut out).unwrap();
     /// # let Message::Index(index) = read(&out).unwrap().message else { panic!() };
     /// # let file = index.files.iter().next().unwrap();
     /// assert!(file.blocks.iter().any(|block| block.hash == &[7; 32]));
@@ -402,7 +402,7 @@ impl<'a> IntoIterator for &Blocks<'a> {
 /// ```
 /// # use fordtrumpet::*;
 /// # let mut files = FilesBuilder::new();
-/// # files.push(b"a", Flags(0), 0, 0, [Block { length: 9, hash: &[7; 32] }]);
+/// # files.push("a", Flags(0), 0, 0, [Block { length: 9, hash: &[7; 32] }]);
 /// # let table = Table::new(files.as_bytes()).unwrap();
 /// let mut blocks = table.get(0).unwrap().blocks.iter();
 /// assert_eq!(blocks.next().unwrap().length, 9);
@@ -440,7 +440,7 @@ impl FusedIterator for BlocksIter<'_> {}
 /// use fordtrumpet::{Block, FilesBuilder, Flags};
 ///
 /// let mut files = FilesBuilder::new();
-/// files.push(b"a", Flags(0o600), 0, 0, [Block { length: 9, hash: &[7; 32] }]);
+/// files.push("a", Flags(0o600), 0, 0, [Block { length: 9, hash: &[7; 32] }]);
 /// assert_eq!(files.as_bytes().len(), 4 + 28 + 40);
 /// ```
 #[derive(Clone, Copy, PartialEq, Eq, Hash)]
@@ -456,13 +456,13 @@ pub struct Block<'a> {
 /// ```
 /// # use fordtrumpet::*;
 /// # let mut array = OptionsBuilder::new();
-/// # array.push(b"clientId", b"syncthing");
+/// # array.push("clientId", "syncthing");
 /// # let mut out = [0; 100];
 /// # write_options(0, array.as_bytes(), &mut out).unwrap();
 /// # let Message::Options(message) = read(&out).unwrap().message else { panic!() };
 /// for option in message.options {
-///     if option.key == b"clientId" {
-///         println!("{}", option.value.escape_ascii());
+///     if option.key == "clientId" {
+///         println!("{}", option.value.escape_debug());
 ///     }
 /// }
 /// ```
@@ -523,12 +523,12 @@ impl<'a> KeyValues<'a> {
     /// ```
     /// # use fordtrumpet::*;
     /// # let mut array = OptionsBuilder::new();
-    /// # array.push(b"clientId", b"syncthing");
+    /// # array.push("clientId", "syncthing");
     /// # let mut out = [0; 100];
     /// # write_options(0, array.as_bytes(), &mut out).unwrap();
     /// # let Message::Options(message) = read(&out).unwrap().message else { panic!() };
-    /// let client = message.options.iter().find(|option| option.key == b"clientId");
-    /// assert_eq!(client.unwrap().value, b"syncthing");
+    /// let client = message.options.iter().find(|option| option.key == "clientId");
+    /// assert_eq!(client.unwrap().value, "syncthing");
     /// ```
     pub fn iter(&self) -> KeyValuesIter<'a> {
         KeyValuesIter {
@@ -591,8 +591,8 @@ impl<'a> Iterator for KeyValuesIter<'a> {
         let [end, key, key_len, value, value_len] = answer;
         self.at = size(end);
         Some(KeyValue {
-            key: span(bytes, key, key_len),
-            value: span(bytes, value, value_len),
+            key: text(bytes, key, key_len),
+            value: text(bytes, value, value_len),
         })
     }
 
@@ -610,26 +610,26 @@ impl FusedIterator for KeyValuesIter<'_> {}
 /// use fordtrumpet::{read, write_options, KeyValue, Message, OptionsBuilder};
 ///
 /// let mut options = OptionsBuilder::new();
-/// options.push(b"name", b"truck");
+/// options.push("name", "truck");
 /// let mut out = [0; 100];
 /// let length = write_options(0, options.as_bytes(), &mut out)?;
 /// let Message::Options(message) = read(&out[..length])?.message else { panic!() };
-/// let expected = KeyValue { key: b"name", value: b"truck" };
+/// let expected = KeyValue { key: "name", value: "truck" };
 /// assert!(message.options.iter().eq([expected]));
 /// # Ok::<(), fordtrumpet::Refusal>(())
 /// ```
 #[derive(Clone, Copy, PartialEq, Eq, Hash)]
 pub struct KeyValue<'a> {
     /// The key, up to 64 bytes.
-    pub key: &'a [u8],
+    pub key: &'a str,
     /// The value, up to 255 bytes.
-    pub value: &'a [u8],
+    pub value: &'a str,
 }
 
 impl fmt::Debug for FileInfo<'_> {
     fn fmt(&self, f: &mut fmt::Formatter<'_>) -> fmt::Result {
         f.debug_struct("FileInfo")
-            .field("name", &Text(self.name))
+            .field("name", &self.name)
             .field("flags", &format_args!("{:#o}", self.flags.0))
             .field("modified", &self.modified)
             .field("version", &self.version)
@@ -649,6 +649,6 @@ impl fmt::Debug for Block<'_> {
 
 impl fmt::Debug for KeyValue<'_> {
     fn fmt(&self, f: &mut fmt::Formatter<'_>) -> fmt::Result {
-        write!(f, "{:?}: {:?}", Text(self.key), Text(self.value))
+        write!(f, "{:?}: {:?}", self.key, self.value)
     }
 }

@@ -34,7 +34,7 @@ pub enum Refusal {
     AboveLimit(usize),
     /// 6: a pad byte isn't zero.
     Pad(usize),
-    /// 7: a string breaks the text rule.
+    /// 7: a string isn't UTF-8.
     Text(usize),
     /// 8: the Name is empty.
     EmptyName(usize),
@@ -113,7 +113,7 @@ impl Refusal {
                 "a length, a count or a Message ID is above its limit",
             ),
             Refusal::Pad(place) => (6, place, "a pad byte isn't zero"),
-            Refusal::Text(place) => (7, place, "a string breaks the text rule"),
+            Refusal::Text(place) => (7, place, "a string isn't UTF-8"),
             Refusal::EmptyName(place) => (8, place, "the Name is empty"),
             Refusal::HashLength(place) => (9, place, "the hash isn't 32 bytes long"),
             Refusal::Length(place) => (10, place, "the Length is 0 or above 131,072"),

@@ -1,8 +1,6 @@
 //! The ruling on an incoming Request.
 
-use crate::show::Text;
 use crate::{raw, Refusal, Table};
-use core::fmt;
 
 /// What is to be done about an incoming Request.
 ///
@@ -12,13 +10,13 @@ use core::fmt;
 /// fn reply(serving: Serving<'_>) {
 ///     match serving {
 ///         Serving::Served { id, name, offset, length } => {
-///             println!("send {length} bytes of {} at {offset} as {id}", name.escape_ascii());
+///             println!("send {length} bytes of {} at {offset} as {id}", name.escape_debug());
 ///         }
 ///         Serving::Replied(length) => println!("send the {length} bytes that were written"),
 ///     }
 /// }
 /// ```
-#[derive(Clone, Copy, PartialEq, Eq)]
+#[derive(Clone, Copy, Debug, PartialEq, Eq)]
 #[must_use]
 pub enum Serving<'a> {
     /// The block is ours: send its bytes in a Response. Nothing was written.
@@ -26,7 +24,7 @@ pub enum Serving<'a> {
         /// The ID of the Request, which the Response has too.
         id: u32,
         /// The name of the file, as the Request has it.
-        name: &'a [u8],
+        name: &'a str,
         /// Where the block begins in the file.
         offset: u64,
         /// How many bytes it has.
@@ -52,45 +50,25 @@ pub enum Serving<'a> {
 ///
 /// let hash = [7; 32];
 /// let mut files = FilesBuilder::new();
-/// files.push(b"a", Flags(0), 0, 0, [Block { length: 9, hash: &hash }]);
+/// files.push("a", Flags(0), 0, 0, [Block { length: 9, hash: &hash }]);
 /// let table = Table::new(files.as_bytes())?;
 ///
 /// let mut request = [0; 380];
-/// let length = write_request(5, b"default", b"a", 0, 9, &hash, &mut request)?;
+/// let length = write_request(5, "default", "a", 0, 9, &hash, &mut request)?;
 /// let mut out = [0; 8];
-/// let serving = serve(table, b"default", &request[..length], &mut out)?;
-/// assert_eq!(serving, Serving::Served { id: 5, name: b"a", offset: 0, length: 9 });
+/// let serving = serve(table, "default", &request[..length], &mut out)?;
+/// assert_eq!(serving, Serving::Served { id: 5, name: "a", offset: 0, length: 9 });
 ///
-/// let serving = serve(table, b"another", &request[..length], &mut out)?;
+/// let serving = serve(table, "another", &request[..length], &mut out)?;
 /// assert_eq!(serving, Serving::Replied(8));
 /// assert_eq!(out, [0, 5, 3, 0, 0, 0, 0, 0]);
 /// # Ok::<(), fordtrumpet::Refusal>(())
 /// ```
 pub fn serve<'a>(
     table: Table<'_>,
-    repository: &[u8],
+    repository: impl AsRef<[u8]>,
     message: &'a [u8],
     out: &mut [u8],
 ) -> Result<Serving<'a>, Refusal> {
     raw::serve(table.as_bytes(), repository, message, out)
-}
-
-impl fmt::Debug for Serving<'_> {
-    fn fmt(&self, f: &mut fmt::Formatter<'_>) -> fmt::Result {
-        match self {
-            Serving::Served {
-                id,
-                name,
-                offset,
-                length,
-            } => f
-                .debug_struct("Served")
-                .field("id", id)
-                .field("name", &Text(name))
-                .field("offset", offset)
-                .field("length", length)
-                .finish(),
-            Serving::Replied(length) => f.debug_tuple("Replied").field(length).finish(),
-        }
-    }
 }

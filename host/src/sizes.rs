@@ -109,11 +109,11 @@ mod tests {
         let mut out = vec![0; MAX_INDEX];
         let mut files = FilesBuilder::new();
         for _ in 0..MAX_FILES {
-            files.push(&name, Flags(0), 0, 0, [block; MAX_BLOCKS]);
+            files.push(name, Flags(0), 0, 0, [block; MAX_BLOCKS]);
         }
         let files = files.as_bytes();
-        assert_eq!(write_index(1, &repository, files, &mut out), Ok(MAX_INDEX));
-        let request = write_request(1, &repository, &name, 0, 131_072, &hash, &mut out);
+        assert_eq!(write_index(1, repository, files, &mut out), Ok(MAX_INDEX));
+        let request = write_request(1, repository, name, 0, 131_072, &hash, &mut out);
         assert_eq!(request, Ok(MAX_REQUEST));
         assert_eq!(
             write_response(1, &[0; MAX_BLOCK], &mut out),
@@ -123,7 +123,7 @@ mod tests {
         assert_eq!(write_ping(1, &mut out), Ok(PING));
         let mut options = OptionsBuilder::new();
         for _ in 0..64 {
-            options.push(&[b'k'; 64], &[b'v'; 255]);
+            options.push([b'k'; 64], [b'v'; 255]);
         }
         assert_eq!(
             write_options(1, options.as_bytes(), &mut out),
@@ -146,8 +146,8 @@ mod tests {
                 hashes[range].iter().map(|hash| Block { length: 1, hash })
             };
             let mut files = FilesBuilder::new();
-            files.push(&[2 * peer], Flags(0), 0, 0, blocks(0..1024));
-            files.push(&[2 * peer + 1], Flags(0), 0, 0, blocks(1024..1636));
+            files.push([2 * peer], Flags(0), 0, 0, blocks(0..1024));
+            files.push([2 * peer + 1], Flags(0), 0, 0, blocks(1024..1636));
             TableBuf::from_files(&files).unwrap()
         };
         let peers = [1, 2, 3, 4].map(table);

@@ -1,6 +1,8 @@
 //! Tables: good ones, which of two records is newer, merging, and accepting a sender's records.
 
+use crate::answer::text_of;
 use crate::{ffi, raw, FileInfo, Files, FilesBuilder, FilesIter, Refusal};
+use alloc::string::String;
 use alloc::vec;
 use alloc::vec::Vec;
 use core::cmp::Ordering;
@@ -26,7 +28,7 @@ pub const MAX_TABLE: usize = 65_536;
 ///
 /// let mut files = FilesBuilder::new();
 /// for number in 0..=MAX_RECORDS {
-///     files.push(number.to_string().as_bytes(), Flags(0), 0, 0, []);
+///     files.push(number.to_string(), Flags(0), 0, 0, []);
 /// }
 /// assert_eq!(TableBuf::from_files(&files), Err(TableError::TooManyRecords(513)));
 /// ```
@@ -40,8 +42,8 @@ pub const MAX_RECORDS: usize = 512;
 /// use fordtrumpet::{FilesBuilder, Flags, Table};
 ///
 /// let mut files = FilesBuilder::new();
-/// files.push(b"a", Flags(0o644), 1_700_000_000, 0, []);
-/// files.push(b"b", Flags(0o644), 1_700_000_000, 0, []);
+/// files.push("a", Flags(0o644), 1_700_000_000, 0, []);
+/// files.push("b", Flags(0o644), 1_700_000_000, 0, []);
 /// let table = Table::new(files.as_bytes())?;
 /// assert_eq!(table.len(), 2);
 /// # Ok::<(), fordtrumpet::Refusal>(())
@@ -112,9 +114,9 @@ impl<'a> Table<'a> {
     /// ```
     /// # use fordtrumpet::*;
     /// # let mut files = FilesBuilder::new();
-    /// # files.push(b"a", Flags(0o644), 1_700_000_000, 0, []);
+    /// # files.push("a", Flags(0o644), 1_700_000_000, 0, []);
     /// # let table = Table::new(files.as_bytes()).unwrap();
-    /// assert_eq!(table.get(0).unwrap().name, b"a");
+    /// assert_eq!(table.get(0).unwrap().name, "a");
     /// assert!(table.get(1).is_none());
     /// ```
     pub fn get(&self, number: usize) -> Option<FileInfo<'a>> {
@@ -126,18 +128,19 @@ impl<'a> Table<'a> {
     /// ```
     /// # use fordtrumpet::*;
     /// # let mut files = FilesBuilder::new();
-    /// # files.push(b"a", Flags(0o644), 1_700_000_000, 0, []);
-    /// # files.push(b"b", Flags(0o644), 1_700_000_000, 7, []);
+    /// # files.push("a", Flags(0o644), 1_700_000_000, 0, []);
+    /// # files.push("b", Flags(0o644), 1_700_000_000, 7, []);
     /// # let table = Table::new(files.as_bytes()).unwrap();
-    /// let (number, file) = table.find(b"b").unwrap();
+    /// let (number, file) = table.find("b").unwrap();
     /// assert_eq!((number, file.version), (1, 7));
-    /// assert!(table.find(b"c").is_none());
+    /// assert!(table.find("c").is_none());
     /// ```
-    pub fn find(&self, name: &[u8]) -> Option<(usize, FileInfo<'a>)> {
+    pub fn find(&self, name: impl AsRef<[u8]>) -> Option<(usize, FileInfo<'a>)> {
+        let name = name.as_ref();
         // Names rise, so those that are greater needn't be looked at.
         self.iter()
-            .take_while(|(_, file)| file.name <= name)
-            .find(|(_, file)| file.name == name)
+            .take_while(|(_, file)| file.name.as_bytes() <= name)
+            .find(|(_, file)| file.name.as_bytes() == name)
     }
 
     /// Goes through the records, names rising, each with its number.
@@ -145,10 +148,10 @@ impl<'a> Table<'a> {
     /// ```
     /// # use fordtrumpet::*;
     /// # let mut files = FilesBuilder::new();
-    /// # files.push(b"a", Flags(0o644), 1_700_000_000, 0, []);
+    /// # files.push("a", Flags(0o644), 1_700_000_000, 0, []);
     /// # let table = Table::new(files.as_bytes()).unwrap();
     /// for (number, file) in table {
-    ///     println!("{number}: {}", file.name.escape_ascii());
+    ///     println!("{number}: {}", file.name.escape_debug());
     /// }
     /// ```
     pub fn iter(&self) -> Enumerate<FilesIter<'a>> {
@@ -219,10 +222,10 @@ impl<'a> IntoIterator for &Table<'a> {
 /// use fordtrumpet::{FilesBuilder, Flags, TableBuf};
 ///
 /// let mut files = FilesBuilder::new();
-/// files.push(b"b", Flags(0o644), 1_700_000_000, 0, []);
-/// files.push(b"a", Flags(0o644), 1_700_000_000, 0, []);
+/// files.push("b", Flags(0o644), 1_700_000_000, 0, []);
+/// files.push("a", Flags(0o644), 1_700_000_000, 0, []);
 /// let table = TableBuf::from_files(&files)?;
-/// assert!(table.as_table().files().iter().map(|file| file.name).eq([b"a", b"b"]));
+/// assert!(table.as_table().files().iter().map(|file| file.name).eq(["a", "b"]));
 /// # Ok::<(), fordtrumpet::TableError>(())
 /// ```
 #[derive(Clone, PartialEq, Eq)]
@@ -270,9 +273,9 @@ impl TableBuf {
     /// use fordtrumpet::{FilesBuilder, Flags, TableBuf, TableError};
     ///
     /// let mut files = FilesBuilder::new();
-    /// files.push(b"a", Flags(0o644), 1_700_000_000, 0, []);
-    /// files.push(b"a", Flags(0o644), 1_700_000_001, 0, []);
-    /// assert_eq!(TableBuf::from_files(&files), Err(TableError::RepeatedName(b"a".to_vec())));
+    /// files.push("a", Flags(0o644), 1_700_000_000, 0, []);
+    /// files.push("a", Flags(0o644), 1_700_000_001, 0, []);
+    /// assert_eq!(TableBuf::from_files(&files), Err(TableError::RepeatedName("a".to_string())));
     /// ```
     pub fn from_files(files: &FilesBuilder) -> Result<Self, TableError> {
         let mut records: Vec<_> = files.records().collect();
@@ -282,7 +285,7 @@ impl TableBuf {
         records.sort_by_key(|record| name_of(record));
         for pair in records.windows(2) {
             if name_of(pair[0]) == name_of(pair[1]) {
-                return Err(TableError::RepeatedName(name_of(pair[0]).to_vec()));
+                return Err(TableError::RepeatedName(name_of(pair[0]).into()));
             }
         }
         if records.len() > MAX_RECORDS {
@@ -320,7 +323,7 @@ fn check(record: &[u8]) -> Result<(), Refusal> {
     // An Index with this record alone, which needs more room than none: all else comes first.
     let mut array = vec![0, 0, 0, 1];
     array.extend_from_slice(record);
-    match crate::write_index(0, b"", &array, &mut []) {
+    match crate::write_index(0, "", &array, &mut []) {
         Ok(_) | Err(Refusal::NoRoom) => Ok(()),
         // Before the record there are the header, the empty Repository and the count.
         Err(refusal) => Err(Refusal::new(refusal.number(), refusal.place() - 12)),
@@ -328,9 +331,9 @@ fn check(record: &[u8]) -> Result<(), Refusal> {
 }
 
 /// The name of a record whose reading was accepted.
-fn name_of(record: &[u8]) -> &[u8] {
+fn name_of(record: &[u8]) -> &str {
     let length = record.first_chunk().expect("it begins with a length word");
-    &record[4..][..u32::from_be_bytes(*length) as usize]
+    text_of(&record[4..][..u32::from_be_bytes(*length) as usize])
 }
 
 /// The empty table.
@@ -366,7 +369,7 @@ impl<'a> From<&'a TableBuf> for Table<'a> {
 /// use fordtrumpet::{FilesBuilder, Flags, TableBuf};
 ///
 /// let mut files = FilesBuilder::new();
-/// files.push(b"", Flags(0o644), 1_700_000_000, 0, []);
+/// files.push("", Flags(0o644), 1_700_000_000, 0, []);
 /// let error = TableBuf::from_files(&files).unwrap_err();
 /// assert_eq!(error.to_string(), "file 0: the Name is empty (8), at byte 0");
 /// ```
@@ -378,7 +381,7 @@ pub enum TableError {
     /// They take more than 65,536 bytes: so many.
     TooManyBytes(usize),
     /// A name stands twice.
-    RepeatedName(Vec<u8>),
+    RepeatedName(String),
     /// A field is at fault.
     Field {
         /// The number of the file, in the order in which they were given.
@@ -395,9 +398,7 @@ impl fmt::Display for TableError {
                 write!(f, "{count} files, more than {MAX_RECORDS}")
             }
             TableError::TooManyBytes(bytes) => write!(f, "{bytes} bytes, more than {MAX_TABLE}"),
-            TableError::RepeatedName(name) => {
-                write!(f, "the name {} stands twice", name.escape_ascii())
-            }
+            TableError::RepeatedName(name) => write!(f, "the name {name:?} stands twice"),
             TableError::Field { number, refusal } => write!(f, "file {number}: {refusal}"),
         }
     }
@@ -427,9 +428,9 @@ impl From<TableError> for std::io::Error {
 /// use fordtrumpet::{merge, FilesBuilder, Flags, Table};
 ///
 /// let (mut ours, mut theirs) = (FilesBuilder::new(), FilesBuilder::new());
-/// ours.push(b"a", Flags(0o644), 1_700_000_000, 0, []);
-/// theirs.push(b"a", Flags(0o644), 1_700_000_000, 1, []);
-/// theirs.push(b"b", Flags(0o644), 1_700_000_000, 0, []);
+/// ours.push("a", Flags(0o644), 1_700_000_000, 0, []);
+/// theirs.push("a", Flags(0o644), 1_700_000_000, 1, []);
+/// theirs.push("b", Flags(0o644), 1_700_000_000, 0, []);
 /// let (ours, theirs) = (Table::new(ours.as_bytes())?, Table::new(theirs.as_bytes())?);
 /// let mut out = [0; 100];
 /// assert_eq!(merge(ours, theirs, &mut out)?, theirs);
@@ -456,19 +457,19 @@ pub fn merge<'o>(a: Table<'_>, b: Table<'_>, out: &'o mut [u8]) -> Result<Table<
 /// use fordtrumpet::{accept, write_index_update, FilesBuilder, Flags, Table};
 ///
 /// let (mut old, mut sent) = (FilesBuilder::new(), FilesBuilder::new());
-/// old.push(b"a", Flags(0o644), 1_700_000_000, 0, []);
-/// sent.push(b"b", Flags(0o644), 1_700_000_000, 0, []);
+/// old.push("a", Flags(0o644), 1_700_000_000, 0, []);
+/// sent.push("b", Flags(0o644), 1_700_000_000, 0, []);
 /// let (mut message, mut out) = ([0; 100], [0; 100]);
-/// let length = write_index_update(0, b"default", sent.as_bytes(), &mut message)?;
+/// let length = write_index_update(0, "default", sent.as_bytes(), &mut message)?;
 /// let old = Table::new(old.as_bytes())?;
-/// let table = accept(old, &message[..length], b"default", &mut out)?;
-/// assert!(table.files().iter().map(|file| file.name).eq([b"a", b"b"]));
+/// let table = accept(old, &message[..length], "default", &mut out)?;
+/// assert!(table.files().iter().map(|file| file.name).eq(["a", "b"]));
 /// # Ok::<(), fordtrumpet::Refusal>(())
 /// ```
 pub fn accept<'o>(
     old: Table<'_>,
     message: &[u8],
-    repository: &[u8],
+    repository: impl AsRef<[u8]>,
     out: &'o mut [u8],
 ) -> Result<Table<'o>, Refusal> {
     let length = raw::accept(old.as_bytes(), message, repository, out)?;
@@ -486,7 +487,7 @@ pub fn accept<'o>(
 ///
 /// let record = |modified, version| {
 ///     let mut files = FilesBuilder::new();
-///     files.push(b"a", Flags(0o644), modified, version, []);
+///     files.push("a", Flags(0o644), modified, version, []);
 ///     files
 /// };
 /// let (first, second) = (record(0, 0), record(-1, 9));

@@ -12,14 +12,14 @@ use crate::{ffi, FileInfo, Refusal};
 /// use fordtrumpet::{FilesBuilder, Flags};
 ///
 /// let mut files = FilesBuilder::new();
-/// files.push(b"a", Flags(0o644), 1_700_000_000, 0, []);
-/// files.push(b"b", Flags(0o644), 1_700_000_000, 0, []);
+/// files.push("a", Flags(0o644), 1_700_000_000, 0, []);
+/// files.push("b", Flags(0o644), 1_700_000_000, 0, []);
 /// let mut walker = Walker::open(files.as_bytes());
 /// let mut names = Vec::new();
 /// while let Some(file) = walker.step()? {
 ///     names.push(file.name);
 /// }
-/// assert_eq!(names, [b"a", b"b"]);
+/// assert_eq!(names, ["a", "b"]);
 /// # Ok::<(), fordtrumpet::Refusal>(())
 /// ```
 #[derive(Clone, Copy, Debug)]
@@ -64,6 +64,7 @@ impl<'a> Walker<'a> {
         if answer[0] == 0 {
             return Ok(None);
         }
+        // The step has checked the whole table and found the record to be one of it.
         let file = FileInfo::new(table, self.at, answer);
         self.at += file.as_bytes().len();
         Ok(Some(file))

@@ -206,9 +206,9 @@ impl FusedIterator for RequestListIter<'_> {}
 ///
 /// let (first, second) = ([1; 32], [2; 32]);
 /// let (mut local, mut peer) = (FilesBuilder::new(), FilesBuilder::new());
-/// local.push(b"a", Flags(0), 0, 0, [Block { length: 131_072, hash: &first }]);
+/// local.push("a", Flags(0), 0, 0, [Block { length: 131_072, hash: &first }]);
 /// let blocks = [Block { length: 131_072, hash: &first }, Block { length: 5, hash: &second }];
-/// peer.push(b"b", Flags(0), 0, 0, blocks);
+/// peer.push("b", Flags(0), 0, 0, blocks);
 ///
 /// let (local, peer) = (Table::new(local.as_bytes())?, Table::new(peer.as_bytes())?);
 /// let mut out = [0; 1000];
@@ -234,8 +234,8 @@ pub fn request_list<'o>(
 ///
 /// let hash = [7; 32];
 /// let mut table = FilesBuilder::new();
-/// table.push(b"a", Flags(0), 0, 0, []);
-/// table.push(b"b", Flags(0), 0, 0, [Block { length: 9, hash: &hash }]);
+/// table.push("a", Flags(0), 0, 0, []);
+/// table.push("b", Flags(0), 0, 0, [Block { length: 9, hash: &hash }]);
 /// let table = Table::new(table.as_bytes())?;
 /// assert_eq!(find_local(table, 9, &hash), Some((1, 0)));
 /// assert_eq!(find_local(table, 8, &hash), None);

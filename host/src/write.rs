@@ -20,18 +20,19 @@ use crate::{ffi, Refusal};
 /// use fordtrumpet::{write_index, FilesBuilder, Flags};
 ///
 /// let mut files = FilesBuilder::new();
-/// files.push(b"notes.txt", Flags(0o644), 1_700_000_000, 0, []);
+/// files.push("notes.txt", Flags(0o644), 1_700_000_000, 0, []);
 /// let mut out = [0; 100];
-/// let length = write_index(0, b"default", files.as_bytes(), &mut out)?;
+/// let length = write_index(0, "default", files.as_bytes(), &mut out)?;
 /// assert_eq!(length, 56);
 /// # Ok::<(), fordtrumpet::Refusal>(())
 /// ```
 pub fn write_index(
     id: u32,
-    repository: &[u8],
+    repository: impl AsRef<[u8]>,
     files: &[u8],
     out: &mut [u8],
 ) -> Result<usize, Refusal> {
+    let repository = repository.as_ref();
     let mut answer = [0];
     // SAFETY: each pointer and length are those of one slice, `out` is borrowed for this call alone,
     // and the answer has the size asked for. The same holds for the other writers.
@@ -62,18 +63,19 @@ pub fn write_index(
 /// use fordtrumpet::{write_index_update, FilesBuilder, Flags};
 ///
 /// let mut files = FilesBuilder::new();
-/// files.push(b"notes.txt", Flags::DELETED, 1_700_000_000, 1, []);
+/// files.push("notes.txt", Flags::DELETED, 1_700_000_000, 1, []);
 /// let mut out = [0; 100];
-/// let length = write_index_update(1, b"default", files.as_bytes(), &mut out)?;
+/// let length = write_index_update(1, "default", files.as_bytes(), &mut out)?;
 /// assert_eq!(length, 56);
 /// # Ok::<(), fordtrumpet::Refusal>(())
 /// ```
 pub fn write_index_update(
     id: u32,
-    repository: &[u8],
+    repository: impl AsRef<[u8]>,
     files: &[u8],
     out: &mut [u8],
 ) -> Result<usize, Refusal> {
+    let repository = repository.as_ref();
     let mut answer = [0];
     // SAFETY: as in `write_index`.
     let number = unsafe {
@@ -101,25 +103,31 @@ pub fn write_index_update(
 /// for a hash that hasn't 32 bytes); then 14 if `out` is too short. Nothing is written then.
 ///
 /// ```
-/// use fordtrumpet::write_request;
+/// use fordtrumpet::{write_request, Refusal};
 ///
 /// let mut out = [0; 380];
-/// let length = write_request(7, b"default", b"notes.txt", 0, 5, &[0xAB; 32], &mut out)?;
+/// let length = write_request(7, "default", "notes.txt", 0, 5, &[0xAB; 32], &mut out)?;
 /// assert_eq!(length, 80);
 ///
-/// let refusal = write_request(7, b"default", b"", 0, 5, &[0xAB; 32], &mut out).unwrap_err();
+/// let refusal = write_request(7, "default", "", 0, 5, &[0xAB; 32], &mut out).unwrap_err();
 /// assert_eq!((refusal.number(), refusal.place()), (8, 16));
+///
+/// // A slash in another spelling isn't UTF-8.
+/// let name = b"notes\xC0\xAFa.txt";
+/// let written = write_request(7, "default", name, 0, 5, &[0xAB; 32], &mut out);
+/// assert_eq!(written, Err(Refusal::Text(16)));
 /// # Ok::<(), fordtrumpet::Refusal>(())
 /// ```
 pub fn write_request(
     id: u32,
-    repository: &[u8],
-    name: &[u8],
+    repository: impl AsRef<[u8]>,
+    name: impl AsRef<[u8]>,
     offset: u64,
     length: u32,
     hash: &[u8; 32],
     out: &mut [u8],
 ) -> Result<usize, Refusal> {
+    let (repository, name) = (repository.as_ref(), name.as_ref());
     let mut answer = [0];
     // SAFETY: as in `write_index`.
     let number = unsafe {
@@ -229,7 +237,7 @@ pub fn write_pong(id: u32, out: &mut [u8]) -> Result<usize, Refusal> {
 /// use fordtrumpet::{write_options, OptionsBuilder};
 ///
 /// let mut options = OptionsBuilder::new();
-/// options.push(b"clientId", b"fordtrumpet");
+/// options.push("clientId", "fordtrumpet");
 /// let mut out = [0; 100];
 /// let length = write_options(0, options.as_bytes(), &mut out)?;
 /// assert_eq!(length, 36);

@@ -155,16 +155,19 @@ fn text() {
     for lead in 0..=255 {
         let followers = match lead {
             0x00..=0x7F => Some(0),
-            0xC0..=0xDF => Some(1),
+            0xC2..=0xDF => Some(1),
             0xE0..=0xEF => Some(2),
-            0xF0..=0xF7 => Some(3),
+            0xF0..=0xF4 => Some(3),
             _ => None,
         };
         for count in 0..=4 {
             for follower in [0x80, 0xBF] {
                 let mut text = vec![lead];
                 text.resize(1 + count, follower);
-                assert_eq!(read(&text), followers == Some(count), "{text:x?}");
+                let narrowed =
+                    matches!((lead, follower), (0xE0 | 0xF0, 0x80) | (0xED | 0xF4, 0xBF));
+                let passes = followers == Some(count) && !narrowed;
+                assert_eq!(read(&text), passes, "{text:x?}");
             }
         }
     }
@@ -173,10 +176,12 @@ fn text() {
         assert!(!read(&[0xE3, 0x80, byte]));
         assert!(!read(&[0xF3, 0x80, 0x80, byte]));
     }
-    // Overlong forms, surrogates and what lies above Unicode pass.
-    assert!(read(b"\xC0\xAF"));
-    assert!(read(b"\xED\xA0\x80"));
-    assert!(read(b"\xF7\xBF\xBF\xBF"));
+    // Overlong forms, surrogates and what lies above Unicode don't pass; what stands beside them does.
+    assert!(!read(b"\xC0\xAF"));
+    assert!(!read(b"\xE0\x9F\xBF") && read(b"\xE0\xA0\x80"));
+    assert!(read(b"\xED\x9F\xBF") && !read(b"\xED\xA0\x80"));
+    assert!(!read(b"\xF0\x8F\xBF\xBF") && read(b"\xF0\x90\x80\x80"));
+    assert!(read(b"\xF4\x8F\xBF\xBF") && !read(b"\xF4\x90\x80\x80"));
     assert!(read(b"\0"));
 }
 

@@ -11,9 +11,11 @@ use fordtrumpet::{
     MAX_TABLE_INDEX,
 };
 use std::collections::BTreeMap;
+use std::ffi::OsStr;
 use std::fs::{self, File, Permissions};
 use std::io::{self, Read, Write};
 use std::net::{Ipv4Addr, TcpListener, TcpStream};
+use std::os::unix::ffi::OsStrExt;
 use std::os::unix::fs::{symlink, MetadataExt, PermissionsExt};
 use std::path::{Path, PathBuf};
 use std::thread;
@@ -220,6 +222,11 @@ fn a_folder_that_makes_no_table_is_told_by_name() {
     let none = first.join("none");
     let error = copy(&first, &none).unwrap_err();
     assert!(error.to_string().contains(&*none.to_string_lossy()));
+    let path = second.join(OsStr::from_bytes(b"a\xC0\xAFb"));
+    fs::write(&path, b"").unwrap();
+    let error = copy(&first, &second).unwrap_err();
+    let why = format!("{}: a string isn't UTF-8 (7), at byte 0", path.display());
+    assert_eq!(error.to_string(), why);
 }
 
 /// A device with this folder, and our end of its link.
@@ -242,7 +249,7 @@ fn send_index(stream: &mut TcpStream, files: &FilesBuilder) {
 }
 
 /// Answers each Request with these bytes until the second Index comes; gives the names asked for.
-fn answer_all(stream: &mut TcpStream, data: &[u8]) -> Vec<Vec<u8>> {
+fn answer_all(stream: &mut TcpStream, data: &[u8]) -> Vec<String> {
     let (mut buffer, mut names, mut indexes) = (Vec::new(), Vec::new(), 0);
     let mut out = vec![0; 200_000];
     while indexes < 2 {
@@ -250,7 +257,7 @@ fn answer_all(stream: &mut TcpStream, data: &[u8]) -> Vec<Vec<u8>> {
         match read(&message).unwrap().message {
             Message::Index(_) => indexes += 1,
             Message::Request(request) => {
-                names.push(request.name.to_vec());
+                names.push(request.name.to_string());
                 let length = write_response(request.id, data, &mut out).unwrap();
                 stream.write_all(&out[..length]).unwrap();
             }
@@ -269,16 +276,16 @@ fn names_that_lead_out_of_the_folder_are_not_written() {
     let absolute = above.join("absolute");
     let data = b"hello";
     let hash = example::sha256::sha256(data);
-    let bad: [&[u8]; 9] = [
-        b"../x",
-        b"..",
-        b"a/../../x",
-        b"a//x",
-        b"a/",
-        b"zero\0x",
-        b".copy-partial/x",
-        b"link/x",
-        absolute.as_os_str().as_encoded_bytes(),
+    let bad = [
+        "../x",
+        "..",
+        "a/../../x",
+        "a//x",
+        "a/",
+        "zero\0x",
+        ".copy-partial/x",
+        "link/x",
+        absolute.to_str().unwrap(),
     ];
     // With data of their own, and without: an empty file takes no Request.
     for blocks in [
@@ -318,9 +325,7 @@ fn names_that_lead_out_of_the_folder_are_not_written() {
         assert_eq!(report.left.len(), bad.len());
         // A link is found when the file gets its name; all others before anything is asked for.
         assert!(
-            asked
-                .iter()
-                .all(|name| name == b"good" || name == b"link/x"),
+            asked.iter().all(|name| name == "good" || name == "link/x"),
             "{asked:?}"
         );
         let files = contents(&above);
@@ -385,6 +390,19 @@ fn a_peer_that_goes_away_or_talks_nonsense_ends_the_exchange() {
     stream.write_all(&[0, 0, 8, 0]).unwrap();
     let error = nonsense.join().unwrap().unwrap_err();
     assert_eq!(error.kind(), io::ErrorKind::InvalidData);
+    assert!(contents(&folder).is_empty());
+
+    // A name with its slash in another spelling.
+    let mut files = FilesBuilder::new();
+    files.push("notes||a.txt", Flags(0o644), 1_700_000_000, 0, []);
+    let mut index = [0; 200];
+    let length = write_index(0, "default", files.as_bytes(), &mut index).unwrap();
+    let slash = index.iter().position(|&byte| byte == b'|').unwrap();
+    index[slash..][..2].copy_from_slice(b"\xC0\xAF");
+    let (nonsense, mut stream) = device(folder.clone());
+    stream.write_all(&index[..length]).unwrap();
+    let error = nonsense.join().unwrap().unwrap_err();
+    assert_eq!(error.to_string(), "a string isn't UTF-8 (7), at byte 20");
     assert!(contents(&folder).is_empty());
 
     // A Response that nobody asked for.
@@ -472,7 +490,7 @@ fn a_message_longer_than_any_of_use_is_refused_before_it_has_come() {
     let mut files = FilesBuilder::new();
     for name in 0..10u8 {
         files.push(
-            &[b'a' + name],
+            [b'a' + name],
             Flags(0),
             0,
             0,

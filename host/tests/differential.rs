@@ -15,6 +15,7 @@ use support::encode::{Block, Encoding, File};
 use support::generate;
 use support::library::{Library, LIBRARY};
 use support::random::Random;
+use support::text::was_text;
 
 const INPUTS: u64 = 200_000;
 const SEED: u64 = 0xF04D_7E57_0000_0000;
@@ -237,7 +238,7 @@ fn arrays_damaged_anywhere_are_written_alike() {
         bytes.extend_from_slice(b"after");
         compare(&bytes);
         for at in 0..whole.bytes.len() {
-            for value in [0, 1, 0x1F, 0x21, 0x40, 0x7F, 0x80, 0xC0, 0xFF] {
+            for value in [0, 1, 0x1F, 0x21, 0x40, 0x7F, 0x80, 0xC0, 0xE0, 0xF5, 0xFF] {
                 bytes[at] = value;
                 compare(&bytes);
             }
@@ -317,13 +318,13 @@ fn a_difference_is_found() {
         ..LIBRARY
     }));
     assert!(is_found(Library {
-        // The text rule is that of UTF-8.
+        // The text rule is the one before RFC 3629.
         read: |input| match (LIBRARY.read)(input) {
-            (0, answer) if answer[1] == 1 => {
-                let repository = &input[answer[3] as usize..][..answer[4] as usize];
-                match std::str::from_utf8(repository) {
-                    Ok(_) => (0, answer),
-                    Err(_) => (7, [4, 0, 0, 0, 0, 0, 0, 0, 0, 0, 0]),
+            (7, answer) => {
+                let (len, rest) = input[answer[0] as usize..].split_first_chunk().unwrap();
+                match was_text(&rest[..u32::from_be_bytes(*len) as usize]) {
+                    true => (0, answer),
+                    false => (7, answer),
                 }
             }
             answer => answer,

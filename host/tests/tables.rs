@@ -443,6 +443,6 @@ fn the_tables_are_what_they_seem() {
     assert!(read
         .files()
         .iter()
-        .map(|file| file.name.to_vec())
-        .eq(files.iter().map(|file| file.name.clone())));
+        .map(|file| file.name.as_bytes())
+        .eq(files.iter().map(|file| &file.name[..])));
 }

@@ -17,3 +17,4 @@ pub mod RoundTrips
 pub mod Elements
 pub mod Arrived
 pub mod SampleArrived
+pub mod Strings

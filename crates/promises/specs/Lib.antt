@@ -12,3 +12,4 @@ pub mod Accepting
 pub mod RoundTrips
 pub mod Elements
 pub mod Arrived
+pub mod Strings

@@ -12,7 +12,9 @@ pub mod Parts
 pub mod Strings
 pub mod Answered
 pub mod TopBits
+pub mod LeadLaws
 pub mod TextRule
+pub mod Utf8Laws
 pub mod EncodedBytes
 pub mod EncodedSize
 pub mod Corollaries

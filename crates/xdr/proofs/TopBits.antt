@@ -1,9 +1,10 @@
 -- Four bytes at once: where no top bit is set in the word that they make, each is at most 127.
-use Prim.Native.Nat.{ℕ, _+_, _*_, _-_, _≤_, _<_}
+use Prim.Native.Nat.{ℕ, _+_, _*_, _-_, _/_, _%_, _≤_, _<_, min, max}
 use mathlib.Core.Path.{_≡_, sym, ap, _∙_}
 use native.Mathlib.Omega.{arith}
 use native.Mathlib.Decide.{decLe}
-use lib.Bits.{bitAnd, and-block, and-zero-r}
+use lib.Arith.{bin-ind}
+use lib.Bits.{bitAnd, bitOr, and-block, and-zero-r, and-step, or-step, or-shr}
 
 -- the top bit of a byte
 top-bit : (x : ℕ) → x < 256 → bitAnd x 128 ≡ 0 → x ≤ 127
@@ -31,3 +32,17 @@ four-top-bits a b c d p q r s e =
       top-bit c r (omega (arith, low, middle, high, whole)),
       top-bit d s (omega (arith, low, middle, high, whole)),
     )
+
+-- what has none of some bits, put together from two numbers, has none in either
+pub neither : (m a b : ℕ) → bitAnd (bitOr a b) m ≡ 0 → (bitAnd a m ≡ 0) × (bitAnd b m ≡ 0)
+neither = bin-ind (λ (m : ℕ). (a b : ℕ) → bitAnd (bitOr a b) m ≡ 0 → (bitAnd a m ≡ 0) × (bitAnd b m ≡ 0)) (λ a b e. (and-zero-r a, and-zero-r b)) (λ m ih a b e.
+    let o = or-step a b in
+    let w = and-step (bitOr a b) m in
+    let half : bitOr a b / 2 ≡ bitOr (a / 2) (b / 2) = or-shr a b 1 in
+    let odd : bitOr a b % 2 ≡ max (a % 2) (b % 2) = omega (arith, o, half) in
+    let high : bitAnd (bitOr a b / 2) (m / 2) ≡ 0 = omega (arith, w, e) in
+    let low : min (bitOr a b % 2) (m % 2) ≡ 0 = omega (arith, w, e) in
+    let both = ih (a / 2) (b / 2) (ap (λ (n : ℕ). bitAnd n (m / 2)) (sym half) ∙ high) in
+    let p = and-step a m in
+    let q = and-step b m in
+    (omega (arith, p, both .0, low, odd), omega (arith, q, both .1, low, odd)))

@@ -2,6 +2,7 @@ pub mod Reading
 pub mod Number
 pub mod Pad
 pub mod Text
+pub mod Utf8
 pub mod Format
 pub mod Fields
 pub mod Buffer

@@ -1,11 +1,10 @@
 //! A folder on disk: its scan, its blocks, and the files that come into it. For Unix, where names are
-//! bytes.
+//! bytes; the scan fails at one that isn't UTF-8.
 
 use super::sha256::sha256;
 use fordtrumpet::{
     find_local, Block, FileInfo, FilesBuilder, Flags, Table, TableBuf, TableError, MAX_BLOCK,
 };
-use std::ffi::OsStr;
 use std::fs::{self, DirBuilder, File, OpenOptions, Permissions};
 use std::io::{self, ErrorKind, Read};
 use std::os::unix::ffi::OsStrExt;
@@ -33,10 +32,12 @@ pub struct Report {
 
 impl Report {
     /// Notes how it went with a file.
-    pub fn note(&mut self, name: &[u8], outcome: io::Result<()>) {
+    pub fn note(&mut self, name: &str, outcome: io::Result<()>) {
+        // For people, and a name may hold what a terminal would obey.
+        let shown = name.escape_debug();
         match outcome {
-            Ok(()) => self.copied.push(shown(name)),
-            Err(why) => self.left.push(format!("{}: {why}", shown(name))),
+            Ok(()) => self.copied.push(shown.collect()),
+            Err(why) => self.left.push(format!("{shown}: {why}")),
         }
     }
 }
@@ -102,9 +103,9 @@ impl Folder {
     }
 
     /// The bytes of a block of a file that a scan found.
-    pub fn block(&self, name: &[u8], offset: u64, length: u32) -> io::Result<Vec<u8>> {
+    pub fn block(&self, name: &str, offset: u64, length: u32) -> io::Result<Vec<u8>> {
         let mut data = vec![0; length as usize];
-        let file = File::open(self.root.join(OsStr::from_bytes(name)))?;
+        let file = File::open(self.root.join(name))?;
         file.read_exact_at(&mut data, offset)?;
         Ok(data)
     }
@@ -123,11 +124,11 @@ impl Folder {
             _ => {}
         }
         // Every name has a hash of its own, and none of its slashes.
-        let digits = sha256(new.name).map(|byte| format!("{byte:02x}"));
+        let digits = sha256(new.name.as_bytes()).map(|byte| format!("{byte:02x}"));
         let temporary = partial.join(digits.concat());
         File::create_new(&temporary)?;
         let file = Incoming {
-            name: new.name.to_vec(),
+            name: new.name.to_string(),
             fault: None,
             hashes: new.blocks.iter().map(|block| *block.hash).collect(),
             temporary,
@@ -182,11 +183,11 @@ impl Folder {
     }
 
     /// The path of a name, with its folders made. A link on the way could lead out of the folder.
-    fn make_parents(&self, name: &[u8]) -> io::Result<PathBuf> {
+    fn make_parents(&self, name: &str) -> io::Result<PathBuf> {
         let mut path = self.root.clone();
-        let mut parts = name.split(|&byte| byte == b'/').peekable();
+        let mut parts = name.split('/').peekable();
         while let Some(part) = parts.next() {
-            path.push(OsStr::from_bytes(part));
+            path.push(part);
             if parts.peek().is_some() {
                 match fs::symlink_metadata(&path) {
                     Ok(there) if there.is_dir() => {}
@@ -209,7 +210,7 @@ impl Drop for Folder {
 
 /// A file that isn't whole yet, under its temporary name.
 pub struct Incoming {
-    pub name: Vec<u8>,
+    pub name: String,
     /// Why it won't be whole.
     pub fault: Option<&'static str>,
     hashes: Vec<[u8; 32]>,
@@ -234,11 +235,11 @@ impl Incoming {
 }
 
 /// Whether a name stays in the folder. The library takes any text, `../x` and `/x` too.
-fn stays_inside(name: &[u8]) -> bool {
-    let mut parts = name.split(|&byte| byte == b'/');
-    !name.contains(&0)
-        && parts.clone().next() != Some(PARTIAL.as_bytes())
-        && parts.all(|part| !matches!(part, b"" | b"." | b".."))
+fn stays_inside(name: &str) -> bool {
+    let mut parts = name.split('/');
+    !name.contains('\0')
+        && parts.clone().next() != Some(PARTIAL)
+        && parts.all(|part| !matches!(part, "" | "." | ".."))
 }
 
 fn scan_file(path: &Path, name: &[u8], files: &mut FilesBuilder) -> io::Result<()> {
@@ -291,11 +292,6 @@ pub fn samples() -> io::Result<[PathBuf; 2]> {
     Ok(folders)
 }
 
-/// A name for people.
-fn shown(name: &[u8]) -> String {
-    String::from_utf8_lossy(name).escape_debug().collect()
-}
-
 fn fault(what: impl Into<Box<dyn std::error::Error + Send + Sync>>) -> io::Error {
     io::Error::new(ErrorKind::InvalidData, what)
 }
@@ -306,26 +302,20 @@ mod tests {
 
     #[test]
     fn names_that_lead_out_of_the_folder_are_told_from_others() {
-        let inside: [&[u8]; 5] = [
-            b"a",
-            b"a/b.txt",
-            b"...",
-            b"..a/b..",
-            "f\u{fc}r/\u{1f4c4}".as_bytes(),
-        ];
-        let outside: [&[u8]; 12] = [
-            b"..",
-            b"../x",
-            b"a/../../x",
-            b"a/..",
-            b".",
-            b"./x",
-            b"/x",
-            b"x/",
-            b"a//b",
-            b"",
-            b"a\0b",
-            b".copy-partial/x",
+        let inside = ["a", "a/b.txt", "...", "..a/b..", "f\u{fc}r/\u{1f4c4}"];
+        let outside = [
+            "..",
+            "../x",
+            "a/../../x",
+            "a/..",
+            ".",
+            "./x",
+            "/x",
+            "x/",
+            "a//b",
+            "",
+            "a\0b",
+            ".copy-partial/x",
         ];
         assert!(inside.into_iter().all(stays_inside));
         assert!(!outside.into_iter().any(stays_inside));

@@ -1,5 +1,6 @@
-//! Single fields: words, strings, opaques, hashes, and the text rule.
+//! Single fields: words, strings, opaques, hashes.
 
+use super::text::is_text;
 use super::{Refusal, Span, HASH_LEN};
 
 /// Reads field by field from the left.
@@ -133,26 +134,5 @@ impl<'a> Reader<'a> {
             len,
         };
         Ok((span, bytes))
-    }
-}
-
-/// The text rule: a run of sequences, each a lead byte and as many followers as it asks for.
-///
-/// It is wider than UTF-8: overlong forms and surrogates pass.
-pub fn is_text(bytes: &[u8]) -> bool {
-    // Nearly all names are ASCII, and that is checked many bytes at a time.
-    if bytes.is_ascii() {
-        return true;
-    }
-    let mut rest = bytes;
-    loop {
-        rest = match rest {
-            [] => return true,
-            [0x00..=0x7F, rest @ ..]
-            | [0xC0..=0xDF, 0x80..=0xBF, rest @ ..]
-            | [0xE0..=0xEF, 0x80..=0xBF, 0x80..=0xBF, rest @ ..]
-            | [0xF0..=0xF7, 0x80..=0xBF, 0x80..=0xBF, 0x80..=0xBF, rest @ ..] => rest,
-            _ => return false,
-        };
     }
 }

@@ -12,6 +12,7 @@ mod queue;
 mod read;
 mod records;
 mod table;
+mod text;
 mod want;
 mod write;
 
@@ -19,6 +20,7 @@ pub use queue::{Answered, Outcome, Queue, Request as Outstanding};
 pub use read::{read, Body, Message};
 pub use records::{file_at, file_or_missing, option_at, option_or_missing, File, KeyValue};
 pub use table::{accept, compare, is_good, merge, step, MAX_TABLE};
+pub use text::is_text;
 pub use want::{find_local, request_list, serve, Serving};
 pub use write::{
     write_index, write_index_update, write_options, write_ping, write_pong, write_request,
@@ -33,7 +35,7 @@ pub struct Refusal {
 }
 
 impl Refusal {
-    fn new(number: u32, place: usize) -> Self {
+    pub fn new(number: u32, place: usize) -> Self {
         Refusal { number, place }
     }
 }

@@ -3,7 +3,8 @@
 //! Each writer checks the ID, then the fields in the order a reader meets them, then the room. Only
 //! after that it writes, so a refusal leaves the buffer as it was.
 
-use super::fields::{is_text, Reader};
+use super::fields::Reader;
+use super::text::is_text;
 use super::{
     records, Refusal, HASH_LEN, INDEX, INDEX_UPDATE, MAX_DATA, MAX_ID, MAX_NAME, MAX_REPOSITORY,
     OPTIONS, PING, PONG, REQUEST, RESPONSE,

@@ -7,6 +7,7 @@ use crate::reference::{self, Body, Span, BLOCK_LEN};
 use fordtrumpet::{FilesBuilder, Message, OptionsBuilder};
 use std::collections::BTreeMap;
 use std::fmt::Debug;
+use std::str::from_utf8;
 
 /// An error says what differs.
 pub type Compared = Result<(), String>;
@@ -75,7 +76,7 @@ impl Comparison {
             self.calls += 1;
             let file = files.next().ok_or("a file is missing")?;
             same("files left", &files.len(), &left)?;
-            same("name", &file.name, &expected.name.of(array))?;
+            same("name", &Ok(file.name), &from_utf8(expected.name.of(array)))?;
             same("flags", &file.flags.0, &expected.flags)?;
             same("modified", &file.modified, &expected.modified)?;
             same("version", &file.version, &expected.version)?;
@@ -122,8 +123,9 @@ impl Comparison {
             self.calls += 1;
             let option = options.next().ok_or("an option is missing")?;
             same("options left", &options.len(), &left)?;
-            same("key", &option.key, &expected.key.of(array))?;
-            same("value", &option.value, &expected.value.of(array))?;
+            same("key", &Ok(option.key), &from_utf8(expected.key.of(array)))?;
+            let value = from_utf8(expected.value.of(array));
+            same("value", &Ok(option.value), &value)?;
             again.push(option.key, option.value);
             at = expected.end;
         }

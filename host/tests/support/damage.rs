@@ -4,6 +4,7 @@ use super::draft::{Body, Draft};
 use super::encode::{Encoding, Field, What};
 use super::generate;
 use super::random::Random;
+use super::text;
 
 /// Damages an encoding in one to three places.
 pub fn encoding(encoding: &mut Encoding, random: &mut Random) {
@@ -79,16 +80,7 @@ fn in_field(bytes: &mut [u8], what: What, random: &mut Random) {
             ];
             bytes.copy_from_slice(&random.pick(&near).to_be_bytes());
         }
-        What::Text => {
-            let edges = [
-                0x00, 0x7F, 0x80, 0xBF, 0xC0, 0xDF, 0xE0, 0xEF, 0xF0, 0xF7, 0xF8, 0xFF,
-            ];
-            // A lead byte at the end of the string lacks its followers.
-            let last = bytes.len() - 1;
-            let near_last = last.saturating_sub(random.below(4));
-            let at = random.pick(&[at, near_last]);
-            bytes[at] = random.pick(&edges);
-        }
+        What::Text => text::damage(bytes, random),
         What::Pad => bytes[at] = random.pick(&[1, 0x80, 0xFF]),
         What::Flags => {
             let word = u32::from_be_bytes(bytes.try_into().unwrap());
@@ -169,10 +161,10 @@ fn string(bytes: &mut Vec<u8>, limit: usize, random: &mut Random) {
     match random.below(4) {
         0 => bytes.resize(random.pick(&[limit, limit + 1, limit + 2, 4 * limit]), b'l'),
         1 => bytes.clear(),
-        2 => bytes.push(random.pick(&[0x80, 0xBF, 0xC0, 0xEF, 0xF7, 0xF8, 0xFF])),
+        2 => bytes.push(random.pick(&[0x80, 0xBF, 0xC0, 0xC2, 0xEF, 0xF4, 0xF5, 0xFF])),
         _ => match bytes.is_empty() {
             true => bytes.push(0xFF),
-            false => in_field(bytes, What::Text, random),
+            false => text::damage(bytes, random),
         },
     }
 }

@@ -3,6 +3,7 @@
 use super::draft::{Body, Draft};
 use super::encode::{Block, Encoding, File};
 use super::random::Random;
+use super::text::character;
 
 /// A message that keeps all rules. Most are short; limits are met now and then.
 pub fn draft(random: &mut Random) -> Draft {
@@ -148,7 +149,7 @@ fn name(random: &mut Random) -> Vec<u8> {
     }
 }
 
-/// A string of at most `limit` bytes that follows the text rule, in UTF-8 or not.
+/// A string of at most `limit` bytes that follows the text rule, in ASCII or with other characters.
 pub fn text(random: &mut Random, limit: usize) -> Vec<u8> {
     let len = match random.below(16) {
         0 => random.pick(&[limit, limit - 1, limit - 2, limit - 3]),
@@ -156,25 +157,14 @@ pub fn text(random: &mut Random, limit: usize) -> Vec<u8> {
         _ => random.below(10),
     };
     let plain = random.once_in(2);
-    let mut text = Vec::with_capacity(len);
+    let mut text = String::with_capacity(len);
     while text.len() < len {
-        let room = len - text.len() - 1;
-        let (lead, followers) = match random.below(8) {
-            1 => (random.pick(&[0xC0, 0xC1, 0xC2, 0xDF]), 1),
-            2 => (random.pick(&[0xE0, 0xE2, 0xED, 0xEF]), 2),
-            3 => (random.pick(&[0xF0, 0xF4, 0xF5, 0xF7]), 3),
-            4 => (random.pick(&[0x00, 0x2F, 0x7F]), 0),
-            _ => (b'a' + random.below(26) as u8, 0),
-        };
-        if followers > 0 && (plain || followers > room) {
-            text.push(b'-');
-            continue;
-        }
-        text.push(lead);
-        for _ in 0..followers {
-            let any = 0x80 + random.below(0x40) as u8;
-            text.push(random.pick(&[0x80, 0xBF, any]));
+        let character = character(random);
+        let fits = character.len_utf8() <= len - text.len();
+        match character.is_ascii() || fits && !plain {
+            true => text.push(character),
+            false => text.push('-'),
         }
     }
-    text
+    text.into_bytes()
 }

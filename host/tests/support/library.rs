@@ -77,7 +77,7 @@ fn read_safely(input: &[u8]) -> Answer<11> {
     };
     let kind = match &message {
         Message::Index(index) | Message::IndexUpdate(index) => {
-            put(3, index.repository);
+            put(3, index.repository.as_bytes());
             put(5, index.files.as_bytes());
             answer[7] = index.files.len() as u64;
             match message {
@@ -86,8 +86,8 @@ fn read_safely(input: &[u8]) -> Answer<11> {
             }
         }
         Message::Request(request) => {
-            put(3, request.repository);
-            put(5, request.name);
+            put(3, request.repository.as_bytes());
+            put(5, request.name.as_bytes());
             put(9, request.hash);
             answer[7] = request.offset;
             answer[8] = u64::from(request.length);

@@ -4,6 +4,7 @@
 #![allow(dead_code, unused_imports)]
 
 pub mod alike;
+pub mod case_file;
 pub mod compare;
 pub mod damage;
 pub mod draft;
@@ -14,3 +15,4 @@ pub mod queue_calls;
 pub mod random;
 pub mod table_calls;
 pub mod tables;
+pub mod text;

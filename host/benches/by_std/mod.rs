@@ -1,0 +1,21 @@
+//! The reference's reading with the standard library's UTF-8 in place of its own text rule.
+
+// Not all of the reference's parts are used, and all are there a second time.
+#![allow(dead_code, clippy::duplicate_mod)]
+
+use crate::reference::*;
+
+#[path = "../../tests/reference/fields.rs"]
+mod fields;
+#[path = "../../tests/reference/read.rs"]
+mod read;
+#[path = "../../tests/reference/records.rs"]
+mod records;
+
+mod text {
+    pub fn is_text(bytes: &[u8]) -> bool {
+        std::str::from_utf8(bytes).is_ok()
+    }
+}
+
+pub use read::{read, Message};

@@ -1,0 +1,375 @@
+//! Runs the files in `cases/`, each case by the library and by the reference.
+
+mod reference;
+mod support;
+
+use std::fmt;
+use std::io::Write;
+use support::case_file::{bytes, cases, number, Case};
+use support::compare::read_words;
+use support::draft::{Body, Draft};
+use support::encode::Encoding;
+use support::library::{Answer as Words, LIBRARY};
+use support::table_calls::{expected, TABLE_CALLS};
+
+/// What a call answers.
+#[derive(Debug, PartialEq, Eq)]
+enum Answer {
+    Yes,
+    No,
+    Served,
+    /// A message's type, ID and number of bytes.
+    Read(u64, u64, u64),
+    /// What a lent buffer was filled with.
+    Filled(Vec<u8>),
+    /// A number and a place.
+    Refused(u32, u64),
+}
+
+/// In the words of the files.
+impl fmt::Display for Answer {
+    fn fmt(&self, f: &mut fmt::Formatter<'_>) -> fmt::Result {
+        match self {
+            Answer::Yes => f.write_str("yes"),
+            Answer::No => f.write_str("no"),
+            Answer::Served => f.write_str("served"),
+            Answer::Read(kind, id, end) => write!(f, "yes {kind} {id} {end}"),
+            Answer::Filled(bytes) => {
+                f.write_str("yes ")?;
+                bytes.iter().try_for_each(|byte| write!(f, "{byte:02x}"))
+            }
+            Answer::Refused(number, place) => write!(f, "no {number} {place}"),
+        }
+    }
+}
+
+/// The answer that a case asks for.
+fn answer(words: &[&str]) -> Result<Answer, String> {
+    Ok(match *words {
+        ["yes"] => Answer::Yes,
+        ["no"] => Answer::No,
+        ["served"] => Answer::Served,
+        ["yes", filled] => Answer::Filled(bytes(filled)?),
+        ["yes", kind, id, end] => Answer::Read(number(kind)?, number(id)?, number(end)?),
+        ["no", refusal, place] => Answer::Refused(number(refusal)?, number(place)?),
+        _ => return Err("no answer that is known".to_string()),
+    })
+}
+
+/// A call that is given three slices and a buffer.
+type OfThree = fn(&[u8], &[u8], &[u8], &mut [u8]) -> Words<1>;
+
+/// The calls of one side. One that fills a buffer gives the number of bytes, or number and place.
+struct Side {
+    name: &'static str,
+    read: fn(&[u8]) -> Words<11>,
+    write: fn(&Draft, &mut [u8]) -> Words<1>,
+    is_good: fn(&[u8]) -> bool,
+    merge: fn(&[u8], &[u8], &mut [u8]) -> Words<1>,
+    /// Old table, message, repository, buffer.
+    accept: OfThree,
+    list: fn([&[u8]; 5], &mut [u8]) -> Words<1>,
+    /// Table, repository, message, buffer. Where the Request is served it fills none.
+    serve: OfThree,
+}
+
+const SIDES: [Side; 2] = [
+    Side {
+        name: "library",
+        read: LIBRARY.read_safely,
+        write: LIBRARY.write,
+        is_good: TABLE_CALLS.is_good,
+        merge: TABLE_CALLS.merge,
+        accept: TABLE_CALLS.accept,
+        list: |[local, peers @ ..], out| match fordtrumpet::raw::request_list(local, peers, out) {
+            Ok(list) => (0, [list.as_bytes().len() as u64]),
+            Err(refusal) => (refusal.number(), [refusal.place() as u64]),
+        },
+        serve: |table, repository, message, out| match fordtrumpet::raw::serve(
+            table, repository, message, out,
+        ) {
+            Ok(fordtrumpet::Serving::Served { .. }) => (0, [0]),
+            Ok(fordtrumpet::Serving::Replied(len)) => (0, [len as u64]),
+            Err(refusal) => (refusal.number(), [refusal.place() as u64]),
+        },
+    },
+    Side {
+        name: "reference",
+        read: |input| read_words(&reference::read(input)),
+        write: |draft, out| expected(draft.write_with_reference(out)),
+        is_good: reference::is_good,
+        merge: |a, b, out| expected(reference::merge(a, b, out)),
+        accept: |old, message, repository, out| {
+            expected(reference::accept(old, message, repository, out))
+        },
+        list: |tables, out| expected(reference::request_list(tables, out)),
+        serve: |table, repository, message, out| {
+            let ruling = reference::serve(table, repository, message, out);
+            expected(ruling.map(|ruling| match ruling {
+                reference::Serving::Served { .. } => 0,
+                reference::Serving::Replied(len) => len,
+            }))
+        },
+    },
+];
+
+impl Side {
+    /// What a call answers.
+    fn run(&self, given: &[&str]) -> Result<Answer, String> {
+        match *given {
+            ["text", contents] => self.text(bytes(contents)?),
+            ["read", message] => Ok(self.read(&bytes(message)?)),
+            [call, id, ref fields @ .., room] if call.starts_with("write-") => {
+                let (id, body) = (number(id)?, body(call, fields)?);
+                self.write(&Draft { id, body }, number(room)?)
+            }
+            ["good", table] => self.good(&bytes(table)?),
+            ["merge", a, b, room] => {
+                let (a, b) = (bytes(a)?, bytes(b)?);
+                fill(number(room)?, |out| (self.merge)(&a, &b, out))
+            }
+            ["accept", old, message, repository, room] => {
+                let (old, message, repository) = (bytes(old)?, bytes(message)?, bytes(repository)?);
+                fill(number(room)?, |out| {
+                    (self.accept)(&old, &message, &repository, out)
+                })
+            }
+            ["list", ref tables @ .., room] if tables.len() == 5 => {
+                let tables: Result<Vec<_>, _> = tables.iter().map(|table| bytes(table)).collect();
+                let tables = tables?;
+                let tables = std::array::from_fn(|number| &tables[number][..]);
+                fill(number(room)?, |out| (self.list)(tables, out))
+            }
+            ["serve", table, repository, message, room] => {
+                let (table, repository) = (bytes(table)?, bytes(repository)?);
+                self.serve(&table, &repository, &bytes(message)?, number(room)?)
+            }
+            _ => Err("no call that is known".to_string()),
+        }
+    }
+
+    /// Whether a string may have these contents: as the Value of an option, read and written.
+    fn text(&self, contents: Vec<u8>) -> Result<Answer, String> {
+        let mut options = Encoding::new();
+        options.options(&[(Vec::new(), contents)]);
+        let body = Body::Options { options };
+        let draft = Draft { id: 0, body };
+        let message = draft.encode().bytes;
+        match (self.read(&message), self.write(&draft, message.len())?) {
+            (Answer::Read(..), Answer::Filled(_)) => Ok(Answer::Yes),
+            (Answer::Refused(7, 12), Answer::Refused(7, 12)) => Ok(Answer::No),
+            (read, written) => Err(format!("read {read}, written {written}")),
+        }
+    }
+
+    fn read(&self, message: &[u8]) -> Answer {
+        match (self.read)(message) {
+            (0, [end, kind, id, ..]) => Answer::Read(kind, id, end),
+            (number, [place, ..]) => Answer::Refused(number, place),
+        }
+    }
+
+    fn write(&self, draft: &Draft, room: usize) -> Result<Answer, String> {
+        fill(room, |out| (self.write)(draft, out))
+    }
+
+    fn serve(
+        &self,
+        table: &[u8],
+        repository: &[u8],
+        message: &[u8],
+        room: usize,
+    ) -> Result<Answer, String> {
+        let answer = fill(room, |out| (self.serve)(table, repository, message, out))?;
+        Ok(match answer {
+            Answer::Filled(reply) if reply.is_empty() => Answer::Served,
+            answer => answer,
+        })
+    }
+
+    /// Whether these bytes are a good table: no call that is given them as a table gives 15, or each.
+    fn good(&self, table: &[u8]) -> Result<Answer, String> {
+        const EMPTY: &[u8] = &[0; 4];
+        let room = 65_536;
+        let index = [0, 0, 1, 0, 0, 0, 0, 0, 0, 0, 0, 0];
+        let mut request = Encoding::new();
+        request.header(2, 0).string(b"", 64).string(b"n", 255);
+        request.offset(0).block_length(1).hash(&[0; 32]);
+        let mut answers = vec![
+            fill(room, |out| (self.merge)(table, EMPTY, out))?,
+            fill(room, |out| (self.merge)(EMPTY, table, out))?,
+            fill(room, |out| (self.accept)(table, &index, b"", out))?,
+            self.serve(table, b"", &request.bytes, room)?,
+        ];
+        for number in 0..5 {
+            let mut tables = [EMPTY; 5];
+            tables[number] = table;
+            answers.push(fill(room, |out| (self.list)(tables, out))?);
+        }
+        let refused = |answer: &&Answer| **answer == Answer::Refused(15, 0);
+        match (
+            (self.is_good)(table),
+            answers.iter().filter(refused).count(),
+        ) {
+            (true, 0) => Ok(Answer::Yes),
+            (false, 9) => Ok(Answer::No),
+            (good, refused) => Err(format!("{good}, and {refused} of 9 calls give 15")),
+        }
+    }
+}
+
+/// The fields of a writer, from the words between its ID and its room.
+fn body(call: &str, fields: &[&str]) -> Result<Body, String> {
+    let array = |word: &str| {
+        let mut array = Encoding::new();
+        array.bytes = bytes(word)?;
+        Ok::<_, String>(array)
+    };
+    Ok(match (call, fields) {
+        ("write-index" | "write-update", [repository, files]) => Body::Index {
+            update: call == "write-update",
+            repository: bytes(repository)?,
+            files: array(files)?,
+        },
+        ("write-request", [repository, name, offset, length, hash]) => Body::Request {
+            repository: bytes(repository)?,
+            name: bytes(name)?,
+            offset: number(offset)?,
+            length: number(length)?,
+            hash: bytes(hash)?,
+        },
+        ("write-response", [data]) => Body::Response { data: bytes(data)? },
+        ("write-options", [options]) => Body::Options {
+            options: array(options)?,
+        },
+        _ => return Err("no writer that is known".to_string()),
+    })
+}
+
+/// Lends a call a buffer of `room` bytes. What isn't filled, and where it refuses all of it, must stay
+/// as it was.
+fn fill(room: usize, call: impl FnOnce(&mut [u8]) -> Words<1>) -> Result<Answer, String> {
+    let mut out = vec![0xD7; room];
+    let (answer, rest) = match call(&mut out) {
+        (0, [len]) => {
+            let rest = out.split_off(len as usize);
+            (Answer::Filled(out), rest)
+        }
+        (number, [place]) => (Answer::Refused(number, place), out),
+    };
+    match rest.iter().all(|&byte| byte == 0xD7) {
+        true => Ok(answer),
+        false => Err(format!("{answer}, but other bytes have changed")),
+    }
+}
+
+/// Runs a case by both sides and gives whether they answer so, as they must unless it is open. An error
+/// names the line.
+fn run(case: &Case) -> Result<bool, String> {
+    let told = |why: String| format!("{}\n{why}", case.line);
+    let expected = answer(&case.answer).map_err(told)?;
+    for side in SIDES {
+        let answer = side.run(&case.given).map_err(told)?;
+        if answer != expected {
+            return match case.open {
+                true => Ok(false),
+                false => Err(told(format!("the {} answers: {answer}", side.name))),
+            };
+        }
+    }
+    Ok(true)
+}
+
+/// Runs a file and gives how many cases it has, and how many open ones got another answer; or an error
+/// for each that fails.
+fn run_file(file: &str) -> Result<(usize, usize), String> {
+    let (mut count, mut otherwise, mut failed) = (0, 0, Vec::new());
+    for case in cases(file) {
+        count += 1;
+        match case.and_then(|case| run(&case)) {
+            Ok(so) => otherwise += usize::from(!so),
+            Err(why) => failed.push(why),
+        }
+    }
+    match failed.is_empty() {
+        true => Ok((count, otherwise)),
+        false => Err(failed.join("\n")),
+    }
+}
+
+/// Runs a file and says so even when the test passes.
+#[track_caller]
+fn check_file(name: &str, file: &str) {
+    match run_file(file) {
+        Ok((count, otherwise)) => {
+            assert!(count > 0, "{name} has no cases");
+            let text = format!(
+                "{name}: {count} cases by library and reference, {otherwise} open ones otherwise"
+            );
+            let _ = writeln!(std::io::stderr(), "{text}");
+        }
+        Err(failed) => panic!("{name}:\n{failed}"),
+    }
+}
+
+#[test]
+fn utf8() {
+    check_file("utf8.txt", include_str!("cases/utf8.txt"));
+}
+
+#[test]
+fn a_line_that_is_not_understood_or_has_another_answer_is_told() {
+    assert_eq!(
+        run_file("# no case\n\ntext 61*3.c3a4 = yes # a comment\n"),
+        Ok((1, 0))
+    );
+    for line in [
+        "text 61",
+        "text 61 = yes = yes",
+        "text 61 61 = yes",
+        "test 61 = yes",
+        "text 6 = yes",
+        "text 6G = yes",
+        "text 6A = yes",
+        "text 61..61 = yes",
+        "text 6161*2 = yes",
+        "text 61*x = yes",
+        "text = yes",
+        "text 61 = maybe",
+        "text 61 =",
+        "write-index 0 72 00000000 = yes 00",
+        "write-ping 0 4 = yes 00000400",
+        "write-response x - 8 = yes 00000300.00000000",
+        // Understood, but the answer is another.
+        "text c0af = yes",
+        "read 00000400 = yes 4 0 5",
+        "read 00000400 = no 1 4",
+        "write-response 0 - 8 = yes 00000300.00000001",
+        "write-response 0 - 7 = yes 00000300.00000000",
+        "good 00000000 = no",
+        "serve 00000000 - 00000400 8 = no 18 4",
+    ] {
+        let file = format!("text 61 = yes\n{line}\ntext - = yes\n");
+        let told = run_file(&file).unwrap_err();
+        assert!(told.starts_with(&format!("{line}\n")), "{told}");
+    }
+    // Where another answer may be right too, it is no fault.
+    assert_eq!(run_file("text c0af = yes # open\n"), Ok((1, 1)));
+    assert!(run_file("text c0af = yes # opened\n").is_err());
+}
+
+#[test]
+fn a_byte_that_changes_though_it_may_not_is_found() {
+    let refused = |out: &mut [u8]| {
+        out[7] = 0;
+        (14, [0])
+    };
+    let filled = |out: &mut [u8]| {
+        out.fill(0);
+        (0, [7])
+    };
+    assert!(fill(8, refused).is_err());
+    assert!(fill(8, filled).is_err());
+    assert_eq!(fill(7, filled), Ok(Answer::Filled(vec![0; 7])));
+    assert_eq!(fill(8, |_| (14, [0])), Ok(Answer::Refused(14, 0)));
+}
