@@ -58,6 +58,10 @@ fn drafts() -> Vec<(&'static str, Draft)> {
             "Index, 512 files, names not ASCII",
             index(512, 0, "каталог/имя"),
         ),
+        (
+            "Index, 512 files, names of three parts",
+            index(512, 0, "clips/cam1/take"),
+        ),
         ("Response, 131,072 bytes", response(131_072)),
         ("Options, 64", options(64)),
     ]

@@ -16,7 +16,8 @@
  * many as it reports.
  *
  * Strings. A Repository, Name, Key or Value that was read is UTF-8 (RFC 3629). It has no zero byte
- * after it, and may have some inside.
+ * after it, and all but a Name may have some inside. A Name is a plain path below its folder: parts
+ * with single slashes between them, none of which is . or .. (else it is refused with 24).
  */
 #ifndef FORDTRUMPET_H
 #define FORDTRUMPET_H
@@ -42,8 +43,8 @@ extern "C" {
 #endif
 
 /*
- * The numbers. Each is given exactly when its check is the first to fail. Reading gives 1 to 12,
- * writing 1 and 5 to 12 and 14.
+ * The numbers. Each is given exactly when its check is the first to fail. Reading gives 1 to 12
+ * and 24, writing 1, 5 to 12, 14 and 24. The check for 24 is the one after that for 8.
  */
 enum {
     BEP_ACCEPTED = 0,
@@ -74,7 +75,7 @@ enum {
     BEP_REFUSED_DELETED_WITH_BLOCKS = 12,
     /* a name stands twice in the message (never in reading or writing) */
     BEP_REFUSED_REPEATED_NAME = 13,
-    /* the answer is longer than the lent buffer (the place is 0, as for all that follow) */
+    /* the answer is longer than the lent buffer (the place is 0, as for all up to 22) */
     BEP_REFUSED_NO_ROOM = 14,
     /* bytes given as a table aren't a good table */
     BEP_REFUSED_BAD_TABLE = 15,
@@ -91,7 +92,10 @@ enum {
     /* another Repository than the call names */
     BEP_REFUSED_OTHER_REPOSITORY = 21,
     /* window not 1 to 16, or the outstanding requests given aren't sound */
-    BEP_REFUSED_UNSOUND = 22
+    BEP_REFUSED_UNSOUND = 22,
+    /* the Name begins or ends with a slash, has two slashes together, a part that is exactly . or
+       .., or a zero byte (the place is that of the Name) */
+    BEP_REFUSED_UNSAFE_NAME = 24
 };
 
 /* What a number means, in a sentence for people. */
@@ -122,6 +126,7 @@ static inline const char *bep_refusal_text(uint32_t number)
     case BEP_REFUSED_NOT_OLDEST: return "the Response isn't to the oldest outstanding request";
     case BEP_REFUSED_OTHER_REPOSITORY: return "the message is for another Repository";
     case BEP_REFUSED_UNSOUND: return "the window isn't 1 to 16, or the queue isn't sound";
+    case BEP_REFUSED_UNSAFE_NAME: return "the Name isn't a plain path below its folder";
     default: return "unknown number";
     }
 }

@@ -9,8 +9,9 @@ use alloc::vec::Vec;
 /// Makes the encoded FileInfo array that [`write_index`](crate::write_index) and
 /// [`write_index_update`](crate::write_index_update) expect.
 ///
-/// Names, flags and counts are held to no rule here; the writers check them all. A length or count
-/// that doesn't fit in its word becomes the highest word, which the writers refuse (5).
+/// Names, flags and counts are held to no rule here; the writers check them all: a name such as `../a`
+/// is refused there (24). A length or count that doesn't fit in its word becomes the highest word, which
+/// the writers refuse (5).
 ///
 /// ```
 /// use fordtrumpet::{write_index, Block, FilesBuilder, Flags};

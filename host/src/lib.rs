@@ -18,6 +18,11 @@
 //! else, which is proved, so there is no second check. Where a call is given a string, `&str` and
 //! `&[u8]` will both do; the writers check it.
 //!
+//! A name is a plain path below its folder, such as `clips/cam1/take 1.mov`: it doesn't begin or end
+//! with a slash, and has no two slashes together, no part that is `.` or `..` and no zero byte. Messages
+//! with another name are refused with 24 ([`Refusal::UnsafeName`]), tables with 15. Symbolic links, case
+//! and names that an operating system keeps for itself are for the host to look at.
+//!
 //! # Buffers, stack and threads
 //!
 //! No call allocates but those of the types that own bytes ([`FilesBuilder`], [`OptionsBuilder`],

@@ -14,7 +14,8 @@ use core::fmt;
 ///
 /// # Errors
 ///
-/// The first check that fails, from the left: numbers 1 to 12.
+/// The first check that fails, from the left: numbers 1 to 12, and 24 for a name that isn't a plain path
+/// below its folder.
 ///
 /// ```
 /// use fordtrumpet::{read, Message};
@@ -175,7 +176,7 @@ pub struct Request<'a> {
     pub id: u32,
     /// The repository's name, up to 64 bytes.
     pub repository: &'a str,
-    /// The file's name, 1 to 255 bytes.
+    /// The file's name, 1 to 255 bytes: a plain path below its folder.
     pub name: &'a str,
     /// Where the block starts in the file.
     pub offset: u64,

@@ -142,9 +142,9 @@ impl RequestQueue {
     ///
     /// # Errors
     ///
-    /// What reading such a Request would give; 16 if the window is full; 17 if the bytes outstanding
-    /// and `length` exceed the allowance; 14 if `out` is too short. The ID isn't used then, and
-    /// nothing is written.
+    /// What reading such a Request would give (24 for a name that isn't a plain path below its folder);
+    /// 16 if the window is full; 17 if the bytes outstanding and `length` exceed the allowance; 14 if
+    /// `out` is too short. The ID isn't used then, and nothing is written.
     ///
     /// ```
     /// use fordtrumpet::RequestQueue;

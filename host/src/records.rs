@@ -178,7 +178,8 @@ impl FusedIterator for FilesIter<'_> {}
 /// ```
 #[derive(Clone, Copy, PartialEq, Eq)]
 pub struct FileInfo<'a> {
-    /// The name, 1 to 255 bytes.
+    /// The name, 1 to 255 bytes: a plain path below its folder, of parts between single slashes, none of
+    /// which is `.` or `..`.
     pub name: &'a str,
     /// Deleted, invalid, and the Unix mode.
     pub flags: Flags,

@@ -7,7 +7,7 @@ use std::io;
 
 /// Why a call was refused: a case for each number of the protocol's rules.
 ///
-/// The cases up to 13 hold the place: the first byte of the field at fault, counted from the start of
+/// The cases up to 13, and 24, hold the place: the first byte of the field at fault, counted from the start of
 /// the message that was read or would have been written; of a string or opaque it is the length word.
 /// A refused call leaves every lent buffer as it was.
 ///
@@ -66,6 +66,9 @@ pub enum Refusal {
     OtherRepository,
     /// 22: the window isn't 1 to 16, or the outstanding requests given aren't sound.
     Unsound,
+    /// 24: the Name isn't a plain path below its folder. It begins or ends with a slash, has two
+    /// slashes together, a part that is exactly `.` or `..`, or a zero byte.
+    UnsafeName(usize),
 }
 
 impl Refusal {
@@ -96,6 +99,7 @@ impl Refusal {
             20 => Refusal::NotOldest,
             21 => Refusal::OtherRepository,
             22 => Refusal::Unsound,
+            24 => Refusal::UnsafeName(place),
             _ => unreachable!("the library has no number {number}"),
         }
     }
@@ -137,10 +141,13 @@ impl Refusal {
             ),
             Refusal::OtherRepository => (21, 0, "the message is for another Repository"),
             Refusal::Unsound => (22, 0, "the window isn't 1 to 16, or the queue isn't sound"),
+            Refusal::UnsafeName(place) => {
+                (24, place, "the Name isn't a plain path below its folder")
+            }
         }
     }
 
-    /// The number, 1 to 22.
+    /// The number: 1 to 22, or 24.
     ///
     /// ```
     /// assert_eq!(fordtrumpet::Refusal::HashLength(60).number(), 9);
@@ -149,7 +156,7 @@ impl Refusal {
         self.parts().0
     }
 
-    /// Where the field at fault begins; 0 for the numbers from 14 on.
+    /// Where the field at fault begins; 0 for the numbers 14 to 22.
     ///
     /// ```
     /// use fordtrumpet::Refusal;
@@ -175,8 +182,8 @@ impl Refusal {
 impl fmt::Display for Refusal {
     fn fmt(&self, f: &mut fmt::Formatter<'_>) -> fmt::Result {
         match self.parts() {
-            (number @ ..14, place, meaning) => write!(f, "{meaning} ({number}), at byte {place}"),
-            (number, _, meaning) => write!(f, "{meaning} ({number})"),
+            (number @ 14..=22, _, meaning) => write!(f, "{meaning} ({number})"),
+            (number, place, meaning) => write!(f, "{meaning} ({number}), at byte {place}"),
         }
     }
 }
@@ -200,7 +207,7 @@ impl From<Refusal> for io::Error {
     fn from(refusal: Refusal) -> Self {
         let kind = match refusal.number() {
             1 => io::ErrorKind::UnexpectedEof,
-            2..14 | 18 | 20 | 21 => io::ErrorKind::InvalidData,
+            2..14 | 18 | 20 | 21 | 24 => io::ErrorKind::InvalidData,
             _ => io::ErrorKind::InvalidInput,
         };
         io::Error::new(kind, refusal)
@@ -212,8 +219,8 @@ mod tests {
     use super::*;
     use std::collections::HashSet;
 
-    /// The numbers as document 01 has them in its table.
-    const TABLE: [(&str, Refusal); 22] = [
+    /// The numbers as document 01 has them in its table, and then those of later requests.
+    const TABLE: [(&str, Refusal); 23] = [
         ("the field isn't wholly there", Refusal::Incomplete(12)),
         ("version not 0", Refusal::Version(12)),
         ("type not 1 to 7", Refusal::Type(12)),
@@ -266,19 +273,24 @@ mod tests {
             "window not 1 to 16, or a desk that isn't sound",
             Refusal::Unsound,
         ),
+        ("a Name that climbs out", Refusal::UnsafeName(12)),
     ];
 
     #[test]
     fn each_number_is_a_case_with_a_sentence_of_its_own() {
         let mut sentences = HashSet::new();
-        for ((meaning, refusal), number) in TABLE.into_iter().zip(1..) {
+        let numbers = (1..=22).chain([24]);
+        for ((meaning, refusal), number) in TABLE.into_iter().zip(numbers) {
             assert_eq!(Refusal::new(number, 12), refusal, "{meaning}");
             assert_eq!(refusal.number(), number);
-            assert_eq!(refusal.place(), if number < 14 { 12 } else { 0 });
-            assert!(refusal.to_string().contains(&format!("({number})")));
-            sentences.insert(refusal.to_string());
+            let has_place = !(14..=22).contains(&number);
+            assert_eq!(refusal.place(), if has_place { 12 } else { 0 });
+            let said = refusal.to_string();
+            assert!(said.contains(&format!("({number})")));
+            assert_eq!(said.ends_with("at byte 12"), has_place);
+            sentences.insert(said);
         }
-        assert_eq!(sentences.len(), 22);
+        assert_eq!(sentences.len(), 23);
         let said = |number| Refusal::new(number, 12).to_string();
         assert_eq!(said(8), "the Name is empty (8), at byte 12");
         assert_eq!(said(15), "the bytes aren't a good table (15)");

@@ -369,9 +369,11 @@ impl<'a> From<&'a TableBuf> for Table<'a> {
 /// use fordtrumpet::{FilesBuilder, Flags, TableBuf};
 ///
 /// let mut files = FilesBuilder::new();
-/// files.push("", Flags(0o644), 1_700_000_000, 0, []);
+/// files.push("a", Flags(0o644), 1_700_000_000, 0, []);
+/// files.push("../a", Flags(0o644), 1_700_000_000, 0, []);
 /// let error = TableBuf::from_files(&files).unwrap_err();
-/// assert_eq!(error.to_string(), "file 0: the Name is empty (8), at byte 0");
+/// let why = "file 1: the Name isn't a plain path below its folder (24), at byte 0";
+/// assert_eq!(error.to_string(), why);
 /// ```
 #[derive(Clone, Debug, PartialEq, Eq)]
 #[non_exhaustive]

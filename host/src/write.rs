@@ -13,17 +13,22 @@ use crate::{ffi, Refusal};
 ///
 /// # Errors
 ///
-/// 5 at 0 for an ID above 4095; then what reading the message would give, with its place there; then
-/// 14 if `out` is too short. Nothing is written then.
+/// 5 at 0 for an ID above 4095; then what reading the message would give, with its place there (24 for
+/// a name that isn't a plain path below its folder); then 14 if `out` is too short. Nothing is written
+/// then.
 ///
 /// ```
-/// use fordtrumpet::{write_index, FilesBuilder, Flags};
+/// use fordtrumpet::{write_index, FilesBuilder, Flags, Refusal};
 ///
 /// let mut files = FilesBuilder::new();
 /// files.push("notes.txt", Flags(0o644), 1_700_000_000, 0, []);
 /// let mut out = [0; 100];
 /// let length = write_index(0, "default", files.as_bytes(), &mut out)?;
 /// assert_eq!(length, 56);
+///
+/// files.push("../notes.txt", Flags(0o644), 1_700_000_000, 0, []);
+/// let written = write_index(0, "default", files.as_bytes(), &mut out);
+/// assert_eq!(written, Err(Refusal::UnsafeName(56)));
 /// # Ok::<(), fordtrumpet::Refusal>(())
 /// ```
 pub fn write_index(
@@ -99,8 +104,9 @@ pub fn write_index_update(
 ///
 /// # Errors
 ///
-/// 5 at 0 for an ID above 4095; then what reading the message would give, with its place there (9
-/// for a hash that hasn't 32 bytes); then 14 if `out` is too short. Nothing is written then.
+/// 5 at 0 for an ID above 4095; then what reading the message would give, with its place there (24 for
+/// a name that isn't a plain path below its folder); then 14 if `out` is too short. Nothing is written
+/// then.
 ///
 /// ```
 /// use fordtrumpet::{write_request, Refusal};
@@ -116,6 +122,10 @@ pub fn write_index_update(
 /// let name = b"notes\xC0\xAFa.txt";
 /// let written = write_request(7, "default", name, 0, 5, &[0xAB; 32], &mut out);
 /// assert_eq!(written, Err(Refusal::Text(16)));
+///
+/// // A name that leads out of its folder.
+/// let written = write_request(7, "default", "../a.txt", 0, 5, &[0xAB; 32], &mut out);
+/// assert_eq!(written, Err(Refusal::UnsafeName(16)));
 /// # Ok::<(), fordtrumpet::Refusal>(())
 /// ```
 pub fn write_request(

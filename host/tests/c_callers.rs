@@ -113,7 +113,7 @@ fn the_c_example_shows_messages() {
     assert_eq!(show(&program, &index.bytes), expected);
 
     let mut request = Encoding::new();
-    request.header(2, 7).string(b"", 64).string(b"n", 255);
+    request.header(2, 7).string(b"", 64).name(b"n");
     request.offset(1 << 40).block_length(131_072).hash(&[1; 32]);
     request.bytes.push(0);
     let expected = format!(
@@ -145,6 +145,12 @@ fn the_c_example_shows_messages() {
     assert_eq!(
         show(&program, &[]),
         "refused 1 at 0: a field isn't wholly there\n"
+    );
+    let mut request = Encoding::new();
+    request.header(2, 7).string(b"", 64).name(b"../n");
+    assert_eq!(
+        show(&program, &request.bytes),
+        "refused 24 at 8: the Name isn't a plain path below its folder\n"
     );
 }
 
@@ -221,6 +227,7 @@ fn the_header_has_the_refusals_and_their_sentences() {
         Refusal::NotOldest,
         Refusal::OtherRepository,
         Refusal::Unsound,
+        Refusal::UnsafeName(0),
     ];
     let mut names = vec!["BEP_ACCEPTED".to_string()];
     let mut expected = "0 accepted\n".to_string();
@@ -230,8 +237,10 @@ fn the_header_has_the_refusals_and_their_sentences() {
         names.push(format!("BEP_REFUSED_{}", name_in_c(refusal)));
         expected += &format!("{number} {sentence}\n");
     }
-    names.extend(["23".to_string(), "4294967295".to_string()]);
-    expected += "23 unknown number\n4294967295 unknown number\n";
+    for unknown in ["23", "25", "4294967295"] {
+        names.push(unknown.to_string());
+        expected += &format!("{unknown} unknown number\n");
+    }
     let text = format!(
         "#include <stdio.h>\n#include \"fordtrumpet.h\"\n\
          static const uint32_t numbers[] = {{{}}};\n\

@@ -8,8 +8,9 @@ use std::io::Write;
 use support::case_file::{bytes, cases, number, Case};
 use support::compare::read_words;
 use support::draft::{Body, Draft};
-use support::encode::Encoding;
+use support::encode::{Encoding, File};
 use support::library::{Answer as Words, LIBRARY};
+use support::queue_calls::{queue_of, words_of, Wanted, Words as Queue, QUEUE_CALLS};
 use support::table_calls::{expected, TABLE_CALLS};
 
 /// What a call answers.
@@ -24,6 +25,8 @@ enum Answer {
     Filled(Vec<u8>),
     /// A number and a place.
     Refused(u32, u64),
+    /// A number, with the place that it has wherever such a field stands.
+    RefusedWith(u32),
 }
 
 /// In the words of the files.
@@ -39,6 +42,7 @@ impl fmt::Display for Answer {
                 bytes.iter().try_for_each(|byte| write!(f, "{byte:02x}"))
             }
             Answer::Refused(number, place) => write!(f, "no {number} {place}"),
+            Answer::RefusedWith(number) => write!(f, "no {number}"),
         }
     }
 }
@@ -52,6 +56,7 @@ fn answer(words: &[&str]) -> Result<Answer, String> {
         ["yes", filled] => Answer::Filled(bytes(filled)?),
         ["yes", kind, id, end] => Answer::Read(number(kind)?, number(id)?, number(end)?),
         ["no", refusal, place] => Answer::Refused(number(refusal)?, number(place)?),
+        ["no", refusal] => Answer::RefusedWith(number(refusal)?),
         _ => return Err("no answer that is known".to_string()),
     })
 }
@@ -71,6 +76,7 @@ struct Side {
     list: fn([&[u8]; 5], &mut [u8]) -> Words<1>,
     /// Table, repository, message, buffer. Where the Request is served it fills none.
     serve: OfThree,
+    issue: fn(&mut Queue, &Wanted, &mut [u8]) -> Words<2>,
 }
 
 const SIDES: [Side; 2] = [
@@ -92,6 +98,7 @@ const SIDES: [Side; 2] = [
             Ok(fordtrumpet::Serving::Replied(len)) => (0, [len as u64]),
             Err(refusal) => (refusal.number(), [refusal.place() as u64]),
         },
+        issue: QUEUE_CALLS.issue,
     },
     Side {
         name: "reference",
@@ -110,14 +117,34 @@ const SIDES: [Side; 2] = [
                 reference::Serving::Replied(len) => len,
             }))
         },
+        issue: issue_by_reference,
     },
 ];
+
+fn issue_by_reference(words: &mut Queue, wanted: &Wanted, out: &mut [u8]) -> Words<2> {
+    let mut queue = queue_of(words);
+    let id = queue.next;
+    let issued = queue.issue(
+        &wanted.repository,
+        &wanted.name,
+        wanted.offset,
+        wanted.length,
+        &wanted.hash,
+        out,
+    );
+    *words = words_of(&queue);
+    match issued {
+        Ok(len) => (0, [len as u64, u64::from(id)]),
+        Err(refusal) => (refusal.number, [refusal.place as u64, 0]),
+    }
+}
 
 impl Side {
     /// What a call answers.
     fn run(&self, given: &[&str]) -> Result<Answer, String> {
         match *given {
             ["text", contents] => self.text(bytes(contents)?),
+            ["name", contents] => self.name(&bytes(contents)?),
             ["read", message] => Ok(self.read(&bytes(message)?)),
             [call, id, ref fields @ .., room] if call.starts_with("write-") => {
                 let (id, body) = (number(id)?, body(call, fields)?);
@@ -144,6 +171,9 @@ impl Side {
                 let (table, repository) = (bytes(table)?, bytes(repository)?);
                 self.serve(&table, &repository, &bytes(message)?, number(room)?)
             }
+            ["issue", ref fields @ .., room] => {
+                self.issue(body("write-request", fields)?, number(room)?)
+            }
             _ => Err("no call that is known".to_string()),
         }
     }
@@ -159,6 +189,30 @@ impl Side {
             (Answer::Read(..), Answer::Filled(_)) => Ok(Answer::Yes),
             (Answer::Refused(7, 12), Answer::Refused(7, 12)) => Ok(Answer::No),
             (read, written) => Err(format!("read {read}, written {written}")),
+        }
+    }
+
+    /// Whether a Name may have these contents: in each message that has one, read, written and issued,
+    /// and in a table.
+    fn name(&self, contents: &[u8]) -> Result<Answer, String> {
+        let [index, update, request] = with_name(contents);
+        let mut answers = Vec::new();
+        for (draft, place) in [(&index, 12), (&update, 12), (&request, 8)] {
+            let message = draft.encode().bytes;
+            for answer in [self.read(&message), self.write(draft, message.len())?] {
+                answers.push(without_place(answer, place)?);
+            }
+        }
+        let answer = without_place(self.issue(request.body, 400)?, 8)?;
+        if answers.iter().any(|other| *other != answer) {
+            return Err(format!("issued {answer}, and otherwise {answers:?}"));
+        }
+        let Body::Index { files: table, .. } = index.body else {
+            unreachable!()
+        };
+        match (self.good(&table.bytes)?, &answer) {
+            (Answer::Yes, Answer::Yes) | (Answer::No, Answer::RefusedWith(_)) => Ok(answer),
+            (good, _) => Err(format!("{answer} in messages, {good} in a table")),
         }
     }
 
@@ -187,13 +241,44 @@ impl Side {
         })
     }
 
+    /// Issues at a queue just opened. Where that is refused, the queue must stay as it was.
+    fn issue(&self, request: Body, room: usize) -> Result<Answer, String> {
+        let Body::Request {
+            repository,
+            name,
+            offset,
+            length,
+            hash,
+        } = request
+        else {
+            unreachable!()
+        };
+        let wanted = Wanted {
+            repository,
+            name,
+            offset,
+            length,
+            hash,
+        };
+        let opened = words_of(&reference::Queue::open(16).0);
+        let mut queue = opened;
+        let answer = fill(room, |out| {
+            let (number, [first, _]) = (self.issue)(&mut queue, &wanted, out);
+            (number, [first])
+        })?;
+        match (queue == opened) == matches!(answer, Answer::Refused(..)) {
+            true => Ok(answer),
+            false => Err(format!("{answer}, but the queue is {queue:?}")),
+        }
+    }
+
     /// Whether these bytes are a good table: no call that is given them as a table gives 15, or each.
     fn good(&self, table: &[u8]) -> Result<Answer, String> {
         const EMPTY: &[u8] = &[0; 4];
         let room = 65_536;
         let index = [0, 0, 1, 0, 0, 0, 0, 0, 0, 0, 0, 0];
         let mut request = Encoding::new();
-        request.header(2, 0).string(b"", 64).string(b"n", 255);
+        request.header(2, 0).string(b"", 64).name(b"n");
         request.offset(0).block_length(1).hash(&[0; 32]);
         let mut answers = vec![
             fill(room, |out| (self.merge)(table, EMPTY, out))?,
@@ -215,6 +300,41 @@ impl Side {
             (false, 9) => Ok(Answer::No),
             (good, refused) => Err(format!("{good}, and {refused} of 9 calls give 15")),
         }
+    }
+}
+
+/// Messages without a Repository that have this name: an Index and an IndexUpdate, where its place is 12,
+/// and a Request, where it is 8.
+fn with_name(name: &[u8]) -> [Draft; 3] {
+    let mut files = Encoding::new();
+    files.files(&[File {
+        name: name.to_vec(),
+        flags: 0,
+        modified: 0,
+        version: 0,
+        blocks: Vec::new(),
+    }]);
+    let index = |update| Body::Index {
+        update,
+        repository: Vec::new(),
+        files: files.clone(),
+    };
+    let request = Body::Request {
+        repository: Vec::new(),
+        name: name.to_vec(),
+        offset: 0,
+        length: 1,
+        hash: vec![0; 32],
+    };
+    [index(false), index(true), request].map(|body| Draft { id: 0, body })
+}
+
+/// What an answer says of a field at this place.
+fn without_place(answer: Answer, place: u64) -> Result<Answer, String> {
+    match answer {
+        Answer::Read(..) | Answer::Filled(_) => Ok(Answer::Yes),
+        Answer::Refused(number, at) if at == place => Ok(Answer::RefusedWith(number)),
+        answer => Err(format!("{answer} where {place} is the place")),
     }
 }
 
@@ -318,6 +438,11 @@ fn utf8() {
 }
 
 #[test]
+fn names() {
+    check_file("names.txt", include_str!("cases/names.txt"));
+}
+
+#[test]
 fn a_line_that_is_not_understood_or_has_another_answer_is_told() {
     assert_eq!(
         run_file("# no case\n\ntext 61*3.c3a4 = yes # a comment\n"),
@@ -340,6 +465,7 @@ fn a_line_that_is_not_understood_or_has_another_answer_is_told() {
         "write-index 0 72 00000000 = yes 00",
         "write-ping 0 4 = yes 00000400",
         "write-response x - 8 = yes 00000300.00000000",
+        "issue - 61 0 1 00*32 = no 14 0",
         // Understood, but the answer is another.
         "text c0af = yes",
         "read 00000400 = yes 4 0 5",
@@ -348,6 +474,12 @@ fn a_line_that_is_not_understood_or_has_another_answer_is_told() {
         "write-response 0 - 7 = yes 00000300.00000000",
         "good 00000000 = no",
         "serve 00000000 - 00000400 8 = no 18 4",
+        "name 612f = yes",
+        "name 612f = no 8",
+        "name 612f = no 24 12",
+        "name 61 = no 24",
+        "issue - 612f 0 1 00*32 60 = no 24 12",
+        "issue - 61 0 1 00*32 63 = no 24 8",
     ] {
         let file = format!("text 61 = yes\n{line}\ntext - = yes\n");
         let told = run_file(&file).unwrap_err();

@@ -308,6 +308,73 @@ fn names() {
     accepted(&index(&[file(), file()]));
 }
 
+/// What begins or ends with a slash, has two together, a part that is exactly `.` or `..`, or a zero byte.
+const NO_PATHS: [&[u8]; 16] = [
+    b"../show.mov",
+    b"/",
+    b"/a",
+    b"a/",
+    b"a//b",
+    b".",
+    b"..",
+    b"./a",
+    b"a/.",
+    b"a/./b",
+    b"a/..",
+    b"a/../b",
+    b"\0",
+    b"\0a",
+    b"a\0",
+    b"a\0b",
+];
+
+/// What only looks so.
+const PATHS: [&[u8]; 10] = [
+    b"...", b"a/.../b", b"a/b/c", b".a", b"a.", b"..a/b..", b". ", b"\\", b"..\\a", b"c:",
+];
+
+fn named(name: &[u8]) -> File {
+    File {
+        name: name.to_vec(),
+        ..file()
+    }
+}
+
+#[test]
+fn names_are_plain_paths() {
+    for name in NO_PATHS {
+        refused(&index(&[named(name)]), 24, 12);
+        refused(&index(&[file(), named(name)]), 24, 40);
+        refused(&request(b"repository", name, 1, 32), 24, 20);
+    }
+    for name in PATHS {
+        accepted(&index(&[named(name)]));
+        accepted(&request(b"repository", name, 1, 32));
+    }
+    // Other strings are held to no such rule.
+    accepted(&request(b"../r\0//", b"n", 1, 32));
+}
+
+#[test]
+fn a_name_that_is_no_plain_path_comes_after_all_else_in_it() {
+    // Its limit, its bytes, its pad, its text, and whether it is empty.
+    let long = [&[b'a'; 255][..], b"/"].concat();
+    refused(&index(&[named(&long)]), 5, 12);
+    refused(&index(&[named(&long[1..])]), 24, 12);
+    let slash = index(&[named(b"a/")]);
+    refused(&with_array(&slash, |array| array.truncate(11)), 1, 12);
+    refused(&with_array(&slash, |array| array[11] = 1), 6, 12);
+    refused(&index(&[named(b"\xFF/")]), 7, 12);
+    refused(&request(b"r", b"/\xC0\xAF", 0, 0), 7, 12);
+    refused(&request(b"r", b"", 0, 0), 8, 12);
+    // The next field comes later, one before it earlier.
+    refused(&request(b"r", b"/", 0, 0), 24, 12);
+    refused(&with_array(&slash, |array| array[12] = 0xFF), 24, 12);
+    refused(&request(b"\xFF", b"/", 1, 32), 7, 4);
+    let flags = 0x4000;
+    refused(&index(&[File { flags, ..file() }, named(b"/")]), 11, 20);
+}
+
 #[test]
 fn flags() {
     let with = |flags, blocks: usize| {

@@ -267,26 +267,15 @@ fn answer_all(stream: &mut TcpStream, data: &[u8]) -> Vec<String> {
     names
 }
 
+/// Names that pass, but lead out of the folder by a link, or to what isn't whole.
 #[test]
-fn names_that_lead_out_of_the_folder_are_not_written() {
+fn names_that_are_not_for_files_here_are_not_written() {
     let [inner, outside] = folders("hostile");
     symlink(&outside, inner.join("link")).unwrap();
     put(&inner, "mine", b"mine", 9);
-    let above = inner.parent().unwrap().to_path_buf();
-    let absolute = above.join("absolute");
     let data = b"hello";
     let hash = example::sha256::sha256(data);
-    let bad = [
-        "../x",
-        "..",
-        "a/../../x",
-        "a//x",
-        "a/",
-        "zero\0x",
-        ".copy-partial/x",
-        "link/x",
-        absolute.to_str().unwrap(),
-    ];
+    let bad = [".COPY-partial/x", ".copy-partial/x", "link/x"];
     // With data of their own, and without: an empty file takes no Request.
     for blocks in [
         &[][..],
@@ -328,11 +317,51 @@ fn names_that_lead_out_of_the_folder_are_not_written() {
             asked.iter().all(|name| name == "good" || name == "link/x"),
             "{asked:?}"
         );
-        let files = contents(&above);
+        let files = contents(inner.parent().unwrap());
         let names = ["first/good", "first/mine", "first/no mode"].map(Path::new);
         assert!(files.keys().eq(names), "{files:?}");
         assert_eq!(files[names[0]], (data.to_vec(), 1_700_000_000, 0o100755));
         assert_eq!(files[names[2]], (vec![], 1_700_000_001, 0o100400));
+    }
+}
+
+/// An Index of a file with this name, and a Request for it, as only a hostile peer sends them: the writers
+/// refuse it. Its place is 20 in the one and 16 in the other.
+fn unchecked(name: &str) -> [(Vec<u8>, usize); 2] {
+    let repository = b"\0\0\0\x07default\0";
+    let mut files = FilesBuilder::new();
+    files.push(name, Flags(0o644), 1_700_000_000, 0, []);
+    let files = files.as_bytes();
+    let index = [b"\0\0\x01\0", &repository[..], files].concat();
+    // A record begins with its name, and what comes after that isn't reached.
+    let request = [b"\0\0\x02\0", &repository[..], &files[4..]].concat();
+    [(index, 20), (request, 16)]
+}
+
+#[test]
+fn a_name_that_leads_out_of_the_folder_ends_the_exchange() {
+    let [inner, _] = folders("climbing");
+    put(&inner, "mine", b"mine", 9);
+    let above = inner.parent().unwrap().to_path_buf();
+    let absolute = above.join("absolute");
+    for name in [
+        "../x",
+        "..",
+        "a/../../x",
+        "a//x",
+        "a/",
+        "./mine",
+        "zero\0x",
+        absolute.to_str().unwrap(),
+    ] {
+        for (message, place) in unchecked(name) {
+            let (device, mut stream) = device(inner.clone());
+            stream.write_all(&message).unwrap();
+            let error = device.join().unwrap().unwrap_err();
+            let why = format!("the Name isn't a plain path below its folder (24), at byte {place}");
+            assert_eq!(error.to_string(), why, "{name:?}");
+            assert!(contents(&above).keys().eq([Path::new("first/mine")]));
+        }
     }
 }
 
@@ -421,7 +450,7 @@ fn a_ping_gets_its_pong_and_a_block_that_is_not_ours_no_data() {
     length += fordtrumpet::write_request(
         5,
         b"default",
-        b"/etc/passwd",
+        b"etc/passwd",
         0,
         9,
         &[0; 32],

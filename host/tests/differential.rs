@@ -88,10 +88,10 @@ fn generated_messages_get_the_same_answers() {
 
 /// A run that meets a refusal too seldom says little about it.
 fn every_number_was_met(comparison: &Comparison) {
-    let index = [1, 5, 6, 7, 8, 9, 10, 11, 12];
+    let index = [1, 5, 6, 7, 8, 9, 10, 11, 12, 24];
     let read: [(u32, &[u32]); 7] = [
         (1, &index),
-        (2, &[1, 5, 6, 7, 8, 9, 10]),
+        (2, &[1, 5, 6, 7, 8, 9, 10, 24]),
         (3, &[1, 5, 6]),
         (4, &[1]),
         (5, &[1]),
@@ -100,7 +100,7 @@ fn every_number_was_met(comparison: &Comparison) {
     ];
     let write: [(u32, &[u32]); 7] = [
         (1, &index),
-        (2, &[5, 7, 8, 9, 10]),
+        (2, &[5, 7, 8, 9, 10, 24]),
         (3, &[5]),
         (4, &[5]),
         (5, &[5]),
@@ -139,7 +139,7 @@ fn short_messages() -> Vec<Draft> {
     let mut files = Encoding::new();
     files.files(&[
         file("bé".as_bytes(), 0o644, vec![block(1), block(131_072)]),
-        file(b"a", 0x3000, vec![]),
+        file(b"a/.b", 0x3000, vec![]),
     ]);
     let mut options = Encoding::new();
     options.options(&[
@@ -327,6 +327,28 @@ fn a_difference_is_found() {
                     false => (7, answer),
                 }
             }
+            answer => answer,
+        },
+        ..LIBRARY
+    }));
+    assert!(is_found(Library {
+        // A name may end with a slash.
+        read: |input| match (LIBRARY.read)(input) {
+            (24, answer) => {
+                let (len, rest) = input[answer[0] as usize..].split_first_chunk().unwrap();
+                match rest[..u32::from_be_bytes(*len) as usize].ends_with(b"/") {
+                    true => (0, answer),
+                    false => (24, answer),
+                }
+            }
+            answer => answer,
+        },
+        ..LIBRARY
+    }));
+    assert!(is_found(Library {
+        // In writing, a name that is no plain path counts as an empty one.
+        write: |draft, out| match (LIBRARY.write)(draft, out) {
+            (24, place) => (8, place),
             answer => answer,
         },
         ..LIBRARY

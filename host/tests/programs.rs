@@ -123,9 +123,11 @@ fn wanted_refuses_what_is_no_good_table() {
     let long = vec![0; 65_537];
     let mut stale = encode(&[file("a", 0..1)]);
     stale.push(0);
+    let above = encode(&[file("../a", 0..1)]);
     for (case, name, bytes) in [
         ("too_long", "local", &long[..]),
         ("stale_end", "peer3", &stale),
+        ("name_above", "peer4", &above),
         ("no_bytes", "peer1", &[]),
     ] {
         assert_eq!(
@@ -171,6 +173,9 @@ fn listing_prints_a_line_for_each_record() {
         run("listing", "too_long", &[("table", &[0; 65_537])]),
         "refused 15\n"
     );
+    let above = encode(&[file("../a", 0..1)]);
+    let refused = run("listing", "name_above", &[("table", &above)]);
+    assert_eq!(refused, "refused 15\n");
     let files: Vec<_> = (0..512)
         .map(|i| file(&format!("{i:03}"), 0..i % 2))
         .collect();

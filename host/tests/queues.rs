@@ -12,7 +12,8 @@ use std::io::Write;
 use support::compare::Compared;
 use support::damage;
 use support::draft::{Body, Draft};
-use support::generate::{draft, text};
+use support::generate::{draft, name};
+use support::names::spoil;
 use support::queue_calls::{QueueCalls, QueueComparison, Wanted, QUEUE_CALLS};
 use support::random::Random;
 
@@ -43,7 +44,7 @@ fn starting(random: &mut Random) -> Queue {
 fn wanted(random: &mut Random, large: bool) -> Wanted {
     let mut wanted = Wanted {
         repository: b"default".to_vec(),
-        name: text(random, 255),
+        name: name(random),
         offset: random.pick(&[0, 131_072, u64::MAX]),
         length: match large {
             true => random.pick(&[131_072, 131_072, 131_071, 65_536, 1]),
@@ -51,15 +52,14 @@ fn wanted(random: &mut Random, large: bool) -> Wanted {
         },
         hash: random.bytes(32),
     };
-    if wanted.name.is_empty() && !random.once_in(8) {
-        wanted.name = b"a".to_vec();
-    }
     match random.below(40) {
         0 => wanted.length = random.pick(&[0, 131_073, u32::MAX]),
         1 => wanted.name = vec![b'a'; 256],
         2 => wanted.name.push(0xFF),
         3 => wanted.repository = vec![b'a'; random.pick(&[64, 65])],
         4 => drop(wanted.hash.pop()),
+        5 => wanted.name.clear(),
+        6 => spoil(&mut wanted.name, random),
         _ => {}
     }
     wanted
@@ -163,7 +163,7 @@ fn generated_lists_of_calls_get_the_same_answers() {
     if lists >= LISTS {
         for (call, numbers) in [
             ("open", &[0, 22][..]),
-            ("issue", &[0, 5, 7, 8, 9, 10, 14, 16, 17, 22]),
+            ("issue", &[0, 5, 7, 8, 9, 10, 14, 16, 17, 22, 24]),
             ("answer", &[0, 100, 200, 1, 2, 3, 4, 5, 6, 18, 20, 22]),
             ("drop", &[0, 22]),
         ] {
@@ -214,6 +214,14 @@ fn a_difference_is_found() {
                 true => (17, answer.1),
                 false => answer,
             }
+        },
+        ..QUEUE_CALLS
+    }));
+    assert!(is_found(QueueCalls {
+        // The window comes before the name.
+        issue: |queue, wanted, out| match (QUEUE_CALLS.issue)(queue, wanted, out) {
+            (24, _) if queue[2] == queue[0] => (16, [0, 0]),
+            answer => answer,
         },
         ..QUEUE_CALLS
     }));

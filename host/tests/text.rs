@@ -3,7 +3,9 @@
 mod reference;
 mod support;
 
-use fordtrumpet::{read, write_request, FilesBuilder, Flags, Message, Refusal, Table};
+use fordtrumpet::{
+    read, write_options, write_request, FilesBuilder, Flags, Message, Refusal, Table,
+};
 use std::io::Write;
 use support::compare::Compared;
 use support::random::Random;
@@ -21,54 +23,76 @@ const RULES: [(&str, Rule); 2] = [
     ("the reference's", reference::is_text),
 ];
 
-/// The library's rule: as a Repository where the length is even, else as a Name.
+/// The library's rule: as a Repository where the length is even, else as a Value. Names keep another rule
+/// besides.
 fn library(text: &[u8]) -> bool {
+    let mut out = [0xD7; 128];
     match text.len() % 2 {
-        0 => passes(text, b"n", 4),
-        _ => passes(b"", text, 8),
+        0 => {
+            let (message, len) = request(text);
+            let written = write_request(0, text, "n", 0, 1, &[0; 32], &mut out);
+            passes(&message[..len], 4, written, &out)
+        }
+        _ => {
+            let (message, len) = options(text);
+            let written = write_options(0, &message[4..len], &mut out);
+            passes(&message[..len], 12, written, &out)
+        }
     }
 }
 
-/// Whether a Request with these strings is read and written. Where it isn't, the string whose length word
-/// stands at `place` must be to blame, and the lent buffer be as it was.
-fn passes(repository: &[u8], name: &[u8], place: usize) -> bool {
-    let (message, len) = request(repository, name);
-    let mut out = [0xD7; 128];
-    let written = write_request(0, repository, name, 0, 1, &[0; 32], &mut out);
-    match read(&message[..len]) {
+/// Whether a message is read and was written. Where it isn't, the string whose length word stands at
+/// `place` must be to blame, and the lent buffer be as it was.
+fn passes(message: &[u8], place: usize, written: Result<usize, Refusal>, out: &[u8; 128]) -> bool {
+    let len = message.len();
+    match read(message) {
         Ok(read) => {
-            let Message::Request(request) = read.message else {
-                panic!("no Request: {message:02x?}");
+            let string = match read.message {
+                Message::Request(request) => request.repository,
+                Message::Options(message) => message.options.iter().next().unwrap().value,
+                other => panic!("{other:?}"),
             };
             assert_eq!((read.used, written), (len, Ok(len)), "{message:02x?}");
-            assert_eq!(request.repository.as_bytes(), repository);
-            assert_eq!(request.name.as_bytes(), name);
-            assert_eq!(out[..len], message[..len]);
+            assert!(message[place + 4..].starts_with(string.as_bytes()));
+            assert_eq!(string.len(), usize::from(message[place + 3]));
+            assert_eq!(out[..len], *message);
             true
         }
         Err(refusal) => {
             assert_eq!(refusal, Refusal::Text(place), "{message:02x?}");
             assert_eq!(written, Err(refusal), "{message:02x?}");
-            assert_eq!(out, [0xD7; 128], "{message:02x?}");
+            assert_eq!(*out, [0xD7; 128], "{message:02x?}");
             false
         }
     }
 }
 
-/// A Request with these strings, whatever they are, and its length.
-fn request(repository: &[u8], name: &[u8]) -> ([u8; 128], usize) {
+/// A Request with this Repository, whatever it is, and its length.
+fn request(repository: &[u8]) -> ([u8; 128], usize) {
     let mut message = [0; 128];
     message[2] = 2;
-    let mut end = 4;
-    for string in [repository, name] {
-        message[end + 3] = string.len() as u8;
-        message[end + 4..][..string.len()].copy_from_slice(string);
-        end += 4 + string.len().next_multiple_of(4);
-    }
+    let end = put(&mut message, 4, repository);
+    let end = put(&mut message, end, b"n");
     // Offset 0, Length 1, and a hash of zeros.
     message[end + 11] = 1;
     message[end + 15] = 32;
     (message, end + 48)
+}
+
+/// An Options message with one option, whose Key is empty and whose Value is this, and its length.
+fn options(value: &[u8]) -> ([u8; 128], usize) {
+    let mut message = [0; 128];
+    message[2] = 7;
+    message[7] = 1;
+    let end = put(&mut message, 12, value);
+    (message, end)
+}
+
+/// Puts a string at a place and gives the place past it.
+fn put(message: &mut [u8; 128], at: usize, string: &[u8]) -> usize {
+    message[at + 3] = string.len() as u8;
+    message[at + 4..][..string.len()].copy_from_slice(string);
+    at + 4 + string.len().next_multiple_of(4)
 }
 
 /// Compares rules and counts.

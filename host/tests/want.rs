@@ -194,7 +194,7 @@ fn generated_requests_get_the_same_rulings() {
     }
     say(&format!("{inputs} rulings compared, no difference"));
     if inputs >= INPUTS {
-        for kind in [1, 7, 8, 9, 10, 14, 15, 18, 100, 101] {
+        for kind in [1, 7, 8, 9, 10, 14, 15, 18, 24, 100, 101] {
             assert!(met.get(&kind) >= Some(&20), "{kind} in {met:?}");
         }
     }

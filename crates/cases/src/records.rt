@@ -19,7 +19,7 @@ fn put_blocks(out: &mut [u8], blocks: u32, size: u32, hash: u32) {
     }
 }
 
-fn answer(read: FileRead) {
+pub fn answer(read: FileRead) {
     match read {
         FileRead::Taken(f) => {
             lines::text(b"name ");

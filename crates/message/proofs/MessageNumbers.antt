@@ -23,7 +23,7 @@ text-numbers : (limit : ℕ) → NumbersIn Neither (text limit)
 text-numbers limit = (refl, (refl, tt))
 
 name-numbers : NumbersIn Neither name
-name-numbers = (refl, text-numbers 255)
+name-numbers = (refl, (refl, text-numbers 255))
 
 hash-numbers : NumbersIn Neither hash
 hash-numbers = (refl, tt)

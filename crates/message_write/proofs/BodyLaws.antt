@@ -17,6 +17,7 @@ use Rattle.xdr.proofs.Told.{told-there}
 use Rattle.record.specs.Block.{hash as hashField}
 use Rattle.record.specs.File.{File}
 use Rattle.record.specs.KeyValue.{KeyValue, options}
+use Rattle.record.proofs.NameSteps.{name-string}
 use Rattle.message.specs.Limits.{optionsLimit}
 use Rattle.message.specs.Message.{RequestBody, index, request, response}
 use Rattle.message_write.specs.Writing.{indexBytes, requestBytes}
@@ -62,7 +63,7 @@ request-parts r n o s h {v} {e} w =
     let c = pair-parts (b .2) in
     let d = pair-parts (c .2) in
     let repository = told-there r (0 ∷ 0 ∷ 0 ∷ 0 ∷ []) (N ++ (O ++ (L ++ H))) refl (passed (a .1)) in
-    let name = told-there n (behind R) (O ++ (L ++ H)) (behind-string r (4 + padded (length r)) refl ∙ sym (repository .1)) (passed (passed (b .1))) in
+    let name = told-there n (behind R) (O ++ (L ++ H)) (behind-string r (4 + padded (length r)) refl ∙ sym (repository .1)) (name-string (b .1)) in
     let offset = ends-word (c .1) .0 in
     let size = ends-word (passed (d .1)) .0 in
     let long : length front ≡ d .0 =

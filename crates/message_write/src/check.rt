@@ -62,9 +62,10 @@ pub fn check_name(l: &[u8]) -> Bytes
     let Bytes::Taken(n, size) = answer else {
         return Bytes::Refused(answer.refusal());
     };
-    if n == 0 {
+    let fault = record::name_fault(l);
+    if fault != 0 {
         return Bytes::Refused(Refusal {
-            number: 8,
+            number: fault,
             place: 0,
         });
     }

@@ -10,6 +10,7 @@ use Rattle.xdr.specs.Filling.{gives}
 use Rattle.order.specs.Order.{compareNumbers, compareLists}
 use Rattle.record.specs.Block.{Block}
 use Rattle.record.specs.File.{File}
+use Rattle.record.specs.Name.{isPath}
 use Rattle.record.specs.Rising.{isRisingArray}
 use Rattle.table.specs.Newest.{compareFiles}
 use Rattle.table.specs.Table.{isGood, records, tableOf}
@@ -47,15 +48,15 @@ everything = tableOf (fileOf 97 1 (blockOf 1 ∷ []) ∷ fileOf 98 1 (blockOf 2 
 -- at first two blocks are asked for, of the first peer and of the second
 pub sample-wanted : requestOutcome local peers ≡ gives
     (listBytes (record { file = 0; block = 0; offset = 0; size = 5; peer = 1 } ∷ record { file = 1; block = 0; offset = 0; size = 5; peer = 2 } ∷ []))
-unfolding read encode soundUpTo allZero compareNumbers compareLists compareFiles isRisingArray isGood records tableOf mergedOf requestList requestOutcome
+unfolding read encode soundUpTo allZero isPath compareNumbers compareLists compareFiles isRisingArray isGood records tableOf mergedOf requestList requestOutcome
 sample-wanted = refl
 
 -- the merges, in a tree: local with the first, the second with the third, these two, and then the fourth
 pub sample-merges : (mergeOutcome local peer1 ≡ gives peer1) × (mergeOutcome peer2 peer2 ≡ gives peer2) × (mergeOutcome peer1 peer2 ≡ gives everything) × (mergeOutcome everything peer4 ≡ gives everything)
-unfolding read encode soundUpTo allZero compareNumbers compareLists compareFiles isRisingArray isGood records tableOf mergedOf mergedRecords mergeOutcome
+unfolding read encode soundUpTo allZero isPath compareNumbers compareLists compareFiles isRisingArray isGood records tableOf mergedOf mergedRecords mergeOutcome
 sample-merges = (refl, refl, refl, refl)
 
 -- then nothing is asked for, and merging again changes no byte
 pub sample-arrived : (requestOutcome everything peers ≡ gives []) × (mergeOutcome everything local ≡ gives everything) × (mergeOutcome peer1 everything ≡ gives everything)
-unfolding read encode soundUpTo allZero compareNumbers compareLists compareFiles isRisingArray isGood records tableOf mergedOf mergedRecords mergeOutcome requestList requestOutcome
+unfolding read encode soundUpTo allZero isPath compareNumbers compareLists compareFiles isRisingArray isGood records tableOf mergedOf mergedRecords mergeOutcome requestList requestOutcome
 sample-arrived = (refl, refl, refl)

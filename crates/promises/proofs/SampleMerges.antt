@@ -9,6 +9,7 @@ use Rattle.xdr.specs.Format.{read, encode}
 use Rattle.xdr.specs.Text.{soundUpTo}
 use Rattle.xdr.specs.Pad.{allZero}
 use Rattle.order.specs.Order.{compareNumbers, compareLists}
+use Rattle.record.specs.Name.{isPath}
 use Rattle.record.specs.Rising.{isRisingArray}
 use Rattle.table.specs.Newest.{compareFiles}
 use Rattle.table.specs.Table.{isGood, records, tableOf}
@@ -59,17 +60,17 @@ actions =
 pub sample-answers : (inRoom 34 (merging (begin .memory) x y) ≡ gives newer)
     × (inRoom 31 (merging (run begin (take 1 actions) .memory) merged merged) ≡ refuses 14 0)
     × (inRoom 32 (merging (run begin (take 2 actions) .memory) y z) ≡ refuses 15 0)
-unfolding read encode soundUpTo allZero compareNumbers compareLists compareFiles isRisingArray isGood records tableOf mergedOf mergedRecords mergeOutcome
+unfolding read encode soundUpTo allZero isPath compareNumbers compareLists compareFiles isRisingArray isGood records tableOf mergedOf mergedRecords mergeOutcome
 sample-answers = (refl, refl, refl)
 
 -- the first is no slice any more, and the result is the newer one
 pub sample-run : (run begin actions .slices ≡ merged ∷ y ∷ z ∷ []) × (bytesIn (run begin actions .memory) (merged .region) ≡ newer)
-unfolding read encode soundUpTo allZero compareNumbers compareLists compareFiles isRisingArray isGood records tableOf mergedOf mergedRecords mergeOutcome
+unfolding read encode soundUpTo allZero isPath compareNumbers compareLists compareFiles isRisingArray isGood records tableOf mergedOf mergedRecords mergeOutcome
 sample-run = (refl, refl)
 
 -- it is a list that the claim is about
 sample-allowed : AllAllowed begin actions
-unfolding read encode soundUpTo allZero compareNumbers compareLists compareFiles isRisingArray isGood records tableOf mergedOf mergedRecords mergeOutcome
+unfolding read encode soundUpTo allZero isPath compareNumbers compareLists compareFiles isRisingArray isGood records tableOf mergedOf mergedRecords mergeOutcome
 sample-allowed = (
   (List·Memᴰ·head refl, List·Memᴰ·tail (List·Memᴰ·head refl), refl, refl),
   ((List·Memᴰ·head refl, List·Memᴰ·head refl, refl, refl), ((List·Memᴰ·tail (List·Memᴰ·tail (List·Memᴰ·head refl)), List·Memᴰ·tail (List·Memᴰ·tail (List·Memᴰ·tail (List·Memᴰ·head refl))), refl, refl), (tt, tt))),

@@ -2,28 +2,21 @@
 use Prim.Native.Nat.{ℕ, _+_, _-_}
 use mathlib.Core.List.{List}
 use mathlib.Core.Path.{_≡_, refl, sym, ap, subst, _∙_}
-use mathlib.Core.Bool.{Bool}
 use native.Mathlib.Omega.{arith}
 use lib.ListN.{length, take, drop}
 use Rattle.xdr.specs.Reading.{Reading, taken, refused, shifted}
 use Rattle.xdr.specs.Number.{IsBytes}
-use Rattle.xdr.specs.Format.{Format, bytes, checked, read, readAt, encode}
-use Rattle.xdr.specs.Fields.{word}
+use Rattle.xdr.specs.Format.{Format, read, readAt, encode}
 use Rattle.xdr.proofs.NumberLaws.{bytes-drop}
-use Rattle.xdr.proofs.Steps.{Reads, opened, passed, ends-word, shifted-zero}
-use Rattle.xdr.proofs.Strings.{string-ends}
+use Rattle.xdr.proofs.Steps.{Reads, passed, ends-word, shifted-zero}
+use Rattle.xdr.proofs.Strings.{string-there, string-ends}
 use Rattle.xdr.proofs.Parts.{via-parts, pair-parts}
 use Rattle.xdr.proofs.Corollaries.{read-exactly}
+use Rattle.record.proofs.NameSteps.{name-string}
 use Rattle.message.specs.Header.{typeOf, idOf}
 use Rattle.message.specs.Message.{Kind, isIndex, isRequest, isResponse, isPing, isPong, isIndexUpdate, isOptions, kindOf, Body, body, MessageValue, index, request, response, message}
 use Rattle.message.specs.Answers.{indexSpan, requestSpan, responseSpan, optionsSpan, bodyAnswer, messageAnswer, messageIn}
 use Rattle.promises.specs.Spans.{IndexFields, RequestFields, ResponseFields, OptionsFields, SaysFields}
-
--- a string or an opaque stands after its length word
-string-there : {k : ℕ} {limited : ℕ → Bool} {s : List ℕ} {at : ℕ} {l : List ℕ} {m : ℕ} → Reads (bytes (checked k limited word)) s at (taken l m) → take (length l) (drop (at + 4) s) ≡ l
-string-there {s = s} {l = l} h =
-    let o = opened h in
-    sym (o .contents-are ∙ ap (λ (n : ℕ). take (length l) (drop n s)) (ends-word (passed (o .size)) .0))
 
 -- any value stands encoded from its place to its end
 encoded-there : {A : Type 0} {F : Format A} {s : List ℕ} {at : ℕ} {a : A} {m : ℕ} → IsBytes s → Reads F s at (taken a m) → take (m - at) (drop at s) ≡ encode F a
@@ -59,11 +52,11 @@ module _ {s : List ℕ} {next : ℕ} where
       let offset = pair-parts (name .2) in
       let size = pair-parts (offset .2) in
       let r = string-ends (passed (repository .1)) in
-      let n = string-ends (passed (passed (name .1))) in
+      let n = string-ends (name-string (name .1)) in
       let hash-at : requestSpan p next .hash .start ≡ size .0 + 4 = omega (arith, r, n, ends-word (offset .1) .0, ends-word (passed (size .1)) .0) in
       record {
         repository-is = string-there (passed (repository .1));
-        name-is = ap (λ (k : ℕ). take (length (p .name)) (drop (k + 4) s)) (sym r) ∙ string-there (passed (passed (name .1)));
+        name-is = ap (λ (k : ℕ). take (length (p .name)) (drop (k + 4) s)) (sym r) ∙ string-there (name-string (name .1));
         offset-is = refl;
         size-is = refl;
         hash-is = ap (λ (k : ℕ). take (length (p .hash)) (drop k s)) hash-at ∙ string-there (size .2);

@@ -1,4 +1,4 @@
--- What is read is UTF-8: every string of a message that was read, and every name of a good table.
+-- What is read is UTF-8 and leads down: every string and every Name of a message that was read, and every name of a good table.
 use Prim.Native.Nat.{ℕ}
 use mathlib.Core.List.{List, [], _∷_}
 use mathlib.Core.Path.{_≡_}
@@ -6,41 +6,72 @@ use mathlib.Core.Bool.{true}
 use Rattle.xdr.specs.Reading.{taken}
 use Rattle.xdr.specs.Number.{IsBytes}
 use Rattle.xdr.specs.Format.{AllOf, read, Valid}
+use Rattle.xdr.specs.Fields.{text}
 use Rattle.xdr.specs.Utf8.{IsUtf8}
 use Rattle.xdr.proofs.Corollaries.{read-exactly}
 use Rattle.xdr.proofs.Utf8Laws.{text-is-utf8}
-use Rattle.record.specs.File.{File, file}
+use Rattle.record.specs.Limits.{keyLimit, valueLimit}
+use Rattle.record.specs.File.{File, name, file}
 use Rattle.record.specs.KeyValue.{KeyValue, keyValue}
+use Rattle.record.proofs.NameLaws.{path-faultless, path-stays-below}
+use Rattle.message.specs.Limits.{repositoryLimit}
 use Rattle.message.specs.Header.{typeOf}
 use Rattle.message.specs.Message.{Kind, isIndex, isRequest, isResponse, isPing, isPong, isIndexUpdate, isOptions, kindOf, Body, body, MessageValue, message}
 use Rattle.table.specs.Table.{isGood, records}
 use Rattle.table.proofs.TableLaws.{good-table}
-use Rattle.promises.specs.Strings.{NamesAreUtf8, StringsAreUtf8}
+use Rattle.promises.specs.Strings.{NamesHave, StringsHave, LeadsDown, NamesAreUtf8, StringsAreUtf8, NamesLeadDown}
 
--- by the formats
-names : (fs : List File) → AllOf (λ f. Valid file f) fs → NamesAreUtf8 fs
-unfolding Valid
-names [] v = tt
-names (f ∷ fs) v = (text-is-utf8 (f .name) (v .0 .0 .0 .1), names fs (v .1))
+-- what every text has, and every name
+module _ (P Q : List ℕ → Type 0) (texts : (limit : ℕ) (l : List ℕ) → Valid (text limit) l → P l) (named : (l : List ℕ) → Valid name l → Q l) where
+  names : (fs : List File) → AllOf (λ f. Valid file f) fs → NamesHave Q fs
+  unfolding Valid
+  names [] v = tt
+  names (f ∷ fs) v = (named (f .name) (v .0 .0), names fs (v .1))
 
-options : (os : List KeyValue) → AllOf (λ o. Valid keyValue o) os → AllOf (λ o. IsUtf8 (o .key) × IsUtf8 (o .value)) os
-unfolding Valid
-options [] v = tt
-options (o ∷ os) v = ((text-is-utf8 (o .key) (v .0 .0 .1), text-is-utf8 (o .value) (v .0 .1 .1)), options os (v .1))
+  options : (os : List KeyValue) → AllOf (λ o. Valid keyValue o) os → AllOf (λ o. P (o .key) × P (o .value)) os
+  unfolding Valid
+  options [] v = tt
+  options (o ∷ os) v = ((texts keyLimit (o .key) (v .0 .0), texts valueLimit (o .value) (v .0 .1)), options os (v .1))
 
-by-kind : (k : Kind) (b : Body k) → Valid (body k) b → StringsAreUtf8 k b
+  by-kind : (k : Kind) (b : Body k) → Valid (body k) b → StringsHave P Q k b
+  unfolding Valid
+  by-kind isIndex b v = (texts repositoryLimit (b .0) (v .0), names (b .1) (v .1 .1))
+  by-kind isRequest b v = (texts repositoryLimit (b .repository) (v .0), named (b .name) (v .1 .0))
+  by-kind isResponse b v = tt
+  by-kind isPing b v = tt
+  by-kind isPong b v = tt
+  by-kind isIndexUpdate b v = (texts repositoryLimit (b .0) (v .0), names (b .1) (v .1 .1))
+  by-kind isOptions b v = options b (v .1)
+
+  of-message : (s : List ℕ) → IsBytes s → (m : MessageValue) (n : ℕ) → read message s ≡ taken m n → StringsHave P Q (kindOf (typeOf (m .0))) (m .1)
+  unfolding Valid
+  of-message s b m n e = by-kind (kindOf (typeOf (m .0))) (m .1) (read-exactly message s m n b e .1 .1)
+
+  of-table : (t : List ℕ) → IsBytes t → isGood t ≡ true → NamesHave Q (records t)
+  of-table t b e = names (records t) (good-table t b e .valid)
+
+-- the text rule is UTF-8, and a name is text
+text-utf8 : (limit : ℕ) (l : List ℕ) → Valid (text limit) l → IsUtf8 l
 unfolding Valid
-by-kind isIndex b v = (text-is-utf8 (b .0) (v .0 .1), names (b .1) (v .1 .1))
-by-kind isRequest b v = (text-is-utf8 (b .repository) (v .0 .1), text-is-utf8 (b .name) (v .1 .0 .0 .1))
-by-kind isResponse b v = tt
-by-kind isPing b v = tt
-by-kind isPong b v = tt
-by-kind isIndexUpdate b v = (text-is-utf8 (b .0) (v .0 .1), names (b .1) (v .1 .1))
-by-kind isOptions b v = options b (v .1)
+text-utf8 limit l v = text-is-utf8 l (v .1)
+
+name-utf8 : (l : List ℕ) → Valid name l → IsUtf8 l
+unfolding Valid
+name-utf8 l v = text-is-utf8 l (v .0 .0 .1)
 
 pub read-strings : (s : List ℕ) → IsBytes s → (m : MessageValue) (n : ℕ) → read message s ≡ taken m n → StringsAreUtf8 (kindOf (typeOf (m .0))) (m .1)
-unfolding Valid
-read-strings s b m n e = by-kind (kindOf (typeOf (m .0))) (m .1) (read-exactly message s m n b e .1 .1)
+read-strings = of-message IsUtf8 IsUtf8 text-utf8 name-utf8
 
 pub good-names : (t : List ℕ) → IsBytes t → isGood t ≡ true → NamesAreUtf8 (records t)
-good-names t b e = names (records t) (good-table t b e .valid)
+good-names = of-table IsUtf8 IsUtf8 text-utf8 name-utf8
+
+-- a name is a path
+name-leads-down : (l : List ℕ) → Valid name l → LeadsDown l
+unfolding Valid
+name-leads-down l v = record { faultless = path-faultless l (v .1) .1; stays-below = path-stays-below l (v .1) }
+
+pub read-names-lead-down : (s : List ℕ) → IsBytes s → (m : MessageValue) (n : ℕ) → read message s ≡ taken m n → NamesLeadDown (kindOf (typeOf (m .0))) (m .1)
+read-names-lead-down = of-message (λ l. Unit {0}) LeadsDown (λ limit l v. tt) name-leads-down
+
+pub good-names-lead-down : (t : List ℕ) → IsBytes t → isGood t ≡ true → NamesHave LeadsDown (records t)
+good-names-lead-down = of-table (λ l. Unit {0}) LeadsDown (λ limit l v. tt) name-leads-down

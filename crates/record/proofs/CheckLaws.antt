@@ -4,7 +4,6 @@ use mathlib.Core.List.{List, [], _∷_, _++_}
 use mathlib.Core.Path.{_≡_, refl, sym, ap, subst, _∙_}
 use mathlib.Core.Bool.{Bool, true, false, _&&_}
 use native.Mathlib.Omega.{arith}
-use borrow.Author.Tests.{leb-true}
 use lib.ListN.{length, take, drop, length-append}
 use lib.Dec.{eqb}
 use Rattle.xdr.specs.Reading.{Reading, taken, refused, shifted, mapped, many}
@@ -13,7 +12,7 @@ use Rattle.xdr.specs.Fields.{upTo}
 use Rattle.xdr.specs.declared.answer.Refusal.{Refusal}
 use Rattle.xdr.proofs.Steps.{Reads, answered, ends, part-read, shifted-zero, then-taken}
 use Rattle.xdr.proofs.Runs.{Run, run-none, run-more, array-read, count-refused, element-refused}
-use Rattle.xdr.proofs.Parts.{via-parts, pair-parts, test-passed}
+use Rattle.xdr.proofs.Parts.{via-parts, pair-parts}
 use Rattle.record.specs.File.{File, file, files}
 use Rattle.record.specs.Answers.{fileAnswer, fileRefusal, arrayAnswer}
 use Rattle.record.specs.declared.array.Array.{Array}
@@ -23,6 +22,7 @@ use Rattle.record.specs.declared.file.FileRead.the-variants as F
 use Rattle.record.specs.declared.file.FileSpan.{FileSpan}
 use Rattle.record.proofs.Arrays.{part-of, array-done}
 use Rattle.record.proofs.Answered.{file-taken, file-refused}
+use Rattle.record.proofs.NameSteps.{name-some}
 use Rattle.record.proofs.FileLaws.{file-parts}
 use Rattle.order.specs.Order.{isLess, compareLists, part}
 use Rattle.record.specs.Rising.{isRising, fillRising, isRisingArray}
@@ -45,7 +45,7 @@ rising-by limit t h = ap (fillRising (length t)) (read-start h)
 -- the name of a file that was read at a place
 
 name-there : {t : List ℕ} {at : ℕ} {f : File} {m : ℕ} → Reads file t at (taken f m) → 1 ≤ length (f .name)
-name-there {t} {at} {f} h = let n = pair-parts (via-parts h) in leb-true 1 (length (f .name)) (test-passed (n .1))
+name-there {t} {at} {f} h = name-some (pair-parts (via-parts h) .1)
 
 -- a file's name from one place to another
 pub record NameAt (t : List ℕ) (f : File) (from to : ℕ) : Type 0 where

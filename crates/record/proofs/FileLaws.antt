@@ -12,13 +12,14 @@ use Rattle.xdr.specs.Fields.{upTo}
 use Rattle.xdr.proofs.EncodedSize.{bytes-size}
 use Rattle.xdr.proofs.Corollaries.{prefix-free}
 use Rattle.xdr.proofs.Steps.{Reads, opened, passed, ends}
-use Rattle.xdr.proofs.Strings.{string-ends}
+use Rattle.xdr.proofs.Strings.{string-there, string-ends}
 use Rattle.xdr.proofs.Parts.{Elements, via-parts, pair-parts, array-parts, encoding-read}
 use Rattle.record.specs.Limits.{nameLimit}
 use Rattle.record.specs.Block.{block}
 use Rattle.record.specs.File.{File, name, file, fromFlags}
 use Rattle.record.specs.Outline.{wordAt, blocksSize, outlineOf, fieldsOf}
 use Rattle.record.specs.declared.outline.Outline.the-variants as O
+use Rattle.record.proofs.NameSteps.{name-string}
 use Rattle.record.proofs.OutlineLaws.{Fixed, fixed, word-read, hyper-read, fields-whole}
 use Rattle.record.proofs.BlockLaws.{blocks-end}
 
@@ -39,12 +40,11 @@ record NameAt (s : List ℕ) (at : ℕ) (l : List ℕ) (rest : ℕ) : Type 0 whe
 
 name-parts : {s : List ℕ} {at : ℕ} {l : List ℕ} {rest : ℕ} → Reads name s at (taken l rest) → NameAt s at l rest
 name-parts {s} {at} {l} {rest} h =
-    let o = opened (passed (passed h)) in
-    let w = word-read (passed (o .size)) in
+    let w = word-read (passed (opened (name-string h) .size)) in
     record {
       length-is = w .is;
-      contents-are = o .contents-are ∙ ap (λ (k : ℕ). take (length l) (drop k s)) (w .ends);
-      ends = string-ends (passed (passed h));
+      contents-are = sym (string-there (name-string h));
+      ends = string-ends (name-string h);
       room = omega (arith, w .ends, w .room);
     }
 

@@ -2,6 +2,10 @@
 pub mod SizeRule
 pub mod FlagBits
 pub mod HeadLaws
+pub mod NameSteps
+mod PathSteps
+mod SmoothLaws
+pub mod NameLaws
 pub mod Answered
 pub mod Arrays
 pub mod OutlineLaws

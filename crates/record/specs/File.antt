@@ -9,6 +9,7 @@ use Rattle.xdr.specs.Format.{Format, array, pair, checked, via, encode}
 use Rattle.xdr.specs.Fields.{word, hyper, upTo, text}
 use Rattle.record.specs.Limits.{nameLimit, flagsBound}
 use Rattle.record.specs.Block.{Block, blocks}
+use Rattle.record.specs.Name.{isPath}
 
 -- `modified` is the number that the 64 bits are without a sign: Modified.antt has the sign
 pub record File : Type 0 where
@@ -30,9 +31,9 @@ isInvalid f = eqb (f / 8192 % 2) 1
 abbrev pub mode : ℕ → ℕ
 mode f = f % 4096
 
--- the name rule: text, and not empty
+-- the name rule: text, not empty, and a way down from a folder
 abbrev pub name : Format (List ℕ)
-name = checked 8 (λ l. leb 1 (length l)) (text nameLimit)
+name = checked 24 isPath (checked 8 (λ l. leb 1 (length l)) (text nameLimit))
 
 -- Flags: the top 18 bits are zero
 abbrev pub flags : Format ℕ

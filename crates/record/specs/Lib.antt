@@ -1,5 +1,6 @@
 pub mod Limits
 pub mod Block
+pub mod Name
 pub mod File
 pub mod Modified
 pub mod KeyValue

@@ -3,12 +3,13 @@ use Prim.Native.Nat.{ℕ, _+_, _*_, _/_, _%_, _≤_, _<_}
 use mathlib.Core.List.{List}
 use mathlib.Core.Path.{_≡_}
 use mathlib.Core.Bool.{Bool, true, false, cond}
-use lib.ListN.{length, drop}
+use lib.ListN.{length, getD, drop}
 use lib.Dec.{leb, eqb}
 use Rattle.xdr.specs.Number.{bigEndian}
 use Rattle.xdr.specs.Format.{readAt}
 use Rattle.record.specs.Limits.{hashLength, blockBytes}
 use Rattle.record.specs.Block.{isSize}
+use Rattle.record.specs.Name.{isPath}
 use Rattle.record.specs.File.{files}
 use Rattle.record.specs.Rising.{isRisingArray}
 use Rattle.record.specs.Answers.{arrayAnswer}
@@ -21,6 +22,19 @@ use Rattle.record.specs.declared.string_outline.StringOutline.the-varian
 -- a Length and a hash's length, side by side as one number of 64 bits
 abbrev pub IsHead : ℕ → Type 0
 IsHead h = (isSize (h / 4294967296) ≡ true) × (h % 4294967296 ≡ hashLength)
+
+-- the number that text is refused with as a name, 0 where it is one
+abbrev pub nameFault : List ℕ → ℕ
+nameFault l = cond (leb 1 (length l)) (cond (isPath l) 0 24) 8
+
+-- a name's byte may stand before another: it isn't zero, and no slash before a dot or a slash
+pub record Before (b c : ℕ) : Type 0 where
+  pub some : b ≡ 0 → ⊥
+  pub plain : b ≡ 47 → (c ≡ 46 → ⊥) × (c ≡ 47 → ⊥)
+
+-- each of the first so many bytes may stand before the next
+abbrev pub Smooth : List ℕ → ℕ → Type 0
+Smooth s n = (i : ℕ) → i < n → Before (getD s i 0) (getD s (i + 1) 0)
 
 -- so many blocks from a place on are there, and each begins as it has to
 abbrev pub SoundBlocks : List ℕ → (first n : ℕ) → Type 0

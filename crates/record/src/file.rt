@@ -8,6 +8,7 @@ use crate::array::Array;
 use crate::block::read_blocks;
 use crate::limits::FLAGS_BOUND;
 use crate::limits::NAME_LIMIT;
+use crate::name::name_fault;
 use xdr::Bytes;
 use xdr::Hyper;
 use xdr::Refusal;
@@ -75,9 +76,11 @@ pub fn read_name(s: &[u8], at: usize) -> Bytes
     let Bytes::Taken(n, next) = answer else {
         return Bytes::Refused(answer.refusal());
     };
-    if n == 0 {
+    let start = at + 4;
+    let fault = name_fault(&s[start..start + n]);
+    if fault != 0 {
         return Bytes::Refused(Refusal {
-            number: 8,
+            number: fault,
             place: at,
         });
     }

@@ -29,8 +29,8 @@ pub fn two(out: &mut [u8], name: u32, modified: u64, version: u32, other: u32, a
 // The record of a number, in a table that begins with the record of another.
 fn put_numbered(out: &mut [u8], first: u32, n: u32) {
     if first <= n {
-        // two bytes of seven bits each, so that the name is sound text
-        let name = (n / 128) << 16 | n % 128;
+        // "aaaa" and, in its last three letters, the digits to the base 16
+        let name = 0x61616161 + n / 256 % 16 * 65536 + n / 16 % 16 * 256 + n % 16;
         put_record(out, 4 + 28 * ((n - first) as usize), name, 0, 0);
     }
 }
@@ -49,13 +49,13 @@ fn put_all(out: &mut [u8], first: u32, last: u32) {
     }
 }
 
-// A table of one record of so many blocks, whose name is one letter and zeros.
-pub fn one(out: &mut [u8], letter: u32, length: u32, blocks: u32) {
-    if letter < 128 && length < 256 {
+// A table of one record of so many blocks, whose name is one letter up to 41 times.
+pub fn one(out: &mut [u8], letter: u8, length: usize, blocks: u32) {
+    let name = [letter; 41];
+    if length <= 41 {
         xdr::put_word(out, 0, 1);
-        xdr::put_word(out, 4, length);
-        xdr::put_word(out, 8, letter * 16777216);
-        let rest = 8 + (length as usize + 3) / 4 * 4;
+        xdr::put_bytes(out, 4, &name[0..length]);
+        let rest = 8 + (length + 3) / 4 * 4;
         put_rest(out, rest, 0, 0, 0, blocks);
         put_blocks(out, rest + 20, blocks);
     }

@@ -7,6 +7,8 @@ use crate::reference::*;
 
 #[path = "../../tests/reference/fields.rs"]
 mod fields;
+#[path = "../../tests/reference/names.rs"]
+mod names;
 #[path = "../../tests/reference/read.rs"]
 mod read;
 #[path = "../../tests/reference/records.rs"]

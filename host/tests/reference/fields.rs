@@ -1,5 +1,6 @@
 //! Single fields: words, strings, opaques, hashes.
 
+use super::names::is_plain_path;
 use super::text::is_text;
 use super::{Refusal, Span, HASH_LEN};
 
@@ -80,21 +81,19 @@ impl<'a> Reader<'a> {
     /// A string: an opaque that follows the text rule.
     #[inline]
     pub fn string(&mut self, limit: u32) -> Result<Span, Refusal> {
-        let place = self.place();
-        let (span, bytes) = self.padded(limit)?;
-        if !is_text(bytes) {
-            return Err(Refusal::new(7, place));
-        }
-        Ok(span)
+        self.text(limit).map(|(span, _)| span)
     }
 
-    /// A string that isn't empty.
+    /// A string that isn't empty and is a plain path.
     #[inline]
     pub fn name(&mut self, limit: u32) -> Result<Span, Refusal> {
         let place = self.place();
-        let span = self.string(limit)?;
-        if span.len == 0 {
+        let (span, bytes) = self.text(limit)?;
+        if bytes.is_empty() {
             return Err(Refusal::new(8, place));
+        }
+        if !is_plain_path(bytes) {
+            return Err(Refusal::new(24, place));
         }
         Ok(span)
     }
@@ -117,6 +116,18 @@ impl<'a> Reader<'a> {
         }
     }
 
+    /// Span and contents of a string.
+    #[inline]
+    fn text(&mut self, limit: u32) -> Result<(Span, &'a [u8]), Refusal> {
+        let place = self.place();
+        let (span, bytes) = self.padded(limit)?;
+        if !is_text(bytes) {
+            return Err(Refusal::new(7, place));
+        }
+        Ok((span, bytes))
+    }
+
+    /// Span and contents of an opaque.
     #[inline]
     fn padded(&mut self, limit: u32) -> Result<(Span, &'a [u8]), Refusal> {
         let place = self.place();

@@ -8,6 +8,7 @@
 
 mod fields;
 pub mod hashed;
+mod names;
 mod queue;
 mod read;
 mod records;
@@ -16,6 +17,7 @@ mod text;
 mod want;
 mod write;
 
+pub use names::is_plain_path;
 pub use queue::{Answered, Outcome, Queue, Request as Outstanding};
 pub use read::{read, Body, Message};
 pub use records::{file_at, file_or_missing, option_at, option_or_missing, File, KeyValue};

@@ -4,6 +4,7 @@
 //! after that it writes, so a refusal leaves the buffer as it was.
 
 use super::fields::Reader;
+use super::names::is_plain_path;
 use super::text::is_text;
 use super::{
     records, Refusal, HASH_LEN, INDEX, INDEX_UPDATE, MAX_DATA, MAX_ID, MAX_NAME, MAX_REPOSITORY,
@@ -62,10 +63,7 @@ pub fn write_request(
     let header = header(REQUEST, id)?;
     check_string(repository, MAX_REPOSITORY, HEADER_LEN)?;
     let name_place = HEADER_LEN + opaque_len(repository);
-    check_string(name, MAX_NAME, name_place)?;
-    if name.is_empty() {
-        return Err(Refusal::new(8, name_place));
-    }
+    check_name(name, name_place)?;
     let length_place = name_place + opaque_len(name) + 8;
     if !records::is_block_length(length) {
         return Err(Refusal::new(10, length_place));
@@ -138,6 +136,18 @@ fn check_string(bytes: &[u8], limit: u32, place: usize) -> Result<(), Refusal> {
     }
     if !is_text(bytes) {
         return Err(Refusal::new(7, place));
+    }
+    Ok(())
+}
+
+/// Checks a Name that would stand at `place`.
+fn check_name(name: &[u8], place: usize) -> Result<(), Refusal> {
+    check_string(name, MAX_NAME, place)?;
+    if name.is_empty() {
+        return Err(Refusal::new(8, place));
+    }
+    if !is_plain_path(name) {
+        return Err(Refusal::new(24, place));
     }
     Ok(())
 }

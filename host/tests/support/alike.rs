@@ -97,7 +97,7 @@ pub fn five(random: &mut Random) -> [Vec<File>; 5] {
 
 /// Names that are prefixes of each other.
 fn names(random: &mut Random, count: usize) -> Vec<Vec<u8>> {
-    let text: Vec<u8> = (0..count).map(|_| random.pick(b"ab\0")).collect();
+    let text: Vec<u8> = (0..count).map(|_| random.pick(b"ab\x01")).collect();
     (1..=count).map(|len| text[..len].to_vec()).collect()
 }
 

@@ -3,6 +3,7 @@
 use super::draft::{Body, Draft};
 use super::encode::{Encoding, Field, What};
 use super::generate;
+use super::names;
 use super::random::Random;
 use super::text;
 
@@ -81,6 +82,7 @@ fn in_field(bytes: &mut [u8], what: What, random: &mut Random) {
             bytes.copy_from_slice(&random.pick(&near).to_be_bytes());
         }
         What::Text => text::damage(bytes, random),
+        What::Name => name(bytes, random),
         What::Pad => bytes[at] = random.pick(&[1, 0x80, 0xFF]),
         What::Flags => {
             let word = u32::from_be_bytes(bytes.try_into().unwrap());
@@ -109,6 +111,14 @@ fn in_field(bytes: &mut [u8], what: What, random: &mut Random) {
     }
 }
 
+/// Breaks the text of a name that isn't empty, or leaves it text that may or may not be a name.
+fn name(bytes: &mut [u8], random: &mut Random) {
+    match random.once_in(2) {
+        true => text::damage(bytes, random),
+        false => names::damage(bytes, random),
+    }
+}
+
 /// Damages what a writer is given: one or two fields.
 pub fn draft(draft: &mut Draft, random: &mut Random) {
     for _ in 0..random.pick(&[1, 1, 2]) {
@@ -131,11 +141,12 @@ pub fn draft(draft: &mut Draft, random: &mut Random) {
                 offset,
                 length,
                 hash,
-            } => match random.below(5) {
+            } => match random.below(6) {
                 0 => string(repository, 64, random),
                 1 => string(name, 255, random),
-                2 => *offset = random.next(),
-                3 => *length = random.pick(&[0, 1, 131_072, 131_073, u32::MAX]),
+                2 => names::spoil(name, random),
+                3 => *offset = random.next(),
+                4 => *length = random.pick(&[0, 1, 131_072, 131_073, u32::MAX]),
                 _ => hash.resize(random.pick(&[0, 28, 31, 32, 33, 36, 64, 300]), 7),
             },
             Body::Response { data } => {

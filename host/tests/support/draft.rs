@@ -68,7 +68,7 @@ impl Draft {
             } => {
                 encoding
                     .string(repository, 64)
-                    .string(name, 255)
+                    .name(name)
                     .offset(*offset)
                     .block_length(*length)
                     .hash(hash);

@@ -11,6 +11,8 @@ pub enum What {
     Count(u32),
     /// The contents of a string.
     Text,
+    /// The contents of a Name.
+    Name,
     Pad,
     Flags,
     /// Modified, Version, Offset, Data and hashes, where any bytes will do.
@@ -80,6 +82,10 @@ impl Encoding {
         self.padded(What::Text, bytes, limit)
     }
 
+    pub fn name(&mut self, bytes: &[u8]) -> &mut Self {
+        self.padded(What::Name, bytes, 255)
+    }
+
     pub fn data(&mut self, bytes: &[u8], limit: u32) -> &mut Self {
         self.padded(What::Free, bytes, limit)
     }
@@ -109,7 +115,7 @@ impl Encoding {
     }
 
     pub fn file(&mut self, file: &File) -> &mut Self {
-        self.string(&file.name, 255)
+        self.name(&file.name)
             .word(What::Flags, file.flags)
             .put(What::Free, &file.modified.to_be_bytes())
             .word(What::Free, file.version)

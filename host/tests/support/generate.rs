@@ -2,6 +2,7 @@
 
 use super::draft::{Body, Draft};
 use super::encode::{Block, Encoding, File};
+use super::names::mend;
 use super::random::Random;
 use super::text::character;
 
@@ -141,12 +142,14 @@ fn options(random: &mut Random) -> Encoding {
     encoding
 }
 
-fn name(random: &mut Random) -> Vec<u8> {
-    let name = text(random, 255);
-    match name.is_empty() {
-        true => b"x".to_vec(),
-        false => name,
+/// A name that keeps all rules.
+pub fn name(random: &mut Random) -> Vec<u8> {
+    let mut name = text(random, 255);
+    if name.is_empty() {
+        name.push(b'a' + random.below(4) as u8);
     }
+    mend(&mut name);
+    name
 }
 
 /// A string of at most `limit` bytes that follows the text rule, in ASCII or with other characters.

@@ -11,6 +11,7 @@ pub mod draft;
 pub mod encode;
 pub mod generate;
 pub mod library;
+pub mod names;
 pub mod queue_calls;
 pub mod random;
 pub mod table_calls;

@@ -2,7 +2,8 @@
 
 use super::damage;
 use super::encode::{Block, Encoding, File};
-use super::generate::{block, draft, small_file, text};
+use super::generate::{block, draft, name, small_file};
+use super::names::spoil;
 use super::random::Random;
 use std::collections::BTreeMap;
 
@@ -18,7 +19,7 @@ impl Pool {
         let mut names: Vec<_> = (0..count).map(|_| name(random)).collect();
         // A name and one that it is a proper prefix of.
         let mut longer = random.pick_from(&names).clone();
-        longer.push(random.pick(&[0, b'a', b'z']));
+        longer.push(random.pick(&[1, b'a', b'z']));
         longer.truncate(255);
         names.push(longer);
         Pool {
@@ -63,13 +64,22 @@ impl Pool {
     /// A table, good three times in four.
     pub fn table(&self, random: &mut Random) -> Vec<u8> {
         let mut files = self.files(random);
-        if random.once_in(20) && files.len() > 1 {
-            // Names that don't rise.
-            let at = random.below(files.len() - 1);
-            match random.once_in(2) {
-                true => files.swap(at, at + 1),
-                false => files[at].name = files[at + 1].name.clone(),
+        match random.below(20) {
+            0 if files.len() > 1 => {
+                // Names that don't rise.
+                let at = random.below(files.len() - 1);
+                match random.once_in(2) {
+                    true => files.swap(at, at + 1),
+                    false => files[at].name = files[at + 1].name.clone(),
+                }
             }
+            1 if !files.is_empty() => {
+                // Names that rise, but one of them is no plain path.
+                let at = random.below(files.len());
+                spoil(&mut files[at].name, random);
+                files = sorted(files);
+            }
+            _ => {}
         }
         let mut table = Encoding::new();
         table.files(&files);
@@ -123,14 +133,6 @@ impl Pool {
             damage::encoding(&mut message, random);
         }
         message.bytes
-    }
-}
-
-fn name(random: &mut Random) -> Vec<u8> {
-    let name = text(random, 255);
-    match name.is_empty() {
-        true => vec![b'a' + random.below(4) as u8],
-        false => name,
     }
 }
 

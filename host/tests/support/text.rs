@@ -17,7 +17,7 @@ pub fn character(random: &mut Random) -> char {
             &[0x1_0000, 0x3_FFFF, 0x4_0000, 0xF_FFFF, 0x10_0000, 0x10_FFFF],
             0x1_0000..0x11_0000,
         ),
-        4 => random.pick(&['\0', '/', '\x7F']),
+        4 => random.pick(&['\0', '/', '.', '\x7F']),
         _ => char::from(b'a' + random.below(26) as u8),
     }
 }

@@ -14,6 +14,7 @@ use Rattle.xdr.proofs.Steps.{Reads, answered, first-refused, both-read, via-ref
 use Rattle.xdr.proofs.Strings.{string-ends}
 use Rattle.record.specs.Block.{size, hash}
 use Rattle.record.specs.File.{name}
+use Rattle.record.proofs.NameSteps.{name-string}
 use Rattle.message.specs.Message.{isRequest, repository}
 use Rattle.message.specs.Answers.{span, bodyAnswer}
 use Rattle.message.specs.declared.answer.Message.the-variants as M
@@ -55,7 +56,7 @@ places : (c : tie.After-known-told4)
     × (c .before .length .given .0 .1 .0 + 4 ≡ 8 + padded (length r) + 4 + padded (length n) + 16)
 places c =
     let r = string-ends (passed (repository-read (to-repository (to-name (to-offset c))) .1)) in
-    let n = string-ends (passed (passed (name-read (to-name (to-offset c)) .1))) in
+    let n = string-ends (name-string (name-read (to-name (to-offset c)) .1)) in
     let o = ends-word (offset-read (to-offset c)) .0 in
     let l = ends-word (passed (size-read c)) .0 in
     (r, omega (arith, r, n, o, l))

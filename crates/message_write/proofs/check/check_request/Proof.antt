@@ -17,6 +17,7 @@ use Rattle.message_write.proofs.Behind.{behind, checks, last-at, string
 use borrow.Author.Tests.{not-true, not-false, eqb-true}
 use Rattle.record.specs.Block.{hash}
 use Rattle.record.specs.File.{name}
+use Rattle.record.proofs.NameSteps.{name-string}
 use Rattle.xdr.proofs.EncodedSize.{number-size}
 use Rattle.message.specs.Message.{repository}
 use Rattle.message_write.specs.Writing.{requestBytes}
@@ -43,7 +44,7 @@ name-read : (c : tie.After-known-told2)
 name-read c = bytes-taken (c .before .before .before .check-name .ensures) (c .before .second .given .1)
 
 name-size : (c : tie.After-known-told2) → let l = now (c .before .before .before .before .before .before .before .before .before .before .before .args .name) in (c .before .second .given .0 .1 .0 ≡ 4 + padded (length l)) × (length l ≤ 255)
-name-size c = string-taken (now (c .before .before .before .before .before .before .before .before .before .before .before .args .name)) (passed (passed (name-read c .1)))
+name-size c = string-taken (now (c .before .before .before .before .before .before .before .before .before .before .before .args .name)) (name-string (name-read c .1))
 
 -- the bytes up to a field, and how many they are
 abbrev to-name : tie.After-known-told → List ℕ

@@ -19,6 +19,7 @@ use Rattle.record.specs.File.{name, flags, isDeleted}
 use Rattle.record.specs.declared.file.FileRead.the-variants as F
 use Rattle.record.proofs.Answered.{array-taken, array-refused}
 use Rattle.record.proofs.Arrays.{part-of}
+use Rattle.record.proofs.NameSteps.{name-string}
 use borrow.Author.Needs.{needs}
 use Rattle.record.proofs.file.read_file.Statement.{statement}
 use Rattle.record.proofs.file.read_file.Tie as tie
@@ -59,7 +60,7 @@ version-read c = word-taken (c .before .before .before .read-word .ensures) (c .
 -- the place of the block count, by the name's length
 count-place : (c : tie.After-known-told4) → c .before .version .given .0 .1 .0 + 4 ≡ 4 + padded (length (name-read (to-name (to-flags (to-modified c))) .0)) + 20
 count-place c =
-    let n = string-ends (passed (passed (name-read (to-name (to-flags (to-modified c))) .1))) in
+    let n = string-ends (name-string (name-read (to-name (to-flags (to-modified c))) .1)) in
     let f = ends-word (passed (flags-read (to-flags (to-modified c)))) .0 in
     let m = ends-word (modified-read (to-modified c)) .0 in
     let v = ends-word (version-read c) .0 in
