@@ -1,5 +1,6 @@
 /*
- * Shows the message in a file, one field a line, or `refused NUMBER at PLACE: MEANING`.
+ * Shows the message in a file, one field a line, or `refused NUMBER at PLACE: MEANING`. For a bad
+ * byte in a string or its pad a second line has the byte and those before it.
  *
  *   cc -std=c99 -Wall -Wextra -Werror -Iinclude examples/show.c PATH/libbep.a -o show
  *   ./show sample.bin
@@ -79,6 +80,15 @@ static void show_options(const uint8_t *options, size_t options_len, uint64_t co
     }
 }
 
+/* The byte at a place, after some by which it is found in a dump. */
+static void show_byte(const uint8_t *input, uint64_t place)
+{
+    printf("byte %02x after", (unsigned)input[place]);
+    for (uint64_t i = place < 8 ? 0 : place - 8; i < place; i++)
+        printf(" %02x", (unsigned)input[i]);
+    putchar('\n');
+}
+
 static void show_message(const uint8_t *input, size_t input_len)
 {
     uint64_t answer[BEP_READ_WORDS];
@@ -87,6 +97,8 @@ static void show_message(const uint8_t *input, size_t input_len)
     if (number != BEP_ACCEPTED) {
         printf("refused %" PRIu32 " at %" PRIu64 ": %s\n", number, answer[BEP_PLACE],
                bep_refusal_text(number));
+        if (number == BEP_REFUSED_PAD || number == BEP_REFUSED_TEXT)
+            show_byte(input, answer[BEP_PLACE]);
         return;
     }
     printf("type %s\n", type_names[answer[BEP_READ_TYPE]]);

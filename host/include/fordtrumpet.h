@@ -11,9 +11,9 @@
  * whole answer; an enum before the function names the answer's words. A refusal comes with a place,
  * answer[BEP_PLACE]: the first byte of the field at fault, counted from the start of the message
  * that was read or would have been written. The header word is one field; the place of a string or
- * opaque is its length word; the place of a field that isn't there is where it would begin. A
- * refused call leaves the lent buffer as it was. An accepted one changes only its first bytes, as
- * many as it reports.
+ * opaque is its length word, but for 6 and 7 that of the bad byte; the place of a field that isn't
+ * there is where it would begin. A refused call leaves the lent buffer as it was. An accepted one
+ * changes only its first bytes, as many as it reports.
  *
  * Strings. A Repository, Name, Key or Value that was read is UTF-8 (RFC 3629). It has no zero byte
  * after it, and all but a Name may have some inside. A Name is a plain path below its folder: parts
@@ -59,9 +59,10 @@ enum {
     /* a length or count is above its limit; in writing, first of all, a Message ID above 4095
        (place 0) */
     BEP_REFUSED_ABOVE_LIMIT = 5,
-    /* a pad byte isn't zero */
+    /* a pad byte isn't zero (the place is that of the first such byte) */
     BEP_REFUSED_PAD = 6,
-    /* text rule broken: a string isn't UTF-8 (RFC 3629) */
+    /* text rule broken: a string isn't UTF-8 (RFC 3629) (the place is where the first sequence that
+       breaks it begins: a byte that can't lead, or the lead of what is broken or cut off) */
     BEP_REFUSED_TEXT = 7,
     /* empty Name */
     BEP_REFUSED_EMPTY_NAME = 8,

@@ -9,15 +9,16 @@ use std::io;
 ///
 /// The cases up to 13, and 24, hold the place: the first byte of the field at fault, counted from the start of
 /// the message that was read or would have been written; of a string or opaque it is the length word.
-/// A refused call leaves every lent buffer as it was.
+/// [`Pad`](Refusal::Pad) and [`Text`](Refusal::Text) hold the place of the bad byte itself. A refused call
+/// leaves every lent buffer as it was.
 ///
 /// ```
 /// use fordtrumpet::Refusal;
 ///
 /// let refusal = fordtrumpet::read(&[0, 1, 1, 0, 0, 0, 0, 1, b'a', 0, 0, 1]).unwrap_err();
-/// assert_eq!(refusal, Refusal::Pad(4));
-/// assert_eq!((refusal.number(), refusal.place()), (6, 4));
-/// assert_eq!(refusal.to_string(), "a pad byte isn't zero (6), at byte 4");
+/// assert_eq!(refusal, Refusal::Pad(11));
+/// assert_eq!((refusal.number(), refusal.place()), (6, 11));
+/// assert_eq!(refusal.to_string(), "a pad byte isn't zero (6), at byte 11");
 /// ```
 #[derive(Clone, Copy, Debug, PartialEq, Eq, Hash)]
 #[non_exhaustive]
@@ -32,9 +33,22 @@ pub enum Refusal {
     Reserved(usize),
     /// 5: a length or count is above its limit, or a Message ID above 4095.
     AboveLimit(usize),
-    /// 6: a pad byte isn't zero.
+    /// 6: a pad byte isn't zero. The place is that of the first such byte.
     Pad(usize),
-    /// 7: a string isn't UTF-8.
+    /// 7: a string isn't UTF-8. The place is where the first sequence that breaks it begins: a byte that
+    /// can't lead, or the lead of what is broken or cut off. In the string that is
+    /// [`Utf8Error::valid_up_to`](core::str::Utf8Error::valid_up_to).
+    ///
+    /// ```
+    /// use fordtrumpet::{read, Refusal};
+    ///
+    /// // An Index whose Repository, from byte 8 on, is `clips`, then a slash in another spelling.
+    /// let input = b"\0\x01\x01\0\0\0\0\x08clips\xC0\xAFa\0\0\0\0";
+    /// let Err(Refusal::Text(place)) = read(input) else { panic!() };
+    /// assert_eq!((place, input[place]), (13, 0xC0));
+    /// let error = std::str::from_utf8(&input[8..16]).unwrap_err();
+    /// assert_eq!(place, 8 + error.valid_up_to());
+    /// ```
     Text(usize),
     /// 8: the Name is empty.
     EmptyName(usize),
@@ -156,7 +170,7 @@ impl Refusal {
         self.parts().0
     }
 
-    /// Where the field at fault begins; 0 for the numbers 14 to 22.
+    /// Where the field at fault begins, for 6 and 7 where the bad byte is; 0 for the numbers 14 to 22.
     ///
     /// ```
     /// use fordtrumpet::Refusal;

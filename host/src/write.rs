@@ -118,10 +118,10 @@ pub fn write_index_update(
 /// let refusal = write_request(7, "default", "", 0, 5, &[0xAB; 32], &mut out).unwrap_err();
 /// assert_eq!((refusal.number(), refusal.place()), (8, 16));
 ///
-/// // A slash in another spelling isn't UTF-8.
+/// // A slash in another spelling isn't UTF-8. The place is that of its first byte.
 /// let name = b"notes\xC0\xAFa.txt";
 /// let written = write_request(7, "default", name, 0, 5, &[0xAB; 32], &mut out);
-/// assert_eq!(written, Err(Refusal::Text(16)));
+/// assert_eq!(written, Err(Refusal::Text(25)));
 ///
 /// // A name that leads out of its folder.
 /// let written = write_request(7, "default", "../a.txt", 0, 5, &[0xAB; 32], &mut out);

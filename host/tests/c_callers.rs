@@ -152,6 +152,16 @@ fn the_c_example_shows_messages() {
         show(&program, &request.bytes),
         "refused 24 at 8: the Name isn't a plain path below its folder\n"
     );
+    let mut index = Encoding::new();
+    index.header(1, 9).string(b"clips\xC0\xAFa", 64);
+    assert_eq!(
+        show(&program, &index.bytes),
+        "refused 7 at 13: a string isn't UTF-8\nbyte c0 after 00 00 08 63 6c 69 70 73\n"
+    );
+    assert_eq!(
+        show(&program, &[0, 1, 1, 0, 0, 0, 0, 1, b'a', 0, 0, 1]),
+        "refused 6 at 11: a pad byte isn't zero\nbyte 01 after 00 00 00 00 01 61 00 00\n"
+    );
 }
 
 #[test]

@@ -10,7 +10,9 @@ use support::compare::read_words;
 use support::draft::{Body, Draft};
 use support::encode::{Encoding, File};
 use support::library::{Answer as Words, LIBRARY};
-use support::queue_calls::{queue_of, words_of, Wanted, Words as Queue, QUEUE_CALLS};
+use support::queue_calls::{
+    answered_words, queue_of, words_of, Wanted, Words as Queue, QUEUE_CALLS,
+};
 use support::table_calls::{expected, TABLE_CALLS};
 
 /// What a call answers.
@@ -19,6 +21,9 @@ enum Answer {
     Yes,
     No,
     Served,
+    Data,
+    NotAvailable,
+    WrongSize,
     /// A message's type, ID and number of bytes.
     Read(u64, u64, u64),
     /// What a lent buffer was filled with.
@@ -36,6 +41,9 @@ impl fmt::Display for Answer {
             Answer::Yes => f.write_str("yes"),
             Answer::No => f.write_str("no"),
             Answer::Served => f.write_str("served"),
+            Answer::Data => f.write_str("data"),
+            Answer::NotAvailable => f.write_str("none"),
+            Answer::WrongSize => f.write_str("size"),
             Answer::Read(kind, id, end) => write!(f, "yes {kind} {id} {end}"),
             Answer::Filled(bytes) => {
                 f.write_str("yes ")?;
@@ -53,12 +61,40 @@ fn answer(words: &[&str]) -> Result<Answer, String> {
         ["yes"] => Answer::Yes,
         ["no"] => Answer::No,
         ["served"] => Answer::Served,
+        ["data"] => Answer::Data,
+        ["none"] => Answer::NotAvailable,
+        ["size"] => Answer::WrongSize,
         ["yes", filled] => Answer::Filled(bytes(filled)?),
         ["yes", kind, id, end] => Answer::Read(number(kind)?, number(id)?, number(end)?),
         ["no", refusal, place] => Answer::Refused(number(refusal)?, number(place)?),
         ["no", refusal] => Answer::RefusedWith(number(refusal)?),
         _ => return Err("no answer that is known".to_string()),
     })
+}
+
+/// Where 6 and 7 have their place in a file.
+#[derive(Clone, Copy, PartialEq, Eq)]
+enum Places {
+    /// At the bad byte.
+    BadByte,
+    /// At the length word, as before request §5. Such a file tells the number and which string is at fault;
+    /// at which of its bytes is told by `bad_byte.txt`.
+    LengthWord,
+}
+
+impl Places {
+    /// Whether an answer is the one that a file of such places asks for.
+    fn agree(self, answer: &Answer, expected: &Answer) -> bool {
+        match (answer, expected) {
+            (&Answer::Refused(number @ (6 | 7), place), &Answer::Refused(asked, word))
+                if self == Places::LengthWord =>
+            {
+                // No string has more than 256 bytes with its pad.
+                number == asked && (word + 4..word + 4 + 256).contains(&place)
+            }
+            _ => answer == expected,
+        }
+    }
 }
 
 /// A call that is given three slices and a buffer.
@@ -77,6 +113,7 @@ struct Side {
     /// Table, repository, message, buffer. Where the Request is served it fills none.
     serve: OfThree,
     issue: fn(&mut Queue, &Wanted, &mut [u8]) -> Words<2>,
+    answer: fn(&mut Queue, &[u8]) -> Words<5>,
 }
 
 const SIDES: [Side; 2] = [
@@ -99,6 +136,7 @@ const SIDES: [Side; 2] = [
             Err(refusal) => (refusal.number(), [refusal.place() as u64]),
         },
         issue: QUEUE_CALLS.issue,
+        answer: QUEUE_CALLS.answer,
     },
     Side {
         name: "reference",
@@ -118,6 +156,12 @@ const SIDES: [Side; 2] = [
             }))
         },
         issue: issue_by_reference,
+        answer: |words, message| {
+            let mut queue = queue_of(words);
+            let answered = answered_words(queue.answer(message));
+            *words = words_of(&queue);
+            answered
+        },
     },
 ];
 
@@ -174,6 +218,7 @@ impl Side {
             ["issue", ref fields @ .., room] => {
                 self.issue(body("write-request", fields)?, number(room)?)
             }
+            ["answer", message] => self.answer(&bytes(message)?),
             _ => Err("no call that is known".to_string()),
         }
     }
@@ -181,14 +226,15 @@ impl Side {
     /// Whether a string may have these contents: as the Value of an option, read and written.
     fn text(&self, contents: Vec<u8>) -> Result<Answer, String> {
         let mut options = Encoding::new();
-        options.options(&[(Vec::new(), contents)]);
+        options.options(&[(Vec::new(), contents.clone())]);
         let body = Body::Options { options };
         let draft = Draft { id: 0, body };
         let message = draft.encode().bytes;
-        match (self.read(&message), self.write(&draft, message.len())?) {
-            (Answer::Read(..), Answer::Filled(_)) => Ok(Answer::Yes),
-            (Answer::Refused(7, 12), Answer::Refused(7, 12)) => Ok(Answer::No),
-            (read, written) => Err(format!("read {read}, written {written}")),
+        let answers = [self.read(&message), self.write(&draft, message.len())?];
+        match answers.map(|answer| without_place(answer, 12, &contents)) {
+            [Ok(Answer::Yes), Ok(Answer::Yes)] => Ok(Answer::Yes),
+            [Ok(Answer::RefusedWith(7)), Ok(Answer::RefusedWith(7))] => Ok(Answer::No),
+            [read, written] => Err(format!("read {read:?}, written {written:?}")),
         }
     }
 
@@ -200,10 +246,10 @@ impl Side {
         for (draft, place) in [(&index, 12), (&update, 12), (&request, 8)] {
             let message = draft.encode().bytes;
             for answer in [self.read(&message), self.write(draft, message.len())?] {
-                answers.push(without_place(answer, place)?);
+                answers.push(without_place(answer, place, contents)?);
             }
         }
-        let answer = without_place(self.issue(request.body, 400)?, 8)?;
+        let answer = without_place(self.issue(request.body, 400)?, 8, contents)?;
         if answers.iter().any(|other| *other != answer) {
             return Err(format!("issued {answer}, and otherwise {answers:?}"));
         }
@@ -272,6 +318,29 @@ impl Side {
         }
     }
 
+    /// Answers at a queue with one request, of ID 0 and Length 5. It is released, or where the answer is
+    /// refused the queue must stay as it was.
+    fn answer(&self, message: &[u8]) -> Result<Answer, String> {
+        let mut before = words_of(&reference::Queue::open(16).0);
+        // The next ID, the number of requests, and the first one's ID and Length.
+        before[1..5].copy_from_slice(&[1, 1, 0, 5]);
+        let mut queue = before;
+        let answer = match (self.answer)(&mut queue, message) {
+            (0, [0, ..]) => Answer::Data,
+            (0, [1, ..]) => Answer::NotAvailable,
+            (0, [..]) => Answer::WrongSize,
+            (number, [place, ..]) => Answer::Refused(number, place),
+        };
+        let left = match answer {
+            Answer::Refused(..) => 1,
+            _ => 0,
+        };
+        match (queue[2] == left, queue == before) {
+            (true, same) if same == (left == 1) => Ok(answer),
+            _ => Err(format!("{answer}, but the queue is {queue:?}")),
+        }
+    }
+
     /// Whether these bytes are a good table: no call that is given them as a table gives 15, or each.
     fn good(&self, table: &[u8]) -> Result<Answer, String> {
         const EMPTY: &[u8] = &[0; 4];
@@ -329,8 +398,13 @@ fn with_name(name: &[u8]) -> [Draft; 3] {
     [index(false), index(true), request].map(|body| Draft { id: 0, body })
 }
 
-/// What an answer says of a field at this place.
-fn without_place(answer: Answer, place: u64) -> Result<Answer, String> {
+/// What an answer says of a string with these contents whose length word stands at this place. 7 has the
+/// place of the first byte that isn't text.
+fn without_place(answer: Answer, word: u64, contents: &[u8]) -> Result<Answer, String> {
+    let place = match (&answer, std::str::from_utf8(contents)) {
+        (Answer::Refused(7, _), Err(error)) => word + 4 + error.valid_up_to() as u64,
+        _ => word,
+    };
     match answer {
         Answer::Read(..) | Answer::Filled(_) => Ok(Answer::Yes),
         Answer::Refused(number, at) if at == place => Ok(Answer::RefusedWith(number)),
@@ -385,12 +459,12 @@ fn fill(room: usize, call: impl FnOnce(&mut [u8]) -> Words<1>) -> Result<Answer,
 
 /// Runs a case by both sides and gives whether they answer so, as they must unless it is open. An error
 /// names the line.
-fn run(case: &Case) -> Result<bool, String> {
+fn run(case: &Case, places: Places) -> Result<bool, String> {
     let told = |why: String| format!("{}\n{why}", case.line);
     let expected = answer(&case.answer).map_err(told)?;
     for side in SIDES {
         let answer = side.run(&case.given).map_err(told)?;
-        if answer != expected {
+        if !places.agree(&answer, &expected) {
             return match case.open {
                 true => Ok(false),
                 false => Err(told(format!("the {} answers: {answer}", side.name))),
@@ -402,11 +476,11 @@ fn run(case: &Case) -> Result<bool, String> {
 
 /// Runs a file and gives how many cases it has, and how many open ones got another answer; or an error
 /// for each that fails.
-fn run_file(file: &str) -> Result<(usize, usize), String> {
+fn run_file(file: &str, places: Places) -> Result<(usize, usize), String> {
     let (mut count, mut otherwise, mut failed) = (0, 0, Vec::new());
     for case in cases(file) {
         count += 1;
-        match case.and_then(|case| run(&case)) {
+        match case.and_then(|case| run(&case, places)) {
             Ok(so) => otherwise += usize::from(!so),
             Err(why) => failed.push(why),
         }
@@ -419,8 +493,8 @@ fn run_file(file: &str) -> Result<(usize, usize), String> {
 
 /// Runs a file and says so even when the test passes.
 #[track_caller]
-fn check_file(name: &str, file: &str) {
-    match run_file(file) {
+fn check_file(name: &str, file: &str, places: Places) {
+    match run_file(file, places) {
         Ok((count, otherwise)) => {
             assert!(count > 0, "{name} has no cases");
             let text = format!(
@@ -434,18 +508,57 @@ fn check_file(name: &str, file: &str) {
 
 #[test]
 fn utf8() {
-    check_file("utf8.txt", include_str!("cases/utf8.txt"));
+    let file = include_str!("cases/utf8.txt");
+    check_file("utf8.txt", file, Places::LengthWord);
 }
 
 #[test]
 fn names() {
-    check_file("names.txt", include_str!("cases/names.txt"));
+    let file = include_str!("cases/names.txt");
+    check_file("names.txt", file, Places::LengthWord);
+}
+
+#[test]
+fn bad_byte() {
+    let file = include_str!("cases/bad_byte.txt");
+    check_file("bad_byte.txt", file, Places::BadByte);
+}
+
+#[test]
+fn in_a_file_from_before_the_bad_byte_its_string_counts() {
+    // The pad byte at 15, and the lead at 13, of the string whose length word stands at 8.
+    for (given, number, place) in [
+        ("read 00000700.00000001.00000003.6b6b6b07", 6, 15),
+        ("read 00000700.00000001.00000002.6bc20000", 7, 13),
+    ] {
+        let line = |number, place| format!("{given} = no {number} {place}\n");
+        assert_eq!(
+            run_file(&line(number, 8), Places::LengthWord),
+            Ok((1, 0)),
+            "{given}"
+        );
+        assert_eq!(
+            run_file(&line(number, place), Places::BadByte),
+            Ok((1, 0)),
+            "{given}"
+        );
+        for other in [4, 8, place - 1, place + 1] {
+            assert!(run_file(&line(number, other), Places::BadByte).is_err());
+        }
+        for other in [place - 3, place, place + 1] {
+            assert!(run_file(&line(number, other), Places::LengthWord).is_err());
+        }
+        assert!(run_file(&line(13 - number, 8), Places::LengthWord).is_err());
+    }
 }
 
 #[test]
 fn a_line_that_is_not_understood_or_has_another_answer_is_told() {
     assert_eq!(
-        run_file("# no case\n\ntext 61*3.c3a4 = yes # a comment\n"),
+        run_file(
+            "# no case\n\ntext 61*3.c3a4 = yes # a comment\n",
+            Places::BadByte
+        ),
         Ok((1, 0))
     );
     for line in [
@@ -480,14 +593,19 @@ fn a_line_that_is_not_understood_or_has_another_answer_is_told() {
         "name 61 = no 24",
         "issue - 612f 0 1 00*32 60 = no 24 12",
         "issue - 61 0 1 00*32 63 = no 24 8",
+        "answer 00000300.00000000 = data",
+        "answer 00000300.00000004.00000000 = none",
+        "answer 00010300.00000005.61626364.65000000 = size",
+        "answer 00000300.00000005.61626364.65000001 = no 6 4",
     ] {
         let file = format!("text 61 = yes\n{line}\ntext - = yes\n");
-        let told = run_file(&file).unwrap_err();
+        let told = run_file(&file, Places::BadByte).unwrap_err();
         assert!(told.starts_with(&format!("{line}\n")), "{told}");
     }
     // Where another answer may be right too, it is no fault.
-    assert_eq!(run_file("text c0af = yes # open\n"), Ok((1, 1)));
-    assert!(run_file("text c0af = yes # opened\n").is_err());
+    let open = "text c0af = yes # open\n";
+    assert_eq!(run_file(open, Places::BadByte), Ok((1, 1)));
+    assert!(run_file("text c0af = yes # opened\n", Places::BadByte).is_err());
 }
 
 #[test]

@@ -84,7 +84,7 @@ fn the_nine_known_messages() {
     reads(&[0, 0, 4], Err((1, 0)));
     let input = [0, 1, 1, 0, 0, 0, 0, 0, 0, 0, 0, 0];
     reads_as(&input, message(1, 12, empty_index));
-    reads(&[0, 1, 1, 0, 0, 0, 0, 1, 0x61, 0, 0, 1], Err((6, 4)));
+    reads(&[0, 1, 1, 0, 0, 0, 0, 1, 0x61, 0, 0, 1], Err((6, 11)));
     let response = Read::Response { data: NOTHING };
     reads_as(&[0, 2, 3, 0, 0, 0, 0, 0], message(2, 8, response));
 }
@@ -122,13 +122,13 @@ fn strings() {
     reads(&with_key(b"\0\0\0\x01a\0\0"), Err((1, 8)));
     // A missing pad byte comes before a wrong one, and both before the text.
     reads(&with_key(b"\0\0\0\x01\x80\x01\0"), Err((1, 8)));
-    reads(&with_key(b"\0\0\0\x01\x80\0\x01\0"), Err((6, 8)));
-    reads(&with_key(b"\0\0\0\x01\x80\0\0\0"), Err((7, 8)));
+    reads(&with_key(b"\0\0\0\x01\x80\0\x01\0"), Err((6, 14)));
+    reads(&with_key(b"\0\0\0\x01\x80\0\0\0"), Err((7, 12)));
     // An empty key is no fault, and the value comes next.
     reads(&with_key(b"\0\0\0\0"), Err((1, 12)));
     reads(&with_key(b"\0\0\0\0\0\0\x01\0"), Err((5, 12)));
-    reads(&with_key(b"\0\0\0\0\0\0\0\x02ab\0\x01"), Err((6, 12)));
-    reads(&with_key(b"\0\0\0\0\0\0\0\x02a\xC0\0\0"), Err((7, 12)));
+    reads(&with_key(b"\0\0\0\0\0\0\0\x02ab\0\x01"), Err((6, 19)));
+    reads(&with_key(b"\0\0\0\0\0\0\0\x02a\xC0\0\0"), Err((7, 17)));
     reads(&with_key(b"\0\0\0\0\0\0\0\0"), Ok(16));
 }
 
@@ -141,13 +141,14 @@ fn text() {
             .count(1, 64)
             .string(text, 64)
             .string(b"", 255);
-        let len = message.bytes.len();
         let read = reference::read(&message.bytes);
         assert_eq!((LIBRARY.read)(&message.bytes), read_words(&read));
         match read {
             Ok(_) => true,
             Err(refusal) => {
-                assert_eq!((refusal.number, refusal.place), (7, 8), "{len}");
+                let error = std::str::from_utf8(text).unwrap_err();
+                let place = 12 + error.valid_up_to();
+                assert_eq!((refusal.number, refusal.place), (7, place), "{text:x?}");
                 false
             }
         }
@@ -183,6 +184,49 @@ fn text() {
     assert!(!read(b"\xF0\x8F\xBF\xBF") && read(b"\xF0\x90\x80\x80"));
     assert!(read(b"\xF4\x8F\xBF\xBF") && !read(b"\xF4\x90\x80\x80"));
     assert!(read(b"\0"));
+}
+
+#[test]
+fn the_bad_byte_of_a_text() {
+    let refused_at = |text: &[u8], place| refused(&request(text, b"n", 1, 32), 7, place);
+    // A byte that can't lead, after nothing, a letter, and a whole sequence.
+    refused_at(b"\x80", 8);
+    refused_at(b"a\xC0\xAF", 9);
+    refused_at(b"\xC3\xA4\x80", 10);
+    refused_at(b"\xF0\x90\x80\x80\xF5", 12);
+    // The lead, whichever byte can't follow it.
+    refused_at(b"a\xC2a", 9);
+    refused_at(b"a\xE1\x80a", 9);
+    refused_at(b"a\xF1\x80\x80a", 9);
+    refused_at(b"a\xE0\x9F\x80", 9);
+    refused_at(b"a\xC2\xC2\x80", 9);
+    // The lead, also where the end cuts its sequence off.
+    refused_at(b"ab\xC2", 10);
+    refused_at(b"ab\xF1\x80\x80", 10);
+    // The first of several.
+    refused_at(b"a\xFF\xFE", 9);
+    refused_at(b"\xC2a\x80", 8);
+}
+
+#[test]
+fn the_bad_byte_of_a_pad() {
+    let response = |bytes: [u8; 4], len| {
+        let [a, b, c, d] = bytes;
+        [0, 2, 3, 0, 0, 0, 0, len, a, b, c, d]
+    };
+    for (bytes, len, place) in [
+        ([0xFF, 1, 0, 0], 1, 9),
+        ([0xFF, 0, 1, 0], 1, 10),
+        ([0xFF, 0, 0, 1], 1, 11),
+        ([0xFF, 1, 1, 1], 1, 9),
+        ([0xFF, 0, 0x80, 1], 1, 10),
+        ([0xFF, 0xFF, 1, 0], 2, 10),
+        ([0xFF, 0xFF, 0, 0xFF], 2, 11),
+        ([0xFF, 0xFF, 0xFF, 1], 3, 11),
+    ] {
+        reads(&response(bytes, len), Err((6, place)));
+    }
+    reads(&response([0xFF; 4], 4), Ok(12));
 }
 
 fn file() -> File {
@@ -261,7 +305,7 @@ fn repository() {
     for update in [false, true] {
         accepted(&with(update, &[b'r'; 64]));
         refused(&with(update, &[b'r'; 65]), 5, 4);
-        refused(&with(update, b"r\xFF"), 7, 4);
+        refused(&with(update, b"r\xFF"), 7, 9);
         // The array comes after it.
         refused(&with_array(&with(update, b"rep"), Vec::clear), 1, 12);
     }
@@ -301,9 +345,9 @@ fn names() {
     };
     accepted(&with(&[b'n'; 255]));
     refused(&with(&[b'n'; 256]), 5, 12);
-    refused(&with(b"\x80"), 7, 12);
+    refused(&with(b"\x80"), 7, 16);
     refused(&with(b""), 8, 12);
-    refused(&with_array(&with(b"n"), |array| array[11] = 1), 6, 12);
+    refused(&with_array(&with(b"n"), |array| array[11] = 1), 6, 19);
     // Any order will do, and names may stand twice.
     accepted(&index(&[file(), file()]));
 }
@@ -363,14 +407,14 @@ fn a_name_that_is_no_plain_path_comes_after_all_else_in_it() {
     refused(&index(&[named(&long[1..])]), 24, 12);
     let slash = index(&[named(b"a/")]);
     refused(&with_array(&slash, |array| array.truncate(11)), 1, 12);
-    refused(&with_array(&slash, |array| array[11] = 1), 6, 12);
-    refused(&index(&[named(b"\xFF/")]), 7, 12);
-    refused(&request(b"r", b"/\xC0\xAF", 0, 0), 7, 12);
+    refused(&with_array(&slash, |array| array[11] = 1), 6, 19);
+    refused(&index(&[named(b"\xFF/")]), 7, 16);
+    refused(&request(b"r", b"/\xC0\xAF", 0, 0), 7, 17);
     refused(&request(b"r", b"", 0, 0), 8, 12);
     // The next field comes later, one before it earlier.
     refused(&request(b"r", b"/", 0, 0), 24, 12);
     refused(&with_array(&slash, |array| array[12] = 0xFF), 24, 12);
-    refused(&request(b"\xFF", b"/", 1, 32), 7, 4);
+    refused(&request(b"\xFF", b"/", 1, 32), 7, 8);
     let flags = 0x4000;
     refused(&index(&[File { flags, ..file() }, named(b"/")]), 11, 20);
 }
@@ -487,9 +531,9 @@ fn requests() {
     accepted(&request(b"", &[b'n'; 255], 1, 32));
     accepted(&request(&[b'r'; 64], b"n", 1, 32));
     refused(&request(&[b'r'; 65], b"n", 1, 32), 5, 4);
-    refused(&request(b"r\xC3", b"n", 1, 32), 7, 4);
+    refused(&request(b"r\xC3", b"n", 1, 32), 7, 9);
     refused(&request(b"r", &[b'n'; 256], 1, 32), 5, 12);
-    refused(&request(b"r", b"\xF8", 1, 32), 7, 12);
+    refused(&request(b"r", b"\xF8", 1, 32), 7, 16);
     refused(&request(b"r", b"", 1, 32), 8, 12);
     for length in [0, 131_073, u32::MAX] {
         refused(&request(b"r", b"n", length, 32), 10, 28);
@@ -498,12 +542,12 @@ fn requests() {
         refused(&request(b"r", b"n", 1, hash_len), 9, 32);
     }
     // The first fault from the left counts.
-    refused(&request(b"\xFF", b"", 0, 0), 7, 4);
+    refused(&request(b"\xFF", b"", 0, 0), 7, 8);
     refused(&request(b"r", b"", 0, 0), 8, 12);
     refused(&request(b"r", b"n", 0, 0), 10, 28);
     let mut pad = whole;
     pad[17] = 1;
-    reads(&pad, Err((6, 12)));
+    reads(&pad, Err((6, 17)));
 }
 
 #[test]
@@ -520,7 +564,7 @@ fn responses() {
     refused(&response(131_073), 5, 4);
     reads(&[0, 2, 3, 0], Err((1, 4)));
     reads(&[0, 2, 3, 0, 0, 0, 0, 1, 0x80, 0, 0], Err((1, 4)));
-    reads(&[0, 2, 3, 0, 0, 0, 0, 1, 0x80, 0, 0, 1], Err((6, 4)));
+    reads(&[0, 2, 3, 0, 0, 0, 0, 1, 0x80, 0, 0, 1], Err((6, 11)));
     // Data is no text.
     reads(&[0, 2, 3, 0, 0, 0, 0, 1, 0x80, 0, 0, 0], Ok(12));
 }
@@ -539,18 +583,18 @@ fn options() {
     accepted(&with(&[b'k'; 64], &[b'v'; 255], 64));
     refused(&with(b"", b"", 65), 5, 4);
     refused(&with(&[b'k'; 65], b"", 1), 5, 8);
-    refused(&with(b"\xC3", b"", 1), 7, 8);
+    refused(&with(b"\xC3", b"", 1), 7, 12);
     refused(&with(b"key", &[b'v'; 256], 1), 5, 16);
-    refused(&with(b"key", b"\x80", 1), 7, 16);
+    refused(&with(b"key", b"\x80", 1), 7, 20);
     refused(
         &with_array(&with(b"key", b"v", 1), |array| array[11] = 1),
         6,
-        8,
+        15,
     );
     refused(
         &with_array(&with(b"key", b"v", 1), |array| array[17] = 1),
         6,
-        16,
+        21,
     );
     let draft = with(b"key", b"v", 1);
     for (cut, place) in [(0, 4), (3, 4), (4, 8), (11, 8), (12, 16), (19, 16)] {

@@ -225,7 +225,8 @@ fn a_folder_that_makes_no_table_is_told_by_name() {
     let path = second.join(OsStr::from_bytes(b"a\xC0\xAFb"));
     fs::write(&path, b"").unwrap();
     let error = copy(&first, &second).unwrap_err();
-    let why = format!("{}: a string isn't UTF-8 (7), at byte 0", path.display());
+    // In the file's record: after the length word and the letter.
+    let why = format!("{}: a string isn't UTF-8 (7), at byte 5", path.display());
     assert_eq!(error.to_string(), why);
 }
 
@@ -431,7 +432,8 @@ fn a_peer_that_goes_away_or_talks_nonsense_ends_the_exchange() {
     let (nonsense, mut stream) = device(folder.clone());
     stream.write_all(&index[..length]).unwrap();
     let error = nonsense.join().unwrap().unwrap_err();
-    assert_eq!(error.to_string(), "a string isn't UTF-8 (7), at byte 20");
+    let why = format!("a string isn't UTF-8 (7), at byte {slash}");
+    assert_eq!(error.to_string(), why);
     assert!(contents(&folder).is_empty());
 
     // A Response that nobody asked for.

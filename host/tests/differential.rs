@@ -15,7 +15,6 @@ use support::encode::{Block, Encoding, File};
 use support::generate;
 use support::library::{Library, LIBRARY};
 use support::random::Random;
-use support::text::was_text;
 
 const INPUTS: u64 = 200_000;
 const SEED: u64 = 0xF04D_7E57_0000_0000;
@@ -318,15 +317,41 @@ fn a_difference_is_found() {
         ..LIBRARY
     }));
     assert!(is_found(Library {
-        // The text rule is the one before RFC 3629.
+        // C0 may lead, as before RFC 3629.
         read: |input| match (LIBRARY.read)(input) {
-            (7, answer) => {
-                let (len, rest) = input[answer[0] as usize..].split_first_chunk().unwrap();
-                match was_text(&rest[..u32::from_be_bytes(*len) as usize]) {
-                    true => (0, answer),
-                    false => (7, answer),
-                }
+            (7, answer) if input[answer[0] as usize] == 0xC0 => (0, answer),
+            answer => answer,
+        },
+        ..LIBRARY
+    }));
+    assert!(is_found(Library {
+        // The place of a text is its word rather than its byte.
+        read: |input| match (LIBRARY.read)(input) {
+            (7, mut answer) => {
+                answer[0] &= !3;
+                (7, answer)
             }
+            answer => answer,
+        },
+        ..LIBRARY
+    }));
+    assert!(is_found(Library {
+        // The place of a pad is its last byte that isn't zero.
+        read: |input| match (LIBRARY.read)(input) {
+            (6, mut answer) => {
+                let end = (answer[0] as usize + 1).next_multiple_of(4);
+                let last = input[..end].iter().rposition(|&byte| byte != 0);
+                answer[0] = last.unwrap() as u64;
+                (6, answer)
+            }
+            answer => answer,
+        },
+        ..LIBRARY
+    }));
+    assert!(is_found(Library {
+        // In writing, the place of a text is the byte after the lead.
+        write: |draft, out| match (LIBRARY.write)(draft, out) {
+            (7, [place]) => (7, [place + 1]),
             answer => answer,
         },
         ..LIBRARY

@@ -105,8 +105,8 @@ impl Side {
         first
     }
 
-    /// The number that reading a message gives and writing it too. The place must be that of the name, and
-    /// the lent buffer then be as it was.
+    /// The number that reading a message gives and writing it too. The place must be that of the name's
+    /// length word, for 7 that of the first byte that isn't text, and the lent buffer then be as it was.
     fn agreed(&self, message: &[u8], place: usize, write: impl Fn(&mut [u8]) -> Answer) -> u32 {
         let mut out = [0xD7; ROOM];
         let answer = (self.read)(message);
@@ -116,7 +116,12 @@ impl Side {
                 assert_eq!(answer.1, message.len());
                 assert_eq!(out[..answer.1], *message);
             }
-            _ => {
+            number => {
+                let name = &message[place + 4..][..usize::from(message[place + 3])];
+                let place = match std::str::from_utf8(name) {
+                    Err(error) if number == 7 => place + 4 + error.valid_up_to(),
+                    _ => place,
+                };
                 assert_eq!(answer.1, place, "{message:02x?}");
                 assert_eq!(out, [0xD7; ROOM], "{message:02x?}");
             }

@@ -226,6 +226,25 @@ fn a_difference_is_found() {
         ..QUEUE_CALLS
     }));
     assert!(is_found(QueueCalls {
+        // The place of a pad is the length word.
+        answer: |queue, message| match (QUEUE_CALLS.answer)(queue, message) {
+            (6, mut answered) => {
+                answered[0] = 4;
+                (6, answered)
+            }
+            answer => answer,
+        },
+        ..QUEUE_CALLS
+    }));
+    assert!(is_found(QueueCalls {
+        // The place of a text is its word rather than its byte.
+        issue: |queue, wanted, out| match (QUEUE_CALLS.issue)(queue, wanted, out) {
+            (7, [place, id]) => (7, [place & !3, id]),
+            answer => answer,
+        },
+        ..QUEUE_CALLS
+    }));
+    assert!(is_found(QueueCalls {
         // IDs start again at 0 when the link is dropped.
         drop_link: |queue| {
             let number = (QUEUE_CALLS.drop_link)(queue);

@@ -1,10 +1,11 @@
-//! The text rule of the library and of the reference against the standard library's UTF-8.
+//! The text rule of the library and of the reference against the standard library's UTF-8: which strings
+//! are refused, and at which byte.
 
 mod reference;
 mod support;
 
 use fordtrumpet::{
-    read, write_options, write_request, FilesBuilder, Flags, Message, Refusal, Table,
+    read, write_index, write_options, write_request, FilesBuilder, Flags, Message, Refusal, Table,
 };
 use std::io::Write;
 use support::compare::Compared;
@@ -14,56 +15,90 @@ use support::text::{character, damage, was_text};
 const GENERATED: u64 = 10_000_000;
 const SEED: u64 = 0x7E57_0000_0000_0000;
 
-/// Whether bytes are text.
-type Rule = fn(&[u8]) -> bool;
+/// Where a string that isn't text is refused, counted from its length word.
+type Rule = fn(&[u8]) -> Option<usize>;
 
 /// The rules under test. Faults are planted by taking others.
-const RULES: [(&str, Rule); 2] = [
-    ("the library's", library),
-    ("the reference's", reference::is_text),
-];
+const RULES: [(&str, Rule); 2] = [("the library's", library), ("the reference's", reference)];
 
-/// The library's rule: as a Repository where the length is even, else as a Value. Names keep another rule
-/// besides.
-fn library(text: &[u8]) -> bool {
+/// By the standard library: after the length word and what is text.
+fn by_std(bytes: &[u8]) -> Option<usize> {
+    let error = std::str::from_utf8(bytes).err()?;
+    Some(4 + error.valid_up_to())
+}
+
+fn reference(bytes: &[u8]) -> Option<usize> {
+    reference::broken_at(bytes).map(|at| 4 + at)
+}
+
+/// The library's rule: as a Repository, a Key or a Value, by the string's last byte. Names keep another
+/// rule besides.
+fn library(text: &[u8]) -> Option<usize> {
     let mut out = [0xD7; 128];
-    match text.len() % 2 {
+    match text.last().map_or(0, |last| last % 4) {
         0 => {
             let (message, len) = request(text);
             let written = write_request(0, text, "n", 0, 1, &[0; 32], &mut out);
-            passes(&message[..len], 4, written, &out)
+            refused(&message[..len], 4, written, &out)
+        }
+        1 => {
+            let (message, len) = index(text);
+            let written = write_index(0, text, &[0; 4], &mut out);
+            refused(&message[..len], 4, written, &out)
+        }
+        2 => {
+            let (message, len) = options(text, b"");
+            let written = write_options(0, &message[4..len], &mut out);
+            refused(&message[..len], 8, written, &out)
         }
         _ => {
-            let (message, len) = options(text);
+            let (message, len) = options(b"", text);
             let written = write_options(0, &message[4..len], &mut out);
-            passes(&message[..len], 12, written, &out)
+            refused(&message[..len], 12, written, &out)
         }
     }
 }
 
-/// Whether a message is read and was written. Where it isn't, the string whose length word stands at
-/// `place` must be to blame, and the lent buffer be as it was.
-fn passes(message: &[u8], place: usize, written: Result<usize, Refusal>, out: &[u8; 128]) -> bool {
+/// Where a message is refused, read and written alike, counted from the length word at `place`; or none.
+/// The string there must be to blame, and the lent buffer be as it was.
+fn refused(
+    message: &[u8],
+    place: usize,
+    written: Result<usize, Refusal>,
+    out: &[u8; 128],
+) -> Option<usize> {
     let len = message.len();
     match read(message) {
         Ok(read) => {
-            let string = match read.message {
-                Message::Request(request) => request.repository,
-                Message::Options(message) => message.options.iter().next().unwrap().value,
-                other => panic!("{other:?}"),
-            };
+            let string = string(&read.message, place);
             assert_eq!((read.used, written), (len, Ok(len)), "{message:02x?}");
             assert!(message[place + 4..].starts_with(string.as_bytes()));
             assert_eq!(string.len(), usize::from(message[place + 3]));
             assert_eq!(out[..len], *message);
-            true
+            None
         }
         Err(refusal) => {
-            assert_eq!(refusal, Refusal::Text(place), "{message:02x?}");
+            assert_eq!(refusal.number(), 7, "{message:02x?}");
             assert_eq!(written, Err(refusal), "{message:02x?}");
             assert_eq!(*out, [0xD7; 128], "{message:02x?}");
-            false
+            Some(refusal.place() - place)
         }
+    }
+}
+
+/// The string whose length word stands at `place`.
+fn string<'a>(message: &Message<'a>, place: usize) -> &'a str {
+    match message {
+        Message::Request(request) => request.repository,
+        Message::Index(index) => index.repository,
+        Message::Options(message) => {
+            let option = message.options.iter().next().unwrap();
+            match place {
+                8 => option.key,
+                _ => option.value,
+            }
+        }
+        other => panic!("{other:?}"),
     }
 }
 
@@ -79,12 +114,21 @@ fn request(repository: &[u8]) -> ([u8; 128], usize) {
     (message, end + 48)
 }
 
-/// An Options message with one option, whose Key is empty and whose Value is this, and its length.
-fn options(value: &[u8]) -> ([u8; 128], usize) {
+/// An Index with this Repository, whatever it is, and no files; and its length.
+fn index(repository: &[u8]) -> ([u8; 128], usize) {
+    let mut message = [0; 128];
+    message[2] = 1;
+    let end = put(&mut message, 4, repository);
+    (message, end + 4)
+}
+
+/// An Options message with one option, whose Key and Value are these, and its length.
+fn options(key: &[u8], value: &[u8]) -> ([u8; 128], usize) {
     let mut message = [0; 128];
     message[2] = 7;
     message[7] = 1;
-    let end = put(&mut message, 12, value);
+    let end = put(&mut message, 8, key);
+    let end = put(&mut message, end, value);
     (message, end)
 }
 
@@ -113,14 +157,17 @@ impl<'a> Comparison<'a> {
     }
 
     fn compare(&mut self, bytes: &[u8]) -> Compared {
-        let is_text = std::str::from_utf8(bytes).is_ok();
+        let expected = by_std(bytes);
         for (whose, rule) in self.rules {
-            if rule(bytes) != is_text {
-                return Err(format!("{whose} on {bytes:02x?}: not {is_text}"));
+            let place = rule(bytes);
+            if place != expected {
+                return Err(format!(
+                    "{whose} on {bytes:02x?}: {place:?}, not {expected:?}"
+                ));
             }
         }
         self.compared += 1;
-        self.texts += u64::from(is_text);
+        self.texts += u64::from(expected.is_none());
         Ok(())
     }
 
@@ -253,32 +300,85 @@ fn generated_strings_are_text_where_they_are_utf8() {
 
 #[test]
 fn a_difference_is_found() {
-    fn is_utf8(bytes: &[u8]) -> bool {
-        std::str::from_utf8(bytes).is_ok()
+    /// The rule, but what breaks it passes where it is let through.
+    fn but(bytes: &[u8], let_through: bool) -> Option<usize> {
+        by_std(bytes).filter(|_| !let_through)
     }
     // Which of the three sets of strings find it.
-    let faults: [(&str, Rule, [bool; 3]); 6] = [
-        ("none", is_utf8, [false; 3]),
-        ("the rule before RFC 3629", was_text, [true; 3]),
+    let faults: [(&str, Rule, [bool; 3]); 10] = [
+        ("none", by_std, [false; 3]),
+        (
+            "the rule before RFC 3629",
+            |bytes| but(bytes, was_text(bytes)),
+            [true; 3],
+        ),
         (
             "a surrogate passes",
-            |bytes| is_utf8(bytes) || bytes.ends_with(b"\xED\xA0\x80"),
+            |bytes| but(bytes, bytes.ends_with(b"\xED\xA0\x80")),
             [true; 3],
         ),
         (
             "the first above Unicode passes",
-            |bytes| is_utf8(bytes) || bytes.ends_with(b"\xF4\x90\x80\x80"),
+            |bytes| but(bytes, bytes.ends_with(b"\xF4\x90\x80\x80")),
             [false, true, true],
         ),
         (
             "the last of Unicode is refused",
-            |bytes| is_utf8(bytes) && !bytes.ends_with("\u{10FFFF}".as_bytes()),
+            |bytes| match bytes.strip_suffix("\u{10FFFF}".as_bytes()) {
+                Some(before) => by_std(bytes).or(Some(4 + before.len())),
+                None => by_std(bytes),
+            },
             [false, true, true],
         ),
         (
             "only 32 bytes are looked at",
-            |bytes| is_utf8(bytes) || bytes.len() > 32,
+            |bytes| but(bytes, bytes.len() > 32),
             [false, false, true],
+        ),
+        (
+            "the place is the length word",
+            |bytes| by_std(bytes).map(|_| 0),
+            [true; 3],
+        ),
+        (
+            "the place is that of what can't follow",
+            |bytes| {
+                let error = std::str::from_utf8(bytes).err()?;
+                let at = error.valid_up_to();
+                match (bytes[at], error.error_len()) {
+                    (0xC2..=0xF4, Some(len)) => Some(4 + at + len),
+                    _ => Some(4 + at),
+                }
+            },
+            [true; 3],
+        ),
+        (
+            "the place of a sequence that is cut off is the end",
+            |bytes| {
+                let error = std::str::from_utf8(bytes).err()?;
+                match error.error_len() {
+                    Some(_) => by_std(bytes),
+                    None => Some(4 + bytes.len()),
+                }
+            },
+            // Sequences of four bytes are whole in strings of four.
+            [true, false, true],
+        ),
+        (
+            "the place is that of the last broken sequence",
+            |bytes| {
+                let mut broken = None;
+                let mut at = 4;
+                for chunk in bytes.utf8_chunks() {
+                    at += chunk.valid().len();
+                    if !chunk.invalid().is_empty() {
+                        broken = Some(at);
+                    }
+                    at += chunk.invalid().len();
+                }
+                broken
+            },
+            [true; 3],
         ),
     ];
     for (fault, rule, expected) in faults {

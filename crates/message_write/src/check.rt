@@ -44,12 +44,13 @@ pub fn check_text(l: &[u8], limit: u32) -> Bytes
     let Bytes::Taken(n, size) = answer else {
         return Bytes::Refused(answer.refusal());
     };
-    if xdr::sound_up_to(l) == n {
+    let sound = xdr::sound_up_to(l);
+    if sound == n {
         Bytes::Taken(n, size)
     } else {
         Bytes::Refused(Refusal {
             number: 7,
-            place: 0,
+            place: 4 + sound,
         })
     }
 }

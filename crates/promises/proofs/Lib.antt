@@ -18,3 +18,4 @@ pub mod Elements
 pub mod Arrived
 pub mod SampleArrived
 pub mod Strings
+pub mod BadByte

@@ -1,6 +1,6 @@
 -- The worked cases hold of what the calls answer, by computation.
 use mathlib.Core.Path.{_≡_, refl}
-use Rattle.xdr.specs.Format.{padPlace, read, readAt, AllOf}
+use Rattle.xdr.specs.Format.{read, readAt, AllOf}
 use Rattle.xdr.specs.Text.{soundUpTo}
 use Rattle.xdr.specs.Pad.{allZero}
 use Rattle.record.specs.File.{File}
@@ -14,5 +14,5 @@ unfolding compareFiles compareLists compareNumbers
 zero-newer f g p q = rw (p, q) refl
 
 pub worked : AllOf Holds vectors
-unfolding read readAt soundUpTo allZero padPlace vectors
+unfolding read readAt soundUpTo allZero vectors
 worked = (refl, (refl, (refl, (refl, (refl, (refl, (refl, (refl, (refl, (zero-newer, tt))))))))))

@@ -13,3 +13,4 @@ pub mod RoundTrips
 pub mod Elements
 pub mod Arrived
 pub mod Strings
+pub mod BadByte

@@ -41,6 +41,14 @@ counted-zeros (b ∷ l) h =
     let q = zero-first b (zerosUpTo l) (length l) (eqb b 0) refl h in
     rw (q .0) (ap (λ (m : List ℕ). 0 ∷ m) (counted-zeros l (q .1)))
 
+pub zeros-within : (l : List ℕ) → zerosUpTo l ≤ length l
+zeros-within [] = omega arith
+zeros-within (b ∷ l) = go (eqb b 0) (zeros-within l)
+  where
+    go : (t : Bool) → zerosUpTo l ≤ length l → cond t (suc (zerosUpTo l)) 0 ≤ suc (length l)
+    go true h = omega arith
+    go false h = omega arith
+
 -- all bytes are zero exactly if the count reaches the end
 pub zero-all : (l : List ℕ) (n : ℕ) → n ≡ length l → zerosUpTo l ≡ n → allZero l ≡ true
 unfolding allZero

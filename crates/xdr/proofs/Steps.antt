@@ -12,7 +12,7 @@ use lib.Seq.{drop-drop, length-take-le}
 use lib.Dec.{leb}
 use Rattle.xdr.specs.Reading.{Reading, taken, refused, shifted, mapped, relocated, tested, andThen}
 use Rattle.xdr.specs.Number.{bigEndian}
-use Rattle.xdr.specs.Format.{Format, number, bytes, pair, checkedAt, checked, via, contents, bytesPlace, padPlace, read, readAt}
+use Rattle.xdr.specs.Format.{Format, number, bytes, pair, checkedAt, checked, via, contents, bytesPlace, read, readAt}
 use Rattle.xdr.specs.Pad.{padded, zerosUpTo, allZero}
 use Rattle.xdr.proofs.Within.{within, place-start}
 
@@ -205,22 +205,18 @@ module _ {C : Format ℕ} {s : List ℕ} {at n m : ℕ} (h : Reads C s at (taken
   }
 
   module _ (k : padded n ≤ length s - m) where
-    -- a pad byte that is not zero, at its place from the start on
-    pub bad-pad-at : allZero (take (padded n - n) (drop (m + n) s)) ≡ false
-        → Reads (bytes C) s at (refused 6 (at + bytesPlace 6 (m - at + (n + zerosUpTo (take (padded n - n) (drop (m + n) s))))))
+    -- a pad byte that is not zero, at its place
+    pub bad-pad : allZero (take (padded n - n) (drop (m + n) s)) ≡ false → Reads (bytes C) s at (refused 6 (m + (n + zerosUpTo (take (padded n - n) (drop (m + n) s)))))
     unfolding read readAt
-    bad-pad-at z =
+    bad-pad z =
         let zeros : ℕ = zerosUpTo (take (padded n - n) (drop (m + n) s)) in
         let there : m + (n + zeros) ≡ at + (m - at + (n + zeros)) = omega (arith, begins) in
         record {
           is =
               relocated-at at (andThen (read C (drop at s)) contents (drop at s)) 6 (m - at + (n + zeros))
-              (after-length ∙ (simp (length-drop, le-leb (padded n) (length s - m) k, drop-drop, z)) ∙ ap (refused 6) there);
+              (after-length ∙ (simp (length-drop, le-leb (padded n) (length s - m) k, drop-drop, z)) ∙ ap (refused 6) there)
+              ∙ ap (refused 6) (sym there);
         }
-
-    pub bad-pad : allZero (take (padded n - n) (drop (m + n) s)) ≡ false → Reads (bytes C) s at (refused 6 at)
-    unfolding padPlace
-    bad-pad z = record { is = bad-pad-at z .is ∙ ap (refused 6) (rw (zero-min (m - at + (n + zerosUpTo (take (padded n - n) (drop (m + n) s))))) (add-zero at)) }
 
     pub bytes-read : allZero (take (padded n - n) (drop (m + n) s)) ≡ true → Reads (bytes C) s at (taken (take n (drop m s)) (m + padded n))
     unfolding read readAt

@@ -9,9 +9,10 @@ use native.Mathlib.Nat.{add-zero}
 use borrow.Author.Tests.{le-leb, lt-leb}
 use lib.ListN.{length, getD, drop, drop-of-length-le, length-drop}
 use lib.Bits.{bitAnd}
+use lib.Dec.{leb}
 use lib.Seq.{drop-cons, drop-drop, getD-drop}
 use Rattle.xdr.specs.Number.{IsBytes}
-use Rattle.xdr.specs.Text.{followers, lowest, highest, isWithin, soundFrom}
+use Rattle.xdr.specs.Text.{followers, lowest, highest, isWithin, soundFrom, soundUpTo}
 use Rattle.xdr.specs.Steps.{littleEndian, followedBy, soundAfter, Whole, Advance}
 use Rattle.xdr.proofs.NumberLaws.{bytes-drop}
 use Rattle.xdr.proofs.TopBits.{four-top-bits}
@@ -195,3 +196,23 @@ module _ (s : List ℕ) (i : ℕ) where
 
   pub stops : soundAfter s i ≡ i → Advance s i 0
   stops e = record { broken = λ z. e; whole = λ z. absurd (z refl) }
+
+-- the fault is within the bytes
+
+from-within : (l : List ℕ) (left low high start at : ℕ) → start ≤ at → soundFrom l left low high start at ≤ at + length l
+from-within [] zero low high start at h = omega arith
+from-within [] (suc left) low high start at h = omega arith
+from-within (b ∷ l) zero low high start at h = go (leb (followers b) 3) (from-within l (followers b) (lowest b) (highest b) at (suc at) (omega arith))
+  where
+    go : (t : Bool) → soundFrom l (followers b) (lowest b) (highest b) at (suc at) ≤ suc at + length l → cond t (soundFrom l (followers b) (lowest b) (highest b) at (suc at)) at ≤ at + suc (length l)
+    go true w = omega (arith, w)
+    go false w = omega arith
+from-within (b ∷ l) (suc left) low high start at h = go (isWithin low high b) (from-within l left 128 191 start (suc at) (omega arith))
+  where
+    go : (t : Bool) → soundFrom l left 128 191 start (suc at) ≤ suc at + length l → cond t (soundFrom l left 128 191 start (suc at)) start ≤ at + suc (length l)
+    go true w = omega (arith, w)
+    go false w = omega arith
+
+pub sound-within : (l : List ℕ) → soundUpTo l ≤ length l
+unfolding soundUpTo
+sound-within l = omega (arith, from-within l 0 128 191 0 0 (omega arith))

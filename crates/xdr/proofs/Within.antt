@@ -10,7 +10,7 @@ use lib.ListN.{length, drop, length-drop, length-take}
 use lib.Dec.{leb, eqb}
 use Rattle.xdr.specs.Reading.{Reading, taken, refused, shifted, mapped, relocated, tested, andThen, many}
 use Rattle.xdr.specs.Number.{bigEndian}
-use Rattle.xdr.specs.Format.{Format, nothing, number, bytes, array, pair, checkedAt, via, padOf, contents, bytesPlace, padPlace, read}
+use Rattle.xdr.specs.Format.{Format, nothing, number, bytes, array, pair, checkedAt, via, padOf, contents, bytesPlace, read}
 use Rattle.xdr.specs.Pad.{padded, zerosUpTo, allZero}
 
 -- the bytes taken, or the place of the refusal, are at most n
@@ -34,8 +34,8 @@ within-mapped f n (refused k p) h = h
 pub place-below : (k p : ℕ) → bytesPlace k p ≤ p
 place-below k p = go (eqb k 6)
   where
-    go : (b : Bool) → cond b (min (padPlace p) p) 0 ≤ p
-    go true = min-le-right (padPlace p) p
+    go : (b : Bool) → cond b p 0 ≤ p
+    go true = omega arith
     go false = omega arith
 
 pub place-start : (k : ℕ) → bytesPlace k 0 ≡ 0

@@ -1,5 +1,5 @@
 -- The formats of XDR: what reading some bytes by a format gives, how a value is encoded in it, and which values it has.
-use Prim.Native.Nat.{ℕ, _+_, _-_, _^_, _<_, min}
+use Prim.Native.Nat.{ℕ, _+_, _-_, _^_, _<_}
 use mathlib.Core.List.{List, [], _∷_, _++_}
 use mathlib.Core.Path.{_≡_}
 use mathlib.Core.Bool.{Bool, true, cond}
@@ -41,13 +41,9 @@ contents n s =
     (cond (allZero (padOf n s)) (taken (take n s) (padded n)) (refused 6 (n + zerosUpTo (padOf n s))))
     (refused 1 0)
 
--- where a pad byte at p that is not zero is reported: at the start
-unfoldable pub padPlace : ℕ → ℕ
-padPlace p = 0
-
--- the place of a refusal of a string or an opaque: its length word, but for a pad byte (6) what is said above, at most the byte itself
+-- the place of a refusal of a string or an opaque: its length word, but for a pad byte (6) the byte itself
 abbrev pub bytesPlace : (number place : ℕ) → ℕ
-bytesPlace k p = cond (eqb k 6) (min (padPlace p) p) 0
+bytesPlace k p = cond (eqb k 6) p 0
 
 -- reading the front of some bytes by a format
 unfoldable pub read : {A : Type 0} → Format A → List ℕ → Reading A

@@ -75,12 +75,13 @@ pub fn read_bytes(s: &[u8], at: usize, limit: u32) -> Bytes
     }
     let pad_at = start + n;
     let end = pad_at + pad;
-    if zeros_up_to(&s[pad_at..end]) == pad {
+    let zeros = zeros_up_to(&s[pad_at..end]);
+    if zeros == pad {
         Bytes::Taken(n, end)
     } else {
         Bytes::Refused(Refusal {
             number: 6,
-            place: at,
+            place: pad_at + zeros,
         })
     }
 }
@@ -95,12 +96,13 @@ pub fn read_text(s: &[u8], at: usize, limit: u32) -> Bytes
     };
     let start = at + 4;
     let end = start + n;
-    if sound_up_to(&s[start..end]) == n {
+    let sound = sound_up_to(&s[start..end]);
+    if sound == n {
         Bytes::Taken(n, next)
     } else {
         Bytes::Refused(Refusal {
             number: 7,
-            place: at,
+            place: start + sound,
         })
     }
 }

@@ -15,8 +15,17 @@ mod read;
 mod records;
 
 mod text {
-    pub fn is_text(bytes: &[u8]) -> bool {
-        std::str::from_utf8(bytes).is_ok()
+    use std::str::{from_utf8, Utf8Error};
+
+    #[inline]
+    pub fn broken_at(bytes: &[u8]) -> Option<usize> {
+        from_utf8(bytes).err().map(place)
+    }
+
+    /// Out of the way of what is text.
+    #[cold]
+    fn place(error: Utf8Error) -> usize {
+        error.valid_up_to()
     }
 }
 

@@ -1,7 +1,7 @@
 //! Single fields: words, strings, opaques, hashes.
 
 use super::names::is_plain_path;
-use super::text::is_text;
+use super::text::broken_at;
 use super::{Refusal, Span, HASH_LEN};
 
 /// Reads field by field from the left.
@@ -119,10 +119,9 @@ impl<'a> Reader<'a> {
     /// Span and contents of a string.
     #[inline]
     fn text(&mut self, limit: u32) -> Result<(Span, &'a [u8]), Refusal> {
-        let place = self.place();
         let (span, bytes) = self.padded(limit)?;
-        if !is_text(bytes) {
-            return Err(Refusal::new(7, place));
+        if let Some(at) = broken_at(bytes) {
+            return Err(Refusal::new(7, span.start + at));
         }
         Ok((span, bytes))
     }
@@ -135,15 +134,12 @@ impl<'a> Reader<'a> {
         let Some((field, rest)) = self.rest.split_at_checked(len.next_multiple_of(4)) else {
             return Err(Refusal::new(1, place));
         };
+        let start = place + 4;
         let (bytes, pad) = field.split_at(len);
-        if pad.iter().any(|&byte| byte != 0) {
-            return Err(Refusal::new(6, place));
+        if let Some(at) = pad.iter().position(|&byte| byte != 0) {
+            return Err(Refusal::new(6, start + len + at));
         }
         self.rest = rest;
-        let span = Span {
-            start: place + 4,
-            len,
-        };
-        Ok((span, bytes))
+        Ok((Span { start, len }, bytes))
     }
 }

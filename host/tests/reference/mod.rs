@@ -22,14 +22,14 @@ pub use queue::{Answered, Outcome, Queue, Request as Outstanding};
 pub use read::{read, Body, Message};
 pub use records::{file_at, file_or_missing, option_at, option_or_missing, File, KeyValue};
 pub use table::{accept, compare, is_good, merge, step, MAX_TABLE};
-pub use text::is_text;
+pub use text::broken_at;
 pub use want::{find_local, request_list, serve, Serving};
 pub use write::{
     write_index, write_index_update, write_options, write_ping, write_pong, write_request,
     write_response,
 };
 
-/// Why an input is refused and where the field at fault begins.
+/// Why an input is refused and where: at the field at fault, or at the byte for 6 and 7.
 #[derive(Clone, Copy, Debug, PartialEq, Eq)]
 pub struct Refusal {
     pub number: u32,

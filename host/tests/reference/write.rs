@@ -5,7 +5,7 @@
 
 use super::fields::Reader;
 use super::names::is_plain_path;
-use super::text::is_text;
+use super::text::broken_at;
 use super::{
     records, Refusal, HASH_LEN, INDEX, INDEX_UPDATE, MAX_DATA, MAX_ID, MAX_NAME, MAX_REPOSITORY,
     OPTIONS, PING, PONG, REQUEST, RESPONSE,
@@ -129,18 +129,19 @@ fn header(kind: u32, id: u32) -> Result<u32, Refusal> {
     Ok(id << 16 | kind << 8)
 }
 
-/// Checks a string that would stand at `place`. The pad is the writer's own, so 6 can't happen.
+/// Checks a string whose length word would stand at `place`. The pad is the writer's own, so 6 can't
+/// happen.
 fn check_string(bytes: &[u8], limit: u32, place: usize) -> Result<(), Refusal> {
     if bytes.len() > limit as usize {
         return Err(Refusal::new(5, place));
     }
-    if !is_text(bytes) {
-        return Err(Refusal::new(7, place));
+    if let Some(at) = broken_at(bytes) {
+        return Err(Refusal::new(7, place + 4 + at));
     }
     Ok(())
 }
 
-/// Checks a Name that would stand at `place`.
+/// Checks a Name whose length word would stand at `place`.
 fn check_name(name: &[u8], place: usize) -> Result<(), Refusal> {
     check_string(name, MAX_NAME, place)?;
     if name.is_empty() {

@@ -83,7 +83,12 @@ fn in_field(bytes: &mut [u8], what: What, random: &mut Random) {
         }
         What::Text => text::damage(bytes, random),
         What::Name => name(bytes, random),
-        What::Pad => bytes[at] = random.pick(&[1, 0x80, 0xFF]),
+        What::Pad => {
+            // Often more than one byte, of which the first counts.
+            for at in [at, random.below(bytes.len())] {
+                bytes[at] = random.pick(&[1, 0x80, 0xFF]);
+            }
+        }
         What::Flags => {
             let word = u32::from_be_bytes(bytes.try_into().unwrap());
             let other = random.word();

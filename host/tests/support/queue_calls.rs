@@ -3,7 +3,7 @@
 use super::compare::{same, same_bytes, Compared};
 use super::library::{ffi, Answer, UNSET};
 use super::random::Random;
-use crate::reference::{self, Outcome, Outstanding, Queue};
+use crate::reference::{self, Answered, Outcome, Outstanding, Queue};
 use std::collections::BTreeMap;
 
 /// A queue as it is lent.
@@ -110,6 +110,21 @@ pub fn queue_of(words: &Words) -> Queue {
     }
 }
 
+/// The words of what the reference's queue answered to a Response.
+pub fn answered_words(answer: Result<Answered, reference::Refusal>) -> Answer<5> {
+    let Answered { outcome, request } = match answer {
+        Ok(answered) => answered,
+        Err(refusal) => return (refusal.number, [refusal.place as u64, 0, 0, 0, 0]),
+    };
+    let (kind, start, len) = match outcome {
+        Outcome::Data(data) => (0, data.start as u64, data.len as u64),
+        Outcome::NotAvailable => (1, 0, 0),
+        Outcome::WrongSize => (2, 0, 0),
+    };
+    let (id, length) = (u64::from(request.id), u64::from(request.length));
+    (0, [kind, id, length, start, len])
+}
+
 fn number<T>(answer: &Result<T, reference::Refusal>) -> u32 {
     answer.as_ref().map_or_else(|refusal| refusal.number, |_| 0)
 }
@@ -193,22 +208,10 @@ impl<'a> QueueComparison<'a> {
 
     pub fn answer(&mut self, message: &[u8]) -> Compared {
         let given = (self.calls.answer)(&mut self.words, message);
-        let answer = self.queue.answer(message);
-        let (kind, expected) = match answer {
-            Ok(answered) => {
-                let (kind, start, len) = match answered.outcome {
-                    Outcome::Data(data) => (0, data.start as u64, data.len as u64),
-                    Outcome::NotAvailable => (1, 0, 0),
-                    Outcome::WrongSize => (2, 0, 0),
-                };
-                let request = answered.request;
-                let (id, length) = (u64::from(request.id), u64::from(request.length));
-                (100 * kind, (0, [u64::from(kind), id, length, start, len]))
-            }
-            Err(refusal) => (
-                refusal.number,
-                (refusal.number, [refusal.place as u64, 0, 0, 0, 0]),
-            ),
+        let expected = answered_words(self.queue.answer(message));
+        let kind = match expected {
+            (0, [kind, ..]) => 100 * kind as u32,
+            (number, _) => number,
         };
         same("answer", &given, &expected)?;
         self.met("answer", kind)

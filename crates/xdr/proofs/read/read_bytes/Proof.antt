@@ -12,7 +12,7 @@ use Rattle.xdr.specs.Pad.{padded, zerosUpTo}
 use Rattle.xdr.specs.Fields.{word, upTo}
 use Rattle.xdr.specs.Answers.{bytesAnswer}
 use Rattle.xdr.specs.declared.answer.Bytes.the-variants as B
-use Rattle.xdr.proofs.PadLaws.{zero-all, zero-not-all}
+use Rattle.xdr.proofs.PadLaws.{zeros-within, zero-all, zero-not-all}
 use Rattle.xdr.proofs.Answered.{word-taken, word-refused}
 use Rattle.xdr.proofs.Steps.{Reads, answered, number-refused, checked-refused, checked-failed, checked-passed, ends-word, length-refused, cut-off, bad-pad, bytes-read}
 use borrow.Author.Needs.{needs}
@@ -90,12 +90,22 @@ returns-4 c =
     ∙ answered bytesAnswer (bytes-read (limited (c .before .before .before .before .before)) (room (c .before .before .before))
     (zero-all (pad k) _ (pad-length (c .before .before .before)) (pad-zeros (c .before) ∙ c .if3 .taken ∙ padding)))
 
+-- the bad byte is within the pad
+bad-byte : (c : tie.Else3) → c .before .zeros-up-to .result ≤ padded (n (c .before .before .before .before .before .before)) - n (c .before .before .before .before .before .before)
+bad-byte c = let zeros = pad-zeros (c .before) in let long = pad-length (c .before .before .before) in omega (arith, zeros, long, zeros-within (pad (c .before .before .before .before .before .before)))
+
+add-t23 : tie.Need-add-t23
+add-t23 c = omega (arith, bad-byte c, room (c .before .before .before))
+
 returns-5 : tie.Need-returns-5
 returns-5 c =
     let k = c .before .before .before .before .before .before in
     let padding = c .before .before .before .before .pad-after .ensures in
-    answered bytesAnswer (bad-pad (limited (c .before .before .before .before .before)) (room (c .before .before .before))
-    (zero-not-all (pad k) _ (pad-length (c .before .before .before)) (λ e. c .if3 .left (sym (pad-zeros (c .before)) ∙ e ∙ sym padding))))
+    let zeros = pad-zeros (c .before) in
+    let there : m k + n k + c .before .zeros-up-to .result ≡ m k + (n k + zerosUpTo (pad k)) = omega (arith, zeros) in
+    ap (λ (p : ℕ). B.Refused (record { number = 6; place = p })) there
+    ∙ answered bytesAnswer (bad-pad (limited (c .before .before .before .before .before)) (room (c .before .before .before))
+    (zero-not-all (pad k) _ (pad-length (c .before .before .before)) (λ e. c .if3 .left (sym zeros ∙ e ∙ sym padding))))
 
 pub read-bytes-spec : {M : Type 1} → statement M
 read-bytes-spec =
@@ -118,5 +128,6 @@ read-bytes-spec =
     (λ c. search needs)
     part-zeros-up-to-end
     (λ c κs. search needs)
+    add-t23
     returns-4
     returns-5)

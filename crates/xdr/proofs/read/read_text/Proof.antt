@@ -1,5 +1,5 @@
 -- `xdr::read::read_text` meets its contract: the opaque's steps, and then the test of its contents.
-use Prim.Native.Nat.{ℕ, _+_, _-_}
+use Prim.Native.Nat.{ℕ, _+_, _-_, _≤_, min}
 use mathlib.Core.Path.{_≡_, sym, ap, _∙_}
 use native.Mathlib.Omega.{arith}
 use borrow.Author.Tests.{eq-eqb, ne-eqb}
@@ -9,8 +9,9 @@ use Rattle.xdr.specs.Reading.{taken}
 use Rattle.xdr.specs.Text.{soundUpTo}
 use Rattle.xdr.specs.Answers.{bytesAnswer}
 use Rattle.xdr.specs.declared.answer.Bytes.the-variants as B
+use Rattle.xdr.proofs.TextRule.{sound-within}
 use Rattle.xdr.proofs.Answered.{OpaqueAt, opaque-taken, bytes-refused}
-use Rattle.xdr.proofs.Steps.{answered, checked-refused, checked-failed, checked-passed}
+use Rattle.xdr.proofs.Steps.{answered, checked-refused, checked-failed-at, checked-passed}
 use borrow.Author.Needs.{needs}
 use Rattle.xdr.proofs.read.read_text.Statement.{statement}
 use Rattle.xdr.proofs.read.read_text.Tie as tie
@@ -47,10 +48,21 @@ returns-2 c =
     ap (λ (k : ℕ). B.Taken k (c .before .before .before .before .answer .given .0 .1 .0)) (sym (o .long))
     ∙ answered bytesAnswer (checked-passed (o .opaque-is) (eq-eqb _ _ (sym (sound (c .before)) ∙ c .if1 .taken ∙ sym (o .long))))
 
+-- the fault is within the contents
+fault-within : (c : tie.Else1) → c .before .sound-up-to .result ≤ c .before .before .before .before .answer .given .0 .0
+fault-within c = let o = opaque-read (c .before .before .before) in omega (arith, sound (c .before), sound-within (o .value), o .long)
+
+add-t17 : tie.Need-add-t17
+add-t17 c = let o = opaque-read (c .before .before .before) in omega (arith, fault-within c)
+
 returns-3 : tie.Need-returns-3
 returns-3 c =
     let o = opaque-read (c .before .before .before) in
-    answered bytesAnswer (checked-failed (o .opaque-is) (ne-eqb _ _ (λ e. c .if1 .left (sound (c .before) ∙ e ∙ o .long))))
+    let at = c .before .before .before .before .before .before .before .before .args .at in
+    let next = c .before .before .before .before .answer .given .0 .1 .0 in
+    let there : at + 4 + c .before .sound-up-to .result ≡ at + min (4 + soundUpTo (o .value)) (next - at) = omega (arith, sound (c .before), fault-within c) in
+    ap (λ (p : ℕ). B.Refused (record { number = 7; place = p })) there
+    ∙ answered bytesAnswer (checked-failed-at (o .opaque-is) (ne-eqb _ _ (λ e. c .if1 .left (sound (c .before) ∙ e ∙ o .long))))
 
 pub read-text-spec : {M : Type 1} → statement M
 read-text-spec =
@@ -67,5 +79,6 @@ read-text-spec =
     (λ c. search needs)
     part-sound-up-to-end
     (λ c κs. search needs)
+    add-t17
     returns-2
     returns-3)
