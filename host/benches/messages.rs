@@ -8,6 +8,7 @@ mod support;
 mod timing;
 
 use fordtrumpet::Message;
+use reference::{by_copy, Edition};
 use std::hint::black_box;
 use support::draft::{Body, Draft};
 use support::encode::{Block, Encoding, File};
@@ -22,6 +23,16 @@ fn main() {
     for (what, draft) in &drafts {
         compare_writing(what, draft);
     }
+    compare_turning("Request", request());
+    compare_turning(
+        "Index, 4 files of 400 blocks (64 KB)",
+        index(4, 400, "directory/file name"),
+    );
+    compare_turning(
+        "Index, 512 files without blocks",
+        index(512, 0, "directory/file name"),
+    );
+    compare_turning("Response, 131,072 bytes", response(131_072));
     compare_texts();
     compare_walking_files("walk 512 files", &index(512, 0, "directory/file name"));
     compare_walking_options("walk 64 options", &options(64));
@@ -68,7 +79,7 @@ fn drafts() -> Vec<(&'static str, Draft)> {
 }
 
 fn draft(body: Body) -> Draft {
-    Draft { id: 77, body }
+    Draft::new(77, body)
 }
 
 fn index(count: usize, blocks: usize, name: &str) -> Draft {
@@ -183,6 +194,54 @@ fn compare_writing(what: &str, draft: &Draft) {
         &mut out,
         |out| keep(&library(black_box(draft), out)),
         |out| keep(&reference(black_box(draft), out)),
+    );
+}
+
+/// Turns a message up and down. Each gets a second line, in which the reference copies what it has read
+/// rather than write it field by field.
+fn compare_turning(what: &str, mut draft: Draft) {
+    let new = draft.encode().bytes;
+    draft.edition = Edition::Old;
+    let old = draft.encode().bytes;
+    let by_copying = "  by copying what was read";
+
+    let up = |old: &[u8], out: &mut [u8]| fordtrumpet::upgrade(old, "default", out);
+    let down = fordtrumpet::downgrade;
+    compare_turned(&format!("up {what}"), &old, &new, up, |old, out| {
+        reference::upgrade(old, b"default", out)
+    });
+    compare_turned(by_copying, &old, &new, up, |old, out| {
+        by_copy::upgrade(old, b"default", out)
+    });
+    compare_turned(
+        &format!("down {what}"),
+        &new,
+        &old,
+        down,
+        reference::downgrade,
+    );
+    compare_turned(by_copying, &new, &old, down, by_copy::downgrade);
+}
+
+fn compare_turned(
+    what: &str,
+    from: &[u8],
+    to: &[u8],
+    library: fn(&[u8], &mut [u8]) -> Result<usize, fordtrumpet::Refusal>,
+    reference: fn(&[u8], &mut [u8]) -> Result<usize, reference::Refusal>,
+) {
+    let (library, reference) = (black_box(library), black_box(reference));
+    let mut out = vec![0; to.len()];
+    assert_eq!(library(from, &mut out), Ok(to.len()));
+    assert_eq!(out, to);
+    out.fill(0);
+    assert_eq!(reference(from, &mut out), Ok(to.len()));
+    assert_eq!(out, to);
+    compare(
+        what,
+        &mut out,
+        |out| keep(&library(black_box(from), out)),
+        |out| keep(&reference(black_box(from), out)),
     );
 }
 

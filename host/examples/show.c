@@ -1,13 +1,15 @@
 /*
  * Shows the message in a file, one field a line, or `refused NUMBER at PLACE: MEANING`. For a bad
- * byte in a string or its pad a second line has the byte and those before it.
+ * byte in a string or its pad a second line has the byte and those before it. With --old it is
+ * taken for a message of the old edition, which has no Repository.
  *
  *   cc -std=c99 -Wall -Wextra -Werror -Iinclude examples/show.c PATH/libbep.a -o show
- *   ./show sample.bin
+ *   ./show [--old] sample.bin
  */
 #include <inttypes.h>
 #include <stdio.h>
 #include <stdlib.h>
+#include <string.h>
 
 #include "fordtrumpet.h"
 
@@ -89,10 +91,11 @@ static void show_byte(const uint8_t *input, uint64_t place)
     putchar('\n');
 }
 
-static void show_message(const uint8_t *input, size_t input_len)
+static void show_message(const uint8_t *input, size_t input_len, int old)
 {
     uint64_t answer[BEP_READ_WORDS];
-    uint32_t number = bep_read(input, input_len, answer);
+    uint32_t number = old ? bep_read_old(input, input_len, answer)
+                          : bep_read(input, input_len, answer);
 
     if (number != BEP_ACCEPTED) {
         printf("refused %" PRIu32 " at %" PRIu64 ": %s\n", number, answer[BEP_PLACE],
@@ -106,14 +109,16 @@ static void show_message(const uint8_t *input, size_t input_len)
     switch (answer[BEP_READ_TYPE]) {
     case BEP_INDEX:
     case BEP_INDEX_UPDATE:
-        show_text("repository", input + answer[BEP_INDEX_REPOSITORY_AT],
-                  answer[BEP_INDEX_REPOSITORY_LENGTH]);
+        if (!old)
+            show_text("repository", input + answer[BEP_INDEX_REPOSITORY_AT],
+                      answer[BEP_INDEX_REPOSITORY_LENGTH]);
         show_files(input + answer[BEP_INDEX_FILES_AT], (size_t)answer[BEP_INDEX_FILES_LENGTH],
                    answer[BEP_INDEX_FILES_COUNT]);
         break;
     case BEP_REQUEST:
-        show_text("repository", input + answer[BEP_REQUEST_REPOSITORY_AT],
-                  answer[BEP_REQUEST_REPOSITORY_LENGTH]);
+        if (!old)
+            show_text("repository", input + answer[BEP_REQUEST_REPOSITORY_AT],
+                      answer[BEP_REQUEST_REPOSITORY_LENGTH]);
         show_text("name", input + answer[BEP_REQUEST_NAME_AT], answer[BEP_REQUEST_NAME_LENGTH]);
         printf("offset %" PRIu64 "\n", answer[BEP_REQUEST_OFFSET]);
         printf("length %" PRIu64 "\n", answer[BEP_REQUEST_LENGTH]);
@@ -164,19 +169,22 @@ static uint8_t *load(const char *path, size_t *len)
 
 int main(int argc, char **argv)
 {
+    int old = argc > 1 && strcmp(argv[1], "--old") == 0;
+    const char *path;
     size_t len;
     uint8_t *input;
 
-    if (argc != 2) {
-        fprintf(stderr, "usage: %s FILE\n", argv[0]);
+    if (argc != 2 + old) {
+        fprintf(stderr, "usage: %s [--old] FILE\n", argv[0]);
         return 2;
     }
-    input = load(argv[1], &len);
+    path = argv[1 + old];
+    input = load(path, &len);
     if (input == NULL) {
-        perror(argv[1]);
+        perror(path);
         return 1;
     }
-    show_message(input, len);
+    show_message(input, len, old);
     free(input);
     return 0;
 }

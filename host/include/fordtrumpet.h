@@ -52,7 +52,7 @@ enum {
     BEP_REFUSED_INCOMPLETE = 1,
     /* version not 0 */
     BEP_REFUSED_VERSION = 2,
-    /* type not 1 to 7 */
+    /* type not 1 to 7, of an old message 1 to 6 */
     BEP_REFUSED_TYPE = 3,
     /* reserved not 0 */
     BEP_REFUSED_RESERVED = 4,
@@ -281,6 +281,59 @@ BEP_CHECKED uint32_t bep_write_pong(uint8_t *out, size_t out_len, uint32_t id, u
 BEP_CHECKED uint32_t bep_write_options(uint8_t *out, size_t out_len, uint32_t id,
                                        const uint8_t *options, size_t options_len,
                                        uint64_t answer[1]);
+
+/*
+ * The old edition. Its Index, IndexUpdate and Request have no Repository, and it has no Options. A
+ * Response, a Ping and a Pong are the same bytes in both editions, so the writers above are those
+ * of the old one too. All other calls that take a message take one of the new edition: what comes
+ * over an old link is turned up first.
+ */
+
+/*
+ * Reads the old message at the start of the input, as bep_read does a new one. The Repository that
+ * isn't there has the place 4 and no bytes. Type 7 is refused with 3.
+ */
+BEP_CHECKED uint32_t bep_read_old(const uint8_t *input, size_t input_len,
+                                  uint64_t answer[BEP_READ_WORDS]);
+
+/* Writes an old Index, as bep_write_index does a new one. */
+BEP_CHECKED uint32_t bep_write_old_index(uint8_t *out, size_t out_len, uint32_t id,
+                                         const uint8_t *files, size_t files_len,
+                                         uint64_t answer[1]);
+
+/* Writes an old IndexUpdate, as bep_write_index_update does a new one. */
+BEP_CHECKED uint32_t bep_write_old_index_update(uint8_t *out, size_t out_len, uint32_t id,
+                                                const uint8_t *files, size_t files_len,
+                                                uint64_t answer[1]);
+
+/* Writes an old Request, as bep_write_request does a new one. */
+BEP_CHECKED uint32_t bep_write_old_request(uint8_t *out, size_t out_len, uint32_t id,
+                                           const uint8_t *name, size_t name_len,
+                                           uint64_t offset, uint32_t length,
+                                           const uint8_t *hash, size_t hash_len,
+                                           uint64_t answer[1]);
+
+/*
+ * Turns an old message into a new one. An Index, an IndexUpdate and a Request get the Repository
+ * given, which takes at most 68 bytes; for other types it isn't looked at. The ID and the other
+ * fields stay, and bytes after the message don't go along. Refused with what bep_read_old gives for
+ * the message; then, for those three types, with 5 or 7 for the Repository, its place counted in
+ * the new message; then with 14. answer[BEP_WRITTEN] is the number of bytes written.
+ */
+BEP_CHECKED uint32_t bep_upgrade(uint8_t *out, size_t out_len,
+                                 const uint8_t *message, size_t message_len,
+                                 const uint8_t *repository, size_t repository_len,
+                                 uint64_t answer[1]);
+
+/*
+ * Turns a new message into an old one: the Repository is left out. The ID and the other fields
+ * stay, and bytes after the message don't go along. Refused with what bep_read gives for the
+ * message; then with 18 if it is an Options message; then with 14. answer[BEP_WRITTEN] is the
+ * number of bytes written.
+ */
+BEP_CHECKED uint32_t bep_downgrade(uint8_t *out, size_t out_len,
+                                   const uint8_t *message, size_t message_len,
+                                   uint64_t answer[1]);
 
 /* The words of a file. AT is a place in the array. */
 enum {

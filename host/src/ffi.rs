@@ -85,6 +85,68 @@ unsafe extern "C" {
         answer: *mut [u64; 1],
     ) -> u32;
 
+    /// Reads the message of the old edition at the start of the input.
+    ///
+    /// The words are those of `bep_read`. An Index, an IndexUpdate and a Request have no repository: its
+    /// start is 4 and its length 0. Type 7 is refused with 3.
+    pub fn bep_read_old(input: *const u8, input_len: usize, answer: *mut [u64; 11]) -> u32;
+
+    /// Writes an Index of the old edition.
+    pub fn bep_write_old_index(
+        out: *mut u8,
+        out_len: usize,
+        id: u32,
+        files: *const u8,
+        files_len: usize,
+        answer: *mut [u64; 1],
+    ) -> u32;
+
+    /// Writes an IndexUpdate of the old edition.
+    pub fn bep_write_old_index_update(
+        out: *mut u8,
+        out_len: usize,
+        id: u32,
+        files: *const u8,
+        files_len: usize,
+        answer: *mut [u64; 1],
+    ) -> u32;
+
+    /// Writes a Request of the old edition.
+    pub fn bep_write_old_request(
+        out: *mut u8,
+        out_len: usize,
+        id: u32,
+        name: *const u8,
+        name_len: usize,
+        offset: u64,
+        length: u32,
+        hash: *const u8,
+        hash_len: usize,
+        answer: *mut [u64; 1],
+    ) -> u32;
+
+    /// Turns a message of the old edition into one of the new, of the repository given. `answer[0]` is
+    /// the number of bytes written, or the place of the refusal.
+    pub fn bep_upgrade(
+        out: *mut u8,
+        out_len: usize,
+        message: *const u8,
+        message_len: usize,
+        repository: *const u8,
+        repository_len: usize,
+        answer: *mut [u64; 1],
+    ) -> u32;
+
+    /// Turns a message of the new edition into one of the old. `answer[0]` is the number of bytes
+    /// written, or the place of the refusal.
+    pub fn bep_downgrade(
+        out: *mut u8,
+        out_len: usize,
+        message: *const u8,
+        message_len: usize,
+        answer: *mut [u64; 1],
+    ) -> u32;
+
     /// The record at a place of a FileInfo array whose reading was accepted, by bounds checks alone.
     ///
     /// `answer[0]` is the place past it, `[1]` and `[2]` start and length of its name, `[3]` the

@@ -14,6 +14,12 @@
 //!
 //! A [`RequestQueue`] keeps the requests of a link that aren't answered yet.
 //!
+//! An old edition of the protocol has no Repository in Index, IndexUpdate and Request, and no Options.
+//! [`read_old`], [`write_old_index`], [`write_old_index_update`] and [`write_old_request`] are for links
+//! that speak it; Responses, Pings and Pongs are the same in both. [`accept`], [`serve`] and
+//! [`RequestQueue`] keep to the new edition: [`upgrade`] turns what comes over such a link into it, and
+//! [`downgrade`] what is to be sent.
+//!
 //! Names and other strings of what was read are `&str`: the library lets through UTF-8 and nothing
 //! else, which is proved, so there is no second check. Where a call is given a string, `&str` and
 //! `&[u8]` will both do; the writers check it.
@@ -82,6 +88,7 @@ struct Readme;
 
 mod answer;
 mod builders;
+mod edition;
 mod ffi;
 mod message;
 mod queue;
@@ -97,6 +104,9 @@ mod want;
 mod write;
 
 pub use builders::{FilesBuilder, OptionsBuilder};
+pub use edition::{
+    downgrade, read_old, upgrade, write_old_index, write_old_index_update, write_old_request,
+};
 pub use message::{read, Index, Message, Options, Ping, Pong, ReadMessage, Request, Response};
 pub use queue::{Answered, Issued, Outcome, RequestQueue};
 pub use records::{

@@ -30,13 +30,23 @@ pub fn read(input: &[u8]) -> Result<ReadMessage<'_>, Refusal> {
     let mut answer = [0; 11];
     // SAFETY: pointer and length are those of one slice, and the answer has the size asked for.
     let number = unsafe { ffi::bep_read(input.as_ptr(), input.len(), &mut answer) };
+    message_read(input, number, &answer)
+}
+
+/// What a reading of either edition answered.
+#[inline]
+pub(crate) fn message_read<'a>(
+    input: &'a [u8],
+    number: u32,
+    answer: &[u64; 11],
+) -> Result<ReadMessage<'a>, Refusal> {
     if number != 0 {
         let place = size(answer[0]);
         return Err(Refusal::new(number, place));
     }
     let id = word(answer[2]);
     let message = match answer[1] {
-        1 => Message::Index(index(input, id, &answer)),
+        1 => Message::Index(index(input, id, answer)),
         2 => Message::Request(Request {
             id,
             repository: text(input, answer[3], answer[4]),
@@ -53,7 +63,7 @@ pub fn read(input: &[u8]) -> Result<ReadMessage<'_>, Refusal> {
         }),
         4 => Message::Ping(Ping { id }),
         5 => Message::Pong(Pong { id }),
-        6 => Message::IndexUpdate(index(input, id, &answer)),
+        6 => Message::IndexUpdate(index(input, id, answer)),
         7 => Message::Options(Options {
             id,
             options: KeyValues::new(span(input, answer[5], answer[6]), size(answer[7])),
@@ -153,7 +163,7 @@ impl Message<'_> {
 pub struct Index<'a> {
     /// The Message ID.
     pub id: u32,
-    /// The repository's name, up to 64 bytes.
+    /// The repository's name, up to 64 bytes; empty in an old message, which has none.
     pub repository: &'a str,
     /// The files, in the order they were sent in.
     pub files: Files<'a>,
@@ -174,7 +184,7 @@ pub struct Index<'a> {
 pub struct Request<'a> {
     /// The Message ID.
     pub id: u32,
-    /// The repository's name, up to 64 bytes.
+    /// The repository's name, up to 64 bytes; empty in an old message, which has none.
     pub repository: &'a str,
     /// The file's name, 1 to 255 bytes: a plain path below its folder.
     pub name: &'a str,

@@ -27,7 +27,7 @@ pub enum Refusal {
     Incomplete(usize),
     /// 2: the version isn't 0.
     Version(usize),
-    /// 3: the type isn't 1 to 7.
+    /// 3: the type isn't 1 to 7, of an old message 1 to 6.
     Type(usize),
     /// 4: the reserved bits aren't 0.
     Reserved(usize),

@@ -115,6 +115,11 @@ mod tests {
         assert_eq!(write_index(1, repository, files, &mut out), Ok(MAX_INDEX));
         let request = write_request(1, repository, name, 0, 131_072, &hash, &mut out);
         assert_eq!(request, Ok(MAX_REQUEST));
+        let old = &mut [0; MAX_REQUEST];
+        let length = write_old_request(1, name, 0, 131_072, &hash, old).unwrap();
+        assert_eq!(length, MAX_REQUEST - 68);
+        let turned = upgrade(&old[..length], repository, &mut out);
+        assert_eq!(turned, Ok(MAX_REQUEST));
         assert_eq!(
             write_response(1, &[0; MAX_BLOCK], &mut out),
             Ok(MAX_RESPONSE)

@@ -55,9 +55,13 @@ fn run_text(name: &str, text: &str) -> String {
 }
 
 fn show(program: &Path, message: &[u8]) -> String {
+    show_with(program, &[], message)
+}
+
+fn show_with(program: &Path, options: &[&str], message: &[u8]) -> String {
     let input = scratch("message.bin");
     fs::write(&input, message).unwrap();
-    run(Command::new(program).arg(&input))
+    run(Command::new(program).args(options).arg(&input))
 }
 
 #[test]
@@ -161,6 +165,26 @@ fn the_c_example_shows_messages() {
     assert_eq!(
         show(&program, &[0, 1, 1, 0, 0, 0, 0, 1, b'a', 0, 0, 1]),
         "refused 6 at 11: a pad byte isn't zero\nbyte 01 after 00 00 00 00 01 61 00 00\n"
+    );
+
+    let show_old = |message: &[u8]| show_with(&program, &["--old"], message);
+    let mut index = Encoding::new();
+    index.header(1, 9).files(&[]);
+    assert_eq!(
+        show_old(&index.bytes),
+        "type Index\nid 9\nfiles 0\nused 8 of 8 bytes\n"
+    );
+    let mut request = Encoding::new();
+    request.header(2, 7).name(b"n");
+    request.offset(5).block_length(6).hash(&[1; 32]);
+    let expected = format!(
+        "type Request\nid 7\nname n\noffset 5\nlength 6\nhash {}\nused 60 of 60 bytes\n",
+        "01".repeat(32)
+    );
+    assert_eq!(show_old(&request.bytes), expected);
+    assert_eq!(
+        show_old(&options.bytes),
+        "refused 3 at 0: the type isn't 1 to 7\n"
     );
 }
 

@@ -3,17 +3,18 @@
 mod reference;
 mod support;
 
+use reference::Edition;
 use std::fmt;
 use std::io::Write;
 use support::case_file::{bytes, cases, number, Case};
-use support::compare::read_words;
+use support::compare::{expected, read_words};
 use support::draft::{Body, Draft};
 use support::encode::{Encoding, File};
 use support::library::{Answer as Words, LIBRARY};
 use support::queue_calls::{
     answered_words, queue_of, words_of, Wanted, Words as Queue, QUEUE_CALLS,
 };
-use support::table_calls::{expected, TABLE_CALLS};
+use support::table_calls::TABLE_CALLS;
 
 /// What a call answers.
 #[derive(Debug, PartialEq, Eq)]
@@ -104,7 +105,11 @@ type OfThree = fn(&[u8], &[u8], &[u8], &mut [u8]) -> Words<1>;
 struct Side {
     name: &'static str,
     read: fn(&[u8]) -> Words<11>,
+    read_old: fn(&[u8]) -> Words<11>,
     write: fn(&Draft, &mut [u8]) -> Words<1>,
+    /// Message, repository, buffer.
+    upgrade: fn(&[u8], &[u8], &mut [u8]) -> Words<1>,
+    downgrade: fn(&[u8], &mut [u8]) -> Words<1>,
     is_good: fn(&[u8]) -> bool,
     merge: fn(&[u8], &[u8], &mut [u8]) -> Words<1>,
     /// Old table, message, repository, buffer.
@@ -120,7 +125,10 @@ const SIDES: [Side; 2] = [
     Side {
         name: "library",
         read: LIBRARY.read_safely,
+        read_old: LIBRARY.read_old_safely,
         write: LIBRARY.write,
+        upgrade: LIBRARY.upgrade,
+        downgrade: LIBRARY.downgrade,
         is_good: TABLE_CALLS.is_good,
         merge: TABLE_CALLS.merge,
         accept: TABLE_CALLS.accept,
@@ -141,7 +149,10 @@ const SIDES: [Side; 2] = [
     Side {
         name: "reference",
         read: |input| read_words(&reference::read(input)),
+        read_old: |input| read_words(&reference::read_as(Edition::Old, input)),
         write: |draft, out| expected(draft.write_with_reference(out)),
+        upgrade: |message, repository, out| expected(reference::upgrade(message, repository, out)),
+        downgrade: |message, out| expected(reference::downgrade(message, out)),
         is_good: reference::is_good,
         merge: |a, b, out| expected(reference::merge(a, b, out)),
         accept: |old, message, repository, out| {
@@ -190,9 +201,28 @@ impl Side {
             ["text", contents] => self.text(bytes(contents)?),
             ["name", contents] => self.name(&bytes(contents)?),
             ["read", message] => Ok(self.read(&bytes(message)?)),
+            ["read-old", message] => Ok(read_answer((self.read_old)(&bytes(message)?))),
             [call, id, ref fields @ .., room] if call.starts_with("write-") => {
-                let (id, body) = (number(id)?, body(call, fields)?);
-                self.write(&Draft { id, body }, number(room)?)
+                let draft = Draft::new(number(id)?, body(call, fields)?);
+                self.write(&draft, number(room)?)
+            }
+            [call, id, ref fields @ .., room] if call.starts_with("old-") => {
+                let draft = Draft {
+                    id: number(id)?,
+                    edition: Edition::Old,
+                    body: old_body(call, fields)?,
+                };
+                self.write(&draft, number(room)?)
+            }
+            ["up", message, repository, room] => {
+                let (message, repository) = (bytes(message)?, bytes(repository)?);
+                fill(number(room)?, |out| {
+                    (self.upgrade)(&message, &repository, out)
+                })
+            }
+            ["down", message, room] => {
+                let message = bytes(message)?;
+                fill(number(room)?, |out| (self.downgrade)(&message, out))
             }
             ["good", table] => self.good(&bytes(table)?),
             ["merge", a, b, room] => {
@@ -228,7 +258,7 @@ impl Side {
         let mut options = Encoding::new();
         options.options(&[(Vec::new(), contents.clone())]);
         let body = Body::Options { options };
-        let draft = Draft { id: 0, body };
+        let draft = Draft::new(0, body);
         let message = draft.encode().bytes;
         let answers = [self.read(&message), self.write(&draft, message.len())?];
         match answers.map(|answer| without_place(answer, 12, &contents)) {
@@ -263,10 +293,7 @@ impl Side {
     }
 
     fn read(&self, message: &[u8]) -> Answer {
-        match (self.read)(message) {
-            (0, [end, kind, id, ..]) => Answer::Read(kind, id, end),
-            (number, [place, ..]) => Answer::Refused(number, place),
-        }
+        read_answer((self.read)(message))
     }
 
     fn write(&self, draft: &Draft, room: usize) -> Result<Answer, String> {
@@ -372,6 +399,14 @@ impl Side {
     }
 }
 
+/// What a reading answered.
+fn read_answer(words: Words<11>) -> Answer {
+    match words {
+        (0, [end, kind, id, ..]) => Answer::Read(kind, id, end),
+        (number, [place, ..]) => Answer::Refused(number, place),
+    }
+}
+
 /// Messages without a Repository that have this name: an Index and an IndexUpdate, where its place is 12,
 /// and a Request, where it is 8.
 fn with_name(name: &[u8]) -> [Draft; 3] {
@@ -395,7 +430,7 @@ fn with_name(name: &[u8]) -> [Draft; 3] {
         length: 1,
         hash: vec![0; 32],
     };
-    [index(false), index(true), request].map(|body| Draft { id: 0, body })
+    [index(false), index(true), request].map(|body| Draft::new(0, body))
 }
 
 /// What an answer says of a string with these contents whose length word stands at this place. 7 has the
@@ -438,6 +473,21 @@ fn body(call: &str, fields: &[&str]) -> Result<Body, String> {
         },
         _ => return Err("no writer that is known".to_string()),
     })
+}
+
+/// The fields of a writer of the old edition, as those of the new one without a Repository.
+fn old_body(call: &str, fields: &[&str]) -> Result<Body, String> {
+    match (call, fields) {
+        ("old-index", &[files]) => body("write-index", &["-", files]),
+        ("old-update", &[files]) => body("write-update", &["-", files]),
+        ("old-request", &[name, offset, length, hash]) => {
+            body("write-request", &["-", name, offset, length, hash])
+        }
+        ("old-response", _) => body("write-response", fields),
+        ("old-ping", []) => Ok(Body::Ping),
+        ("old-pong", []) => Ok(Body::Pong),
+        _ => Err("no writer that is known".to_string()),
+    }
 }
 
 /// Lends a call a buffer of `room` bytes. What isn't filled, and where it refuses all of it, must stay
@@ -491,12 +541,12 @@ fn run_file(file: &str, places: Places) -> Result<(usize, usize), String> {
     }
 }
 
-/// Runs a file and says so even when the test passes.
+/// Runs a file, which has so many cases, and says so even when the test passes.
 #[track_caller]
-fn check_file(name: &str, file: &str, places: Places) {
+fn check_file(name: &str, file: &str, places: Places, cases: usize) {
     match run_file(file, places) {
         Ok((count, otherwise)) => {
-            assert!(count > 0, "{name} has no cases");
+            assert_eq!(count, cases, "{name}");
             let text = format!(
                 "{name}: {count} cases by library and reference, {otherwise} open ones otherwise"
             );
@@ -509,19 +559,25 @@ fn check_file(name: &str, file: &str, places: Places) {
 #[test]
 fn utf8() {
     let file = include_str!("cases/utf8.txt");
-    check_file("utf8.txt", file, Places::LengthWord);
+    check_file("utf8.txt", file, Places::LengthWord, 219);
 }
 
 #[test]
 fn names() {
     let file = include_str!("cases/names.txt");
-    check_file("names.txt", file, Places::LengthWord);
+    check_file("names.txt", file, Places::LengthWord, 185);
 }
 
 #[test]
 fn bad_byte() {
     let file = include_str!("cases/bad_byte.txt");
-    check_file("bad_byte.txt", file, Places::BadByte);
+    check_file("bad_byte.txt", file, Places::BadByte, 180);
+}
+
+#[test]
+fn old_edition() {
+    let file = include_str!("cases/old_edition.txt");
+    check_file("old_edition.txt", file, Places::BadByte, 219);
 }
 
 #[test]
@@ -579,6 +635,11 @@ fn a_line_that_is_not_understood_or_has_another_answer_is_told() {
         "write-ping 0 4 = yes 00000400",
         "write-response x - 8 = yes 00000300.00000000",
         "issue - 61 0 1 00*32 = no 14 0",
+        "old-index 0 - 00000000 8 = yes 00000100.00000000",
+        "old-options 0 00000000 8 = yes 00000700.00000000",
+        "old-ping 0 0 4 = yes 00000400",
+        "up 00000400 4 = yes 00000400",
+        "down 00000400 - 4 = yes 00000400",
         // Understood, but the answer is another.
         "text c0af = yes",
         "read 00000400 = yes 4 0 5",
@@ -597,6 +658,13 @@ fn a_line_that_is_not_understood_or_has_another_answer_is_told() {
         "answer 00000300.00000004.00000000 = none",
         "answer 00010300.00000005.61626364.65000000 = size",
         "answer 00000300.00000005.61626364.65000001 = no 6 4",
+        "read-old 00000700.00000000 = yes 7 0 8",
+        "read-old 00000100.00000000 = yes 1 0 12",
+        "old-index 0 00000000 8 = yes 00000100.00000000.00000000",
+        "old-pong 1 4 = yes 00000500",
+        "up 00000100.00000000 - 12 = yes 00000100.00000000",
+        "up 00010400 ff 4 = no 7 8",
+        "down 00000700.00000000 0 = no 14 0",
     ] {
         let file = format!("text 61 = yes\n{line}\ntext - = yes\n");
         let told = run_file(&file, Places::BadByte).unwrap_err();

@@ -250,14 +250,12 @@ fn block() -> Block {
 fn index(files: &[File]) -> Draft {
     let mut encoding = Encoding::new();
     encoding.files(files);
-    Draft {
-        id: 1,
-        body: Body::Index {
-            update: false,
-            repository: vec![],
-            files: encoding,
-        },
-    }
+    let body = Body::Index {
+        update: false,
+        repository: vec![],
+        files: encoding,
+    };
+    Draft::new(1, body)
 }
 
 /// Both read the draft's message and, given its fields, write it.
@@ -493,16 +491,14 @@ fn number_of_files() {
 }
 
 fn request(repository: &[u8], name: &[u8], length: u32, hash_len: usize) -> Draft {
-    Draft {
-        id: 4095,
-        body: Body::Request {
-            repository: repository.to_vec(),
-            name: name.to_vec(),
-            offset: u64::MAX,
-            length,
-            hash: vec![0xFF; hash_len],
-        },
-    }
+    let body = Body::Request {
+        repository: repository.to_vec(),
+        name: name.to_vec(),
+        offset: u64::MAX,
+        length,
+        hash: vec![0xFF; hash_len],
+    };
+    Draft::new(4095, body)
 }
 
 #[test]
@@ -552,11 +548,9 @@ fn requests() {
 
 #[test]
 fn responses() {
-    let response = |len| Draft {
-        id: 2,
-        body: Body::Response {
-            data: vec![0xFF; len],
-        },
+    let response = |len| {
+        let data = vec![0xFF; len];
+        Draft::new(2, Body::Response { data })
     };
     for len in [0, 1, 2, 3, 4, 5, 131_071, 131_072] {
         accepted(&response(len));
@@ -574,10 +568,7 @@ fn options() {
     let with = |key: &[u8], value: &[u8], count| {
         let mut options = Encoding::new();
         options.options(&vec![(key.to_vec(), value.to_vec()); count]);
-        Draft {
-            id: 3,
-            body: Body::Options { options },
-        }
+        Draft::new(3, Body::Options { options })
     };
     accepted(&with(b"", b"", 64));
     accepted(&with(&[b'k'; 64], &[b'v'; 255], 64));
@@ -612,31 +603,19 @@ fn ids() {
     options.options(&[]);
     let drafts = [
         index(&[]),
-        Draft {
-            id: 0,
-            body: Body::Index {
+        Draft::new(
+            0,
+            Body::Index {
                 update: true,
                 repository: vec![],
                 files: options.clone(),
             },
-        },
+        ),
         request(b"r", b"n", 1, 32),
-        Draft {
-            id: 0,
-            body: Body::Response { data: vec![] },
-        },
-        Draft {
-            id: 0,
-            body: Body::Ping,
-        },
-        Draft {
-            id: 0,
-            body: Body::Pong,
-        },
-        Draft {
-            id: 0,
-            body: Body::Options { options },
-        },
+        Draft::new(0, Body::Response { data: vec![] }),
+        Draft::new(0, Body::Ping),
+        Draft::new(0, Body::Pong),
+        Draft::new(0, Body::Options { options }),
     ];
     for mut draft in drafts {
         for id in [0, 1, 255, 256, 4095] {

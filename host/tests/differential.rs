@@ -8,10 +8,9 @@ mod support;
 
 use std::env;
 use std::io::Write;
-use support::compare::{same, same_bytes, short, Comparison};
+use support::compare::{laid_out, same, same_bytes, short, Comparison, READING, WRITING};
 use support::damage;
-use support::draft::{Body, Draft};
-use support::encode::{Block, Encoding, File};
+use support::draft::Body;
 use support::generate;
 use support::library::{Library, LIBRARY};
 use support::random::Random;
@@ -36,13 +35,10 @@ fn compare_input(comparison: &mut Comparison, number: u64) -> Result<(), String>
     if !random.once_in(4) {
         damage::encoding(&mut message, &mut random);
     }
-    // The input lies at any place in memory, and zeros after its end could pass for a pad.
-    let start = random.below(8);
-    let mut memory = vec![0xFF; start];
-    memory.extend_from_slice(&message.bytes);
-    memory.extend_from_slice(&[0; 40]);
-    let input = &memory[start..start + message.bytes.len()];
-    comparison.read(draft.kind(), input).map_err(|difference| {
+    let (memory, lies) = laid_out(&message.bytes, &mut random);
+    let input = &memory[lies];
+    let compared = comparison.read(draft.edition, draft.kind(), input);
+    compared.map_err(|difference| {
         let hex = short(&hex(input));
         format!("input {number}, reading {hex}\n{difference}")
     })
@@ -85,124 +81,25 @@ fn generated_messages_get_the_same_answers() {
     }
 }
 
-/// A run that meets a refusal too seldom says little about it.
 fn every_number_was_met(comparison: &Comparison) {
-    let index = [1, 5, 6, 7, 8, 9, 10, 11, 12, 24];
-    let read: [(u32, &[u32]); 7] = [
-        (1, &index),
-        (2, &[1, 5, 6, 7, 8, 9, 10, 24]),
-        (3, &[1, 5, 6]),
-        (4, &[1]),
-        (5, &[1]),
-        (6, &index),
-        (7, &[1, 5, 6, 7]),
-    ];
-    let write: [(u32, &[u32]); 7] = [
-        (1, &index),
-        (2, &[5, 7, 8, 9, 10, 24]),
-        (3, &[5]),
-        (4, &[5]),
-        (5, &[5]),
-        (6, &index),
-        (7, &[1, 5, 6, 7]),
-    ];
-    for (call, common, table) in [
-        ("read", &[0, 2, 3, 4][..], read),
-        ("write", &[0, 14], write),
-    ] {
-        for (kind, numbers) in table {
-            for &number in common.iter().chain(numbers) {
-                let times = comparison.seen.get(&(call, kind, number)).copied();
-                assert!(
-                    times >= Some(20),
-                    "{call} of type {kind} met {number} {times:?} times"
-                );
-            }
-        }
+    for (kind, numbers) in READING {
+        comparison.met_often("read", kind, &[0, 2, 3, 4]);
+        comparison.met_often("read", kind, numbers);
     }
-}
-
-/// A short message of each type with every kind of field in it.
-fn short_messages() -> Vec<Draft> {
-    let block = |length| Block {
-        length,
-        hash: [0x20; 32],
-    };
-    let file = |name: &[u8], flags, blocks| File {
-        name: name.to_vec(),
-        flags,
-        modified: -5,
-        version: 3,
-        blocks,
-    };
-    let mut files = Encoding::new();
-    files.files(&[
-        file("bé".as_bytes(), 0o644, vec![block(1), block(131_072)]),
-        file(b"a/.b", 0x3000, vec![]),
-    ]);
-    let mut options = Encoding::new();
-    options.options(&[
-        (b"clientId".to_vec(), b"x".to_vec()),
-        ("ключ".as_bytes().to_vec(), vec![]),
-    ]);
-    let bodies = [
-        Body::Index {
-            update: false,
-            repository: b"r".to_vec(),
-            files: files.clone(),
-        },
-        Body::Index {
-            update: true,
-            repository: vec![],
-            files,
-        },
-        Body::Request {
-            repository: b"re".to_vec(),
-            name: b"\xE2\x82\xAC\xF0\x9F\x98\x80".to_vec(),
-            offset: 131_072,
-            length: 5,
-            hash: vec![0x20; 32],
-        },
-        Body::Response {
-            data: b"12345".to_vec(),
-        },
-        Body::Ping,
-        Body::Pong,
-        Body::Options { options },
-    ];
-    bodies.map(|body| Draft { id: 0x0ABC, body }).to_vec()
+    for (kind, numbers) in WRITING {
+        comparison.met_often("write", kind, &[0, 14]);
+        comparison.met_often("write", kind, numbers);
+    }
 }
 
 #[test]
 fn every_cut_and_every_byte_gets_the_same_answer() {
     let mut comparison = Comparison::new(LIBRARY);
-    for draft in short_messages() {
-        let kind = draft.kind();
-        let whole = draft.encode().bytes;
-        for len in 0..=whole.len() {
-            comparison.read(kind, &whole[..len]).unwrap();
-        }
-        let mut bytes = whole.clone();
-        for at in 0..whole.len() {
-            for value in 0..=255 {
-                bytes[at] = value;
-                comparison.read(kind, &bytes).unwrap();
-            }
-            bytes[at] = whole[at];
-        }
-        for at in (0..whole.len()).step_by(4) {
-            let word = u32::from_be_bytes(whole[at..at + 4].try_into().unwrap());
-            for other in [
-                word.wrapping_add(1),
-                word.wrapping_sub(1),
-                1 << 31,
-                u32::MAX,
-            ] {
-                bytes[at..at + 4].copy_from_slice(&other.to_be_bytes());
-                comparison.read(kind, &bytes).unwrap();
-            }
-            bytes[at..at + 4].copy_from_slice(&whole[at..at + 4]);
-        }
+    for draft in generate::short_messages() {
+        damage::everywhere(&draft.encode().bytes, |bytes| {
+            let compared = comparison.read(draft.edition, draft.kind(), bytes);
+            compared.unwrap();
+        });
     }
     say(&format!(
         "cuts and bytes: {} calls compared, no difference",
@@ -214,7 +111,7 @@ fn every_cut_and_every_byte_gets_the_same_answer() {
 fn arrays_damaged_anywhere_are_written_alike() {
     let mut comparison = Comparison::new(LIBRARY);
     let mut random = Random::new(SEED);
-    for mut draft in short_messages() {
+    for mut draft in generate::short_messages() {
         let (Body::Index { files: array, .. } | Body::Options { options: array }) = &draft.body
         else {
             continue;
@@ -254,7 +151,7 @@ fn arrays_damaged_anywhere_are_written_alike() {
 fn every_room_gets_the_same_answer() {
     let mut comparison = Comparison::new(LIBRARY);
     let mut random = Random::new(SEED + 1);
-    for draft in short_messages() {
+    for draft in generate::short_messages() {
         for room in 0..draft.encode().bytes.len() + 5 {
             comparison.write_into(&draft, room, &mut random).unwrap();
         }
@@ -264,7 +161,7 @@ fn every_room_gets_the_same_answer() {
 #[test]
 fn records_at_any_place_are_the_same() {
     let mut comparison = Comparison::new(LIBRARY);
-    for draft in short_messages() {
+    for draft in generate::short_messages() {
         let (Body::Index { files: array, .. } | Body::Options { options: array }) = &draft.body
         else {
             continue;

@@ -80,7 +80,7 @@ fn messages(len: usize) -> Vec<Draft> {
         response,
         Body::Options { options },
     ];
-    bodies.map(|body| Draft { id: 1, body }).to_vec()
+    bodies.map(|body| Draft::new(1, body)).to_vec()
 }
 
 /// Pads of this length: of two bytes all there are, of three every value of each byte beside some values

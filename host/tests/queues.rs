@@ -85,7 +85,7 @@ fn message(random: &mut Random, queue: &Queue) -> Vec<u8> {
     };
     let mut message = match random.below(12) {
         0 => draft(random).encode(),
-        _ => Draft { id, body }.encode(),
+        _ => Draft::new(id, body).encode(),
     };
     if random.once_in(10) {
         damage::encoding(&mut message, random);

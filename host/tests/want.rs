@@ -10,14 +10,14 @@ use std::env;
 use std::io::Write;
 use std::ops::Range;
 use support::alike;
-use support::compare::{same, same_bytes, Compared};
+use support::compare::{expected, same, same_bytes, Compared};
 use support::damage;
 use support::draft::{Body, Draft};
 use support::encode::{Block, File};
 use support::generate;
 use support::library::{ffi, Answer};
 use support::random::Random;
-use support::table_calls::{expected, TableComparison, TABLE_CALLS};
+use support::table_calls::{TableComparison, TABLE_CALLS};
 use support::tables::{encode, Pool};
 
 const INPUTS: u64 = 60_000;
@@ -136,16 +136,14 @@ fn request(random: &mut Random, files: &[File]) -> Draft {
         4 => hash[random.below(32)] ^= 1,
         _ => {}
     }
-    Draft {
-        id: random.word() % 4096,
-        body: Body::Request {
-            repository,
-            name,
-            offset,
-            length,
-            hash,
-        },
-    }
+    let body = Body::Request {
+        repository,
+        name,
+        offset,
+        length,
+        hash,
+    };
+    Draft::new(random.word() % 4096, body)
 }
 
 fn compare_serving(number: u64, met: &mut BTreeMap<u32, u64>) -> Compared {

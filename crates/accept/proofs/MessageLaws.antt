@@ -12,7 +12,7 @@ use Rattle.xdr.specs.Filling.{refuses}
 use Rattle.xdr.specs.Answers.{atStart}
 use Rattle.xdr.specs.declared.answer.Refusal.{Refusal}
 use Rattle.xdr.proofs.NumberLaws.{bytes-drop}
-use Rattle.xdr.proofs.Steps.{Reads, opened, passed, ends, ends-word}
+use Rattle.xdr.proofs.Steps.{Reads, opened, passed, ends-word}
 use Rattle.xdr.proofs.Strings.{string-ends, string-within}
 use Rattle.xdr.proofs.Parts.{pair-parts}
 use Rattle.xdr.proofs.Corollaries.{read-exactly}
@@ -32,27 +32,28 @@ use Rattle.message.specs.Kinds.{indexIn, indexRefusal}
 use Rattle.accept.specs.Steps.Sorted.{IsArray, ofArray}
 use Rattle.message.specs.declared.kind.IndexIn.{IndexIn}
 use Rattle.message.specs.declared.kind.IndexIn.the-variants as F
+use Rattle.message.specs.declared.edition.Edition.the-variants as E
 
 not-index : {update : Bool} {sent : List ℕ × List File} {P : Type 0} → noIndex ≡ indexWith update sent → P
 not-index e = let z : _≡_ {A = ℕ} 0 1 = cc in absurd (omega arith)
 
 -- an Index's body has the format of one, whatever is said of values of formats
-pub index-format : (P : (A : Type 0) → Format A → A → Type 0) (k : Kind) (b : Body k) {update : Bool} {sent : List ℕ × List File} → indexBody k b ≡ indexWith update sent
-    → P (Body k) (body k) b → P (List ℕ × List File) index sent
-index-format P isIndex b {update} {sent} e h = let same : b ≡ sent = cc in subst (λ (s : List ℕ × List File). P (List ℕ × List File) index s) same h
+pub index-format : (P : (A : Type 0) → Format A → A → Type 0) (k : Kind) (b : Body E.New k) {update : Bool} {sent : List ℕ × List File} → indexBody k b ≡ indexWith update sent
+    → P (Body E.New k) (body E.New k) b → P (List ℕ × List File) (index E.New) sent
+index-format P isIndex b {update} {sent} e h = let same : b ≡ sent = cc in subst (λ (s : List ℕ × List File). P (List ℕ × List File) (index E.New) s) same h
 index-format P isRequest b e h = not-index e
 index-format P isResponse b e h = not-index e
 index-format P isPing b e h = not-index e
 index-format P isPong b e h = not-index e
-index-format P isIndexUpdate b {update} {sent} e h = let same : b ≡ sent = cc in subst (λ (s : List ℕ × List File). P (List ℕ × List File) index s) same h
+index-format P isIndexUpdate b {update} {sent} e h = let same : b ≡ sent = cc in subst (λ (s : List ℕ × List File). P (List ℕ × List File) (index E.New) s) same h
 index-format P isOptions b e h = not-index e
 
 -- what a body that was read is to a call that takes an Index
 abbrev spanIn : IndexBody → ℕ → IndexIn
-spanIn (indexWith update sent) next = F.Taken update (indexSpan sent next)
+spanIn (indexWith update sent) next = F.Taken update (indexSpan E.New sent next)
 spanIn noIndex next = F.Refused (atStart 18)
 
-index-in : (k : Kind) (b : Body k) (id next : ℕ) → indexIn (bodyAnswer k id (taken b next)) ≡ spanIn (indexBody k b) next
+index-in : (k : Kind) (b : Body E.New k) (id next : ℕ) → indexIn (bodyAnswer E.New k id (taken b next)) ≡ spanIn (indexBody k b) next
 index-in isIndex b id next = refl
 index-in isRequest b id next = refl
 index-in isResponse b id next = refl
@@ -71,20 +72,20 @@ no-refusal e = let z : _≡_ {A = ℕ} 0 1 = cc in absurd (omega arith)
 pub record Listing (m : List ℕ) (update : Bool) (x : IndexSpan) : Type 0 where
   pub sent : List ℕ × List File
   pub next : ℕ
-  pub outcome : (old expected : List ℕ) → ofReading old expected (readAt message m 0) ≡ ofIndex update old expected sent
-  pub reads : Reads index m 4 (taken sent next)
-  pub span : x ≡ indexSpan sent next
+  pub outcome : (old expected : List ℕ) → ofReading old expected (readAt (message E.New) m 0) ≡ ofIndex update old expected sent
+  pub reads : Reads (index E.New) m 4 (taken sent next)
+  pub span : x ≡ indexSpan E.New sent next
 
 -- in the bytes that were read, a header and then the body
-module _ (m : List ℕ) (v : MessageValue) (next : ℕ) (h : readAt message m 0 ≡ taken v next) where
+module _ (m : List ℕ) (v : MessageValue E.New) (next : ℕ) (h : readAt (message E.New) m 0 ≡ taken v next) where
   abbrev kind : Kind
   kind = kindOf (typeOf (v .0))
 
-  body-reads : Reads (body kind) m 4 (taken (v .1) next)
-  body-reads = let p = pair-parts (record { is = h }) in subst (λ (k : ℕ). Reads (body kind) m k (taken (v .1) next)) (ends-word (passed (passed (passed (p .1)))) .0) (p .2)
+  body-reads : Reads (body E.New kind) m 4 (taken (v .1) next)
+  body-reads = let p = pair-parts (record { is = h }) in subst (λ (k : ℕ). Reads (body E.New kind) m k (taken (v .1) next)) (ends-word (passed (passed (passed (p .1)))) .0) (p .2)
 
-  found-in : {f : IndexIn} → f ≡ indexIn (messageAnswer (readAt message m 0)) → f ≡ spanIn (indexBody kind (v .1)) next
-  found-in e = e ∙ ap (λ (r : Reading MessageValue). indexIn (messageAnswer r)) h ∙ index-in kind (v .1) (idOf (v .0)) next
+  found-in : {f : IndexIn} → f ≡ indexIn (messageAnswer E.New (readAt (message E.New) m 0)) → f ≡ spanIn (indexBody kind (v .1)) next
+  found-in e = e ∙ ap (λ (r : Reading (MessageValue E.New)). indexIn (messageAnswer E.New r)) h ∙ index-in kind (v .1) (idOf (v .0)) next
 
   body-listed : {update : Bool} {x : IndexSpan} (y : IndexBody) → indexBody kind (v .1) ≡ y → spanIn y next ≡ F.Taken update x → Listing m update x
   body-listed {update} {x} (indexWith u sent) q e =
@@ -101,23 +102,23 @@ module _ (m : List ℕ) (v : MessageValue) (next : ℕ) (h : readAt message m 0 
   body-refused (indexWith u sent) e old expected = no-refusal e
   body-refused noIndex e old expected = ap (λ (u : IndexIn). refuses (indexRefusal u .number) (indexRefusal u .place)) e
 
-pub found-list : (m : List ℕ) {f : IndexIn} {update : Bool} {x : IndexSpan} → f ≡ indexIn (messageAnswer (readAt message m 0)) → f ≡ F.Taken update x → Listing m update x
-found-list m {f} {update} {x} e q = go (readAt message m 0) refl
+pub found-list : (m : List ℕ) {f : IndexIn} {update : Bool} {x : IndexSpan} → f ≡ indexIn (messageAnswer E.New (readAt (message E.New) m 0)) → f ≡ F.Taken update x → Listing m update x
+found-list m {f} {update} {x} e q = go (readAt (message E.New) m 0) refl
   where
-    go : (r : Reading MessageValue) → readAt message m 0 ≡ r → Listing m update x
+    go : (r : Reading (MessageValue E.New)) → readAt (message E.New) m 0 ≡ r → Listing m update x
     go (taken v next) h = body-listed m v next h (indexBody (kindOf (typeOf (v .0))) (v .1)) refl (sym (found-in m v next h e) ∙ q)
-    go (unread k p) h = no-list (ap (λ (r : Reading MessageValue). indexIn (messageAnswer r)) (sym h) ∙ sym e ∙ q)
+    go (unread k p) h = no-list (ap (λ (r : Reading (MessageValue E.New)). indexIn (messageAnswer E.New r)) (sym h) ∙ sym e ∙ q)
 
 -- a refusal
-found-refused : (m : List ℕ) {f : IndexIn} {r g : Refusal} → f ≡ indexIn (messageAnswer (readAt message m 0)) → f ≡ F.Refused r → g ≡ indexRefusal f
-    → (old expected : List ℕ) → ofReading old expected (readAt message m 0) ≡ refuses (g .number) (g .place)
-found-refused m {f} {r} {g} e q s old expected = go (readAt message m 0) refl ∙ ap (λ (u : Refusal). refuses (u .number) (u .place)) (sym (s ∙ ap indexRefusal q))
+found-refused : (m : List ℕ) {f : IndexIn} {r g : Refusal} → f ≡ indexIn (messageAnswer E.New (readAt (message E.New) m 0)) → f ≡ F.Refused r → g ≡ indexRefusal f
+    → (old expected : List ℕ) → ofReading old expected (readAt (message E.New) m 0) ≡ refuses (g .number) (g .place)
+found-refused m {f} {r} {g} e q s old expected = go (readAt (message E.New) m 0) refl ∙ ap (λ (u : Refusal). refuses (u .number) (u .place)) (sym (s ∙ ap indexRefusal q))
   where
-    go : (x : Reading MessageValue) → readAt message m 0 ≡ x → ofReading old expected (readAt message m 0) ≡ refuses (r .number) (r .place)
+    go : (x : Reading (MessageValue E.New)) → readAt (message E.New) m 0 ≡ x → ofReading old expected (readAt (message E.New) m 0) ≡ refuses (r .number) (r .place)
     go (taken v next) h = ap (ofReading old expected) h ∙ body-refused m v next h (indexBody (kindOf (typeOf (v .0))) (v .1)) (sym (found-in m v next h e) ∙ q) old expected
     go (unread k p) h =
         ap (ofReading old expected) h
-        ∙ ap (λ (u : IndexIn). refuses (indexRefusal u .number) (indexRefusal u .place)) (ap (λ (x : Reading MessageValue). indexIn (messageAnswer x)) (sym h) ∙ sym e ∙ q)
+        ∙ ap (λ (u : IndexIn). refuses (indexRefusal u .number) (indexRefusal u .place)) (ap (λ (x : Reading (MessageValue E.New)). indexIn (messageAnswer E.New x)) (sym h) ∙ sym e ∙ q)
 
 -- an array that was read at a place
 
@@ -209,7 +210,7 @@ module _ (old m expected : List ℕ) where
   unfolding acceptOutcome
   old-bad e = rw e refl
 
-  pub message-refused : {f : IndexIn} {r g : Refusal} → isGood old ≡ true → f ≡ indexIn (messageAnswer (readAt message m 0)) → f ≡ F.Refused r → g ≡ indexRefusal f
+  pub message-refused : {f : IndexIn} {r g : Refusal} → isGood old ≡ true → f ≡ indexIn (messageAnswer E.New (readAt (message E.New) m 0)) → f ≡ F.Refused r → g ≡ indexRefusal f
       → acceptOutcome old m expected ≡ refuses (g .number) (g .place)
   unfolding acceptOutcome
   message-refused h e q s = rw h (found-refused m e q s old expected)

@@ -15,6 +15,7 @@ use Rattle.xdr.proofs.Corollaries.{read-exactly}
 use Rattle.record.specs.File.{File, file}
 use Rattle.message.specs.Header.{typeOf}
 use Rattle.message.specs.Message.{Kind, kindOf, Body, body, MessageValue, index, message}
+use Rattle.message.specs.declared.edition.Edition.the-variants as E
 use Rattle.table.specs.Limits.{recordsLimit, bytesLimit}
 use Rattle.order.specs.Order.{isEqual, compareLists}
 use Rattle.table.specs.Table.{isGood, isWithin, records, tableOf, resultingTable}
@@ -112,7 +113,7 @@ pub record Result (old l : List ℕ) : Type 0 where
   pub good : GoodTable l (resulting update sent (records old))
 
 -- the records of an Index are valid
-pub files-valid : (sent : List ℕ × List File) → Valid index sent → AllValid (sent .1)
+pub files-valid : (sent : List ℕ × List File) → Valid (index E.New) sent → AllValid (sent .1)
 unfolding Valid
 files-valid sent v = v .1 .1
 
@@ -130,16 +131,16 @@ module _ (old expected l : List ℕ) (b : IsBytes old) (g : isGood old ≡ true)
       }
       go false q = not-given q
 
-  body-gave : (k : Kind) (s : Body k) → Valid (body k) s → (y : IndexBody) → indexBody k s ≡ y → ofBody old expected y ≡ gives l → Result old l
+  body-gave : (k : Kind) (s : Body E.New k) → Valid (body E.New k) s → (y : IndexBody) → indexBody k s ≡ y → ofBody old expected y ≡ gives l → Result old l
   body-gave k s v (indexWith update sent) q e = index-gave update sent (files-valid sent (index-format (λ A F a. Valid F a) k s q v)) e
   body-gave k s v noIndex q e = not-given e
 
-  reading-gave : (m : List ℕ) → IsBytes m → ofReading old expected (readAt message m 0) ≡ gives l → Result old l
+  reading-gave : (m : List ℕ) → IsBytes m → ofReading old expected (readAt (message E.New) m 0) ≡ gives l → Result old l
   unfolding readAt Valid
-  reading-gave m c e = go (read message m) refl (ap (ofReading old expected) (sym (shifted-zero (read message m))) ∙ e)
+  reading-gave m c e = go (read (message E.New) m) refl (ap (ofReading old expected) (sym (shifted-zero (read (message E.New) m))) ∙ e)
     where
-      go : (r : Reading MessageValue) → read message m ≡ r → ofReading old expected r ≡ gives l → Result old l
-      go (taken v n) q h = body-gave (kindOf (typeOf (v .0))) (v .1) (read-exactly message m v n c q .1 .1) (indexBody (kindOf (typeOf (v .0))) (v .1)) refl h
+      go : (r : Reading (MessageValue E.New)) → read (message E.New) m ≡ r → ofReading old expected r ≡ gives l → Result old l
+      go (taken v n) q h = body-gave (kindOf (typeOf (v .0))) (v .1) (read-exactly (message E.New) m v n c q .1 .1) (indexBody (kindOf (typeOf (v .0))) (v .1)) refl h
       go (unread k p) q h = not-given h
 
 -- an accepted call fills in a good table: of what was sent, and of what it keeps of the old table
@@ -147,7 +148,7 @@ pub accept-result : (old m expected l : List ℕ) → IsBytes old → IsBytes m 
 unfolding acceptOutcome
 accept-result old m expected l b c e = go (isGood old) refl e
   where
-    go : (t : Bool) → isGood old ≡ t → cond t (ofReading old expected (readAt message m 0)) (refuses 15 0) ≡ gives l → Result old l
+    go : (t : Bool) → isGood old ≡ t → cond t (ofReading old expected (readAt (message E.New) m 0)) (refuses 15 0) ≡ gives l → Result old l
     go true g q = reading-gave old expected l b g m c q
     go false g q = not-given q
 

@@ -10,6 +10,7 @@ use Rattle.record.specs.File.{File, file}
 use Rattle.message.specs.Header.{typeOf}
 use Rattle.message.specs.Message.{Kind, isIndex, isRequest, isResponse, isPing, isPong, isIndexUpdate, isOptions, kindOf, Body, MessageValue, message}
 use Rattle.message.specs.Answers.{past}
+use Rattle.message.specs.declared.edition.Edition.the-variants as E
 use Rattle.order.specs.Order.{isEqual, compareLists}
 use Rattle.table.specs.Table.{isGood, records, resultingTable}
 use Rattle.accept.specs.Resulting.{isNamed, resulting}
@@ -39,7 +40,7 @@ pub data IndexBody : Type 0 where
   noIndex : IndexBody
 
 -- by the kind of a message
-abbrev pub indexBody : (k : Kind) → Body k → IndexBody
+abbrev pub indexBody : (k : Kind) → Body E.New k → IndexBody
 indexBody isIndex b = indexWith false b
 indexBody isRequest b = noIndex
 indexBody isResponse b = noIndex
@@ -54,10 +55,10 @@ ofBody old expected (indexWith update sent) = ofIndex update old expected sent
 ofBody old expected noIndex = refuses 18 0
 
 -- what was read, or the refusal of the reading as it is
-abbrev pub ofReading : (old expected : List ℕ) → Reading MessageValue → Outcome
+abbrev pub ofReading : (old expected : List ℕ) → Reading (MessageValue E.New) → Outcome
 ofReading old expected (taken m next) = ofBody old expected (indexBody (kindOf (typeOf (m .0))) (m .1))
 ofReading old expected (unread k p) = refuses k p
 
 -- the old table is good (15), whatever the message is, and then the message
 unfoldable pub acceptOutcome : (old sent expected : List ℕ) → Outcome
-acceptOutcome old sent expected = cond (isGood old) (ofReading old expected (readAt message sent 0)) (refuses 15 0)
+acceptOutcome old sent expected = cond (isGood old) (ofReading old expected (readAt (message E.New) sent 0)) (refuses 15 0)

@@ -19,6 +19,7 @@ use merge::next::Next;
 use merge::notes::Size;
 use merge::notes::note;
 use merge::notes::put_table;
+use message::Edition;
 use message::IndexIn;
 use record::Outline;
 use xdr::Filling;
@@ -127,9 +128,9 @@ fn accept_list(s: &[u8], start: usize, old: &[u8], update: bool, out: &mut [u8])
 
 // The Index or IndexUpdate at the front of some bytes.
 fn read_index(s: &[u8]) -> IndexIn
-    ensures { λ r. ⌜ r ≡ indexIn (messageIn (now (s .entry))) ⌝ }
+    ensures { λ r. ⌜ r ≡ indexIn (messageIn Edition.New (now (s .entry))) ⌝ }
 {
-    message::index_in(message::read(s))
+    message::index_in(message::read(Edition::New, s))
 }
 
 // The sender's new table: of the records of an Index, or of an IndexUpdate and the old records that it doesn't mention, in the first bytes of

@@ -9,4 +9,5 @@ pub mod read;
 pub mod requests;
 pub mod ruling;
 pub mod tables;
+pub mod turning;
 pub mod write;

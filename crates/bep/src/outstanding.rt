@@ -11,6 +11,7 @@ ghost use Rattle.bep.specs.Queues.{queueOf, pairs, wordsOf, verdictNumbe
 use link::Link;
 use link::Release;
 use link::Request;
+use message::Edition;
 use queue::RequestQueue;
 use queue::Verdict;
 use xdr::Filling;
@@ -151,7 +152,7 @@ pub extern "C" fn bep_queue_issue(
     answer: &mut [u64; 2],
 ) -> u32
     ensures { λ r. ⌜ QueueIssues (now (queue .entry))
-        (requestBytes (now (repository .entry)) (now (name .entry)) offset size (now (hash .entry))) size
+        (requestBytes Edition.New (now (repository .entry)) (now (name .entry)) offset size (now (hash .entry))) size
         (now (out .entry)) r (now (answer .exit)) (now (queue .exit)) (now (out .exit)) ⌝ }
 {
     let before = unpacked(queue);
@@ -170,7 +171,7 @@ pub extern "C" fn bep_queue_answer(
     message: &[u8],
     answer: &mut [u64; 5],
 ) -> u32
-    ensures { λ r. ⌜ QueueAnswers (now (queue .entry)) (messageIn (now (message .entry))) r (now (answer .exit)) (now (queue .exit)) ⌝ }
+    ensures { λ r. ⌜ QueueAnswers (now (queue .entry)) (messageIn Edition.New (now (message .entry))) r (now (answer .exit)) (now (queue .exit)) ⌝ }
 {
     let before = unpacked(queue);
     let d = before.answer(message);

@@ -2,6 +2,7 @@
 ghost use mathlib.Core.Path.{_≡_};
 ghost use Rattle.message.specs.Answers.{messageIn};
 ghost use Rattle.bep.specs.Words.{indexWords, requestWords, responseWords, pingWords, optionsWords, placeWords, readWords, readNumber};
+use message::Edition;
 use message::IndexSpan;
 use message::Message;
 use message::OptionsSpan;
@@ -134,9 +135,21 @@ fn read_number(m: Message) -> u32
 // Reads the message at the front of some bytes: whatever follows its end belongs to the next one.
 #[no_mangle]
 pub extern "C" fn bep_read(input: &[u8], answer: &mut [u64; 11]) -> u32
-    ensures { λ r. ⌜ (r ≡ readNumber (messageIn (now (input .entry)))) × (now (answer .exit) ≡ readWords (messageIn (now (input .entry)))) ⌝ }
+    ensures { λ r. ⌜ (r ≡ readNumber (messageIn Edition.New (now (input .entry))))
+        × (now (answer .exit) ≡ readWords (messageIn Edition.New (now (input .entry)))) ⌝ }
 {
-    let m = message::read(input);
+    let m = message::read(Edition::New, input);
+    *answer = read_words(m);
+    read_number(m)
+}
+
+// The same of the old edition. A message has no Repository there: its start is 4 and its length 0.
+#[no_mangle]
+pub extern "C" fn bep_read_old(input: &[u8], answer: &mut [u64; 11]) -> u32
+    ensures { λ r. ⌜ (r ≡ readNumber (messageIn Edition.Old (now (input .entry))))
+        × (now (answer .exit) ≡ readWords (messageIn Edition.Old (now (input .entry)))) ⌝ }
+{
+    let m = message::read(Edition::Old, input);
     *answer = read_words(m);
     read_number(m)
 }

@@ -1,4 +1,5 @@
 // Messages, read and written.
+use message::Edition;
 use message::IndexSpan;
 use message::Message;
 use message::Span;
@@ -79,7 +80,7 @@ fn read(label: &[u8], s: &[u8]) {
     lines::text(b" ");
     lines::bytes(s);
     lines::text(b": ");
-    answer(message::read(s));
+    answer(message::read(Edition::New, s));
 }
 
 // K1 to K9, and a message with bytes after its end.

@@ -12,6 +12,7 @@ use Rattle.xdr.specs.Filling.{Outcome, gives, refuses, inRoom}
 use Rattle.message.specs.declared.answer.ResponseSpan.{ResponseSpan}
 use Rattle.message.specs.declared.kind.ResponseIn.{ResponseIn}
 use Rattle.message.specs.declared.kind.ResponseIn.the-variants as P
+use Rattle.message.specs.declared.edition.Edition.the-variants as E
 use Rattle.message_write.specs.Writing.{requestBytes}
 use Rattle.xdr.proofs.FillingLaws.{given-room}
 use Rattle.link.specs.Requests.{isConsecutive}
@@ -68,10 +69,10 @@ stays q e g h n =
     }
 
 moved-issue : (held limit : ℕ) (q : Link) (r n : List ℕ) (o size : ℕ) (h : List ℕ) (room : ℕ) (x : Outcome)
-    → inRoom room (issuing held limit q (requestBytes r n o size h) size) ≡ x → Good q → Moved q (issueWas (q .next) size x) (issuedLink q size x)
+    → inRoom room (issuing held limit q (requestBytes E.New r n o size h) size) ≡ x → Good q → Moved q (issueWas (q .next) size x) (issuedLink q size x)
 moved-issue held limit q r n o size h room (gives l) e g =
     let s : Orderly q = orderly-facts q (g .orderly) in
-    let a = issuing-tells held limit q r n o size h l s (given-room room (issuing held limit q (requestBytes r n o size h) size) l e .0) in
+    let a = issuing-tells held limit q r n o size h l s (given-room room (issuing held limit q (requestBytes E.New r n o size h) size) l e .0) in
     let w : Event = issueWas (q .next) size (gives l) in
     let out : outstanding (appended q size) ≡ outstanding q ++ (nextRequest q size ∷ []) = outstanding-appended q size (omega (arith, g .long, a .0, s .high)) in
     record {
@@ -128,7 +129,7 @@ moved-drop : (q : Link) → Good q → Moved q (dropWas true) (emptied q)
 moved-drop q g = record { good = good-emptied q g; keeps = λ es. sym (append-nil (kept (dropWas true ∷ es) (outstanding q)) ∙ kept-dropped (dropWas true) es (outstanding q) (λ id. refl)) }
 
 moved : (q : Link) (c : LinkCall) → Good q → Moved q (event q c) (afterCall q c)
-moved q (issue held limit r n o size h room) g = moved-issue held limit q r n o size h room (inRoom room (issuing held limit q (requestBytes r n o size h) size)) refl g
+moved q (issue held limit r n o size h room) g = moved-issue held limit q r n o size h room (inRoom room (issuing held limit q (requestBytes E.New r n o size h) size)) refl g
 moved q (answer m) g = moved-answer q m g
 moved q drop g = moved-drop q g
 
@@ -161,7 +162,7 @@ opened-good w f =
 
 -- the window stays
 window-kept : (c : LinkCall) (q : Link) → afterCall q c .window ≡ q .window
-window-kept (issue held limit r n o size h room) q = go (inRoom room (issuing held limit q (requestBytes r n o size h) size))
+window-kept (issue held limit r n o size h room) q = go (inRoom room (issuing held limit q (requestBytes E.New r n o size h) size))
   where
     go : (x : Outcome) → issuedLink q size x .window ≡ q .window
     go (gives l) = refl
@@ -188,7 +189,7 @@ next-answered q m = go (answeredBy q m) (answer-was q m)
 
 pub ids-follow : (cs : List LinkCall) (q : Link) → issuedIds (history q cs) ≡ idsFrom (q .next) (length (issuedIds (history q cs)))
 ids-follow [] q = refl
-ids-follow (issue held limit r n o size h room ∷ cs) q = go (inRoom room (issuing held limit q (requestBytes r n o size h) size)) (λ p. ids-follow cs p)
+ids-follow (issue held limit r n o size h room ∷ cs) q = go (inRoom room (issuing held limit q (requestBytes E.New r n o size h) size)) (λ p. ids-follow cs p)
   where
     go : (x : Outcome) → ((p : Link) → issuedIds (history p cs) ≡ idsFrom (p .next) (length (issuedIds (history p cs)))) → issuedIds (issueWas (q .next) size x ∷ history (issuedLink q size x) cs) ≡ idsFrom (q .next) (length (issuedIds (issueWas (q .next) size x ∷ history (issuedLink q size x) cs)))
     go (gives l) ih = ap (λ (ids : List ℕ). q .next ∷ ids) (ih (appended q size))

@@ -12,6 +12,7 @@ use Rattle.xdr.specs.declared.filling.Filling.{Filling}
 use Rattle.xdr.proofs.FillingLaws.{fills-same, fills-refused}
 use Rattle.record.specs.Block.{isSize}
 use Rattle.message.specs.Message.{message}
+use Rattle.message.specs.declared.edition.Edition.the-variants as E
 use Rattle.message_write.specs.Writing.{requestBytes, writing}
 use Rattle.message_write.proofs.WrittenRequest.{written-size}
 use Rattle.message_write.proofs.Numbers.{writing-never}
@@ -23,7 +24,7 @@ use Rattle.link.proofs.LinkLaws.{Orderly}
 
 module _ (held limit : ℕ) (q : Link) (b : List ℕ) (size : ℕ) (out : List ℕ) where
   abbrev told : Outcome
-  told = writing message (q .next) 2 b
+  told = writing (message E.New) (q .next) 2 b
 
   -- neither 16 nor 17: the Request was written, or its refusal handed on
   pub issue-written : 0 ≡ faultWithin held limit q size → {w : Filling} {o : List ℕ} {r : LinkIssued} → Fills told out w o → r ≡ issuedBy q size w → Issues (issuing held limit q b size) q size out r o
@@ -58,7 +59,7 @@ module _ (held limit : ℕ) (q : Link) (b : List ℕ) (size : ℕ) (out : List �
       go : (o : Outcome) → told ≡ o → Issues (issuing held limit q b size) q size out (record { link = q; id = q .next; filling = w }) out
       go (gives l) p = refusal (suc k) 0 (ap (withFault (suc k)) p) (g ∙ ap (barredAnswer (suc k)) (e ∙ ap (λ (o : Outcome). fillingAnswer (inRoom room o)) p) ∙ by-room l (leb (length l) room))
       go (refuses m i) p =
-          let other : eqb m 14 ≡ false = ne-eqb m 14 (writing-never (q .next) 2 b m i p .1) in
+          let other : eqb m 14 ≡ false = ne-eqb m 14 (writing-never E.New (q .next) 2 b m i p .1) in
           refusal m i (ap (withFault (suc k)) p)
           (g ∙ ap (barredAnswer (suc k)) (e ∙ ap (λ (o : Outcome). fillingAnswer (inRoom room o)) p) ∙ ap (λ (t : Bool). cond t (fillingAnswer (refuses (suc k) 0)) (fillingAnswer (refuses m i))) other)
 
@@ -80,13 +81,13 @@ unfull held limit q size e =
 
 -- what an accepted issue tells
 pub issuing-tells : (held limit : ℕ) (q : Link) (r n : List ℕ) (o size : ℕ) (h l : List ℕ) → Orderly q
-    → issuing held limit q (requestBytes r n o size h) size ≡ gives l → (q .count < q .window) × (isSize size ≡ true) × (held + size ≤ limit)
-issuing-tells held limit q r n o size h l s = go (faultWithin held limit q size) refl (writing message (q .next) 2 (requestBytes r n o size h)) refl
+    → issuing held limit q (requestBytes E.New r n o size h) size ≡ gives l → (q .count < q .window) × (isSize size ≡ true) × (held + size ≤ limit)
+issuing-tells held limit q r n o size h l s = go (faultWithin held limit q size) refl (writing (message E.New) (q .next) 2 (requestBytes E.New r n o size h)) refl
   where
-    go : (f : ℕ) → faultWithin held limit q size ≡ f → (x : Outcome) → writing message (q .next) 2 (requestBytes r n o size h) ≡ x → withFault f x ≡ gives l
+    go : (f : ℕ) → faultWithin held limit q size ≡ f → (x : Outcome) → writing (message E.New) (q .next) 2 (requestBytes E.New r n o size h) ≡ x → withFault f x ≡ gives l
         → (q .count < q .window) × (isSize size ≡ true) × (held + size ≤ limit)
     go zero e x y w =
         let p = unfull held limit q size (sym e) in
-        (p .0, written-size r n o size h (q .next) l (s .next-id) (y ∙ w), p .2)
+        (p .0, written-size E.New r n o size h (q .next) l (s .next-id) (y ∙ w), p .2)
     go (suc f) e (gives m) y w = let z : _≡_ {A = ℕ} 0 1 = cc in absurd (omega arith)
     go (suc f) e (refuses a b) y w = let z : _≡_ {A = ℕ} 0 1 = cc in absurd (omega arith)

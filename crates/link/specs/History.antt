@@ -7,6 +7,7 @@ use lib.Dec.{eqb}
 use Rattle.xdr.specs.Filling.{Outcome, gives, refuses, inRoom}
 use Rattle.message.specs.declared.kind.ResponseIn.{ResponseIn}
 use Rattle.message.specs.declared.kind.ResponseIn.the-variants as P
+use Rattle.message.specs.declared.edition.Edition.the-variants as E
 use Rattle.message_write.specs.Writing.{requestBytes}
 use Rattle.link.specs.Requests.{after}
 use Rattle.link.specs.OneLink.{issuing, issuedLink, answeredBy, emptied}
@@ -29,13 +30,13 @@ pub data Event : Type 0 where
 
 -- the link that a call hands back
 abbrev pub afterCall : Link → LinkCall → Link
-afterCall q (issue held limit r n o size h room) = issuedLink q size (inRoom room (issuing held limit q (requestBytes r n o size h) size))
+afterCall q (issue held limit r n o size h room) = issuedLink q size (inRoom room (issuing held limit q (requestBytes E.New r n o size h) size))
 afterCall q (answer m) = answeredBy q m .link
 afterCall q drop = emptied q
 
 -- the event that a call is
 abbrev pub event : Link → LinkCall → Event
-event q (issue held limit r n o size h room) = issueWas (q .next) size (inRoom room (issuing held limit q (requestBytes r n o size h) size))
+event q (issue held limit r n o size h room) = issueWas (q .next) size (inRoom room (issuing held limit q (requestBytes E.New r n o size h) size))
 event q (answer m) = answerWas m (answeredBy q m .release)
 event q drop = dropWas true
 

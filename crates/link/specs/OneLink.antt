@@ -13,6 +13,7 @@ use Rattle.message.specs.Message.{message}
 use Rattle.message.specs.declared.answer.Span.{Span}
 use Rattle.message.specs.declared.kind.ResponseIn.{ResponseIn}
 use Rattle.message.specs.declared.kind.ResponseIn.the-variants as P
+use Rattle.message.specs.declared.edition.Edition.the-variants as E
 use Rattle.message_write.specs.Writing.{writing}
 use Rattle.link.specs.Requests.{blank, after, isConsecutive}
 use Rattle.link.specs.declared.request.Request.{Request}
@@ -62,7 +63,7 @@ withFault (suc k) (refuses m p) = refuses m p
 
 -- issuing a Request with a body and a Length, under the next ID, where so many bytes are held of a limit
 abbrev pub issuing : (held limit : ℕ) → Link → (body : List ℕ) → (size : ℕ) → Outcome
-issuing held limit q body size = withFault (faultWithin held limit q size) (writing message (q .next) 2 body)
+issuing held limit q body size = withFault (faultWithin held limit q size) (writing (message E.New) (q .next) 2 body)
 
 -- the link with a request appended, under the next ID
 abbrev pub appended : Link → (size : ℕ) → Link

@@ -15,6 +15,7 @@ use crate::request::Request;
 use crate::request::following;
 use crate::request::shifted;
 use crate::request::stands_before;
+use message::Edition;
 use message::ID_LIMIT;
 use message::ResponseIn;
 use message::Span;
@@ -206,7 +207,7 @@ impl Link {
         out: &mut [u8],
     ) -> LinkIssued
         ensures { λ r. ⌜ Issues (issuing held limit self
-            (requestBytes (now (repository .entry)) (now (name .entry)) offset size (now (hash .entry))) size)
+            (requestBytes Edition.New (now (repository .entry)) (now (name .entry)) offset size (now (hash .entry))) size)
             self size (now (out .entry)) r (now (out .exit)) ⌝ }
     {
         let fault = self.fault_within(held, limit, size);
@@ -269,9 +270,9 @@ impl Link {
 
     // Releases the oldest request by the Response to it.
     pub fn answer(self, message: &[u8]) -> LinkAnswered
-        ensures { λ r. ⌜ r ≡ answeredBy self (responseIn (messageIn (now (message .entry)))) ⌝ }
+        ensures { λ r. ⌜ r ≡ answeredBy self (responseIn (messageIn Edition.New (now (message .entry)))) ⌝ }
     {
-        match message::response_in(message::read(message)) {
+        match message::response_in(message::read(Edition::New, message)) {
             ResponseIn::Taken { id, response: x } => self.settle(id, x.data),
             ResponseIn::Refused(r) => LinkAnswered {
                 link: self,

@@ -8,33 +8,34 @@ use Rattle.xdr.specs.Reading.{Reading, taken, refused, mapped}
 use Rattle.xdr.specs.Format.{nothing, read, readAt}
 use Rattle.xdr.proofs.Steps.{Reads, answered, both-read}
 use Rattle.message.specs.Header.{typeOf, idOf, header}
-use Rattle.message.specs.Message.{Kind, isIndex, isRequest, isResponse, isPing, isPong, isIndexUpdate, isOptions, kindOf, Body, body, message}
-use Rattle.message.specs.Answers.{refusal, bodyAnswer, messageAnswer}
+use Rattle.message.specs.Message.{Kind, isIndex, isRequest, isResponse, isPing, isPong, isIndexUpdate, isOptions, kindOf, Body, body}
+use Rattle.message.specs.Answers.{refusal, bodyAnswer, messageAnswer, messageIn}
+use Rattle.message.specs.declared.edition.Edition.{Edition}
 
-body-refused : (k : Kind) (id n p : ℕ) → bodyAnswer k id (refused n p) ≡ refusal n p
-body-refused isIndex id n p = refl
-body-refused isRequest id n p = refl
-body-refused isResponse id n p = refl
-body-refused isPing id n p = refl
-body-refused isPong id n p = refl
-body-refused isIndexUpdate id n p = refl
-body-refused isOptions id n p = refl
+body-refused : (e : Edition) (k : Kind) (id n p : ℕ) → bodyAnswer e k id (refused n p) ≡ refusal n p
+body-refused e isIndex id n p = refl
+body-refused e isRequest id n p = refl
+body-refused e isResponse id n p = refl
+body-refused e isPing id n p = refl
+body-refused e isPong id n p = refl
+body-refused e isIndexUpdate id n p = refl
+body-refused e isOptions id n p = refl
 
-with-header : (h : ℕ) (r : Reading (Body (kindOf (typeOf h)))) → bodyAnswer (kindOf (typeOf h)) (idOf h) r ≡ messageAnswer (mapped (λ b. (h, b)) r)
-with-header h (taken b next) = refl
-with-header h (refused n p) = body-refused (kindOf (typeOf h)) (idOf h) n p
+with-header : (e : Edition) (h : ℕ) (r : Reading (Body e (kindOf (typeOf h)))) → bodyAnswer e (kindOf (typeOf h)) (idOf h) r ≡ messageAnswer e (mapped (λ b. (h, b)) r)
+with-header e h (taken b next) = refl
+with-header e h (refused n p) = body-refused e (kindOf (typeOf h)) (idOf h) n p
 
 -- the answer for the body of a kind is the answer for the message whose header names that kind
-pub by-kind : {s : List ℕ} {m h : ℕ} (k : Kind) → kindOf (typeOf h) ≡ k → Reads header s 0 (taken h m) → {r : Reading (Body k)} → Reads (body k) s m r
-    → bodyAnswer k (idOf h) r ≡ messageAnswer (readAt message s 0)
-by-kind {s} {m} {h} k e hd {r} b =
-    subst (λ (x : Kind). (q : Reading (Body x)) → Reads (body x) s m q → bodyAnswer x (idOf h) q ≡ messageAnswer (readAt message s 0)) e
-    (λ q d. with-header h q ∙ answered messageAnswer (both-read hd d)) r b
+pub by-kind : (e : Edition) {s : List ℕ} {m h : ℕ} (k : Kind) → kindOf (typeOf h) ≡ k → Reads (header e) s 0 (taken h m) → {r : Reading (Body e k)} → Reads (body e k) s m r
+    → bodyAnswer e k (idOf h) r ≡ messageIn e s
+by-kind e {s} {m} {h} k same hd {r} b =
+    subst (λ (x : Kind). (q : Reading (Body e x)) → Reads (body e x) s m q → bodyAnswer e x (idOf h) q ≡ messageIn e s) same
+    (λ q d. with-header e h q ∙ answered (messageAnswer e) (both-read hd d)) r b
 
 -- the same, for the body as it is read
-pub by-body : {s : List ℕ} {m h : ℕ} (k : Kind) → kindOf (typeOf h) ≡ k → Reads header s 0 (taken h m)
-    → bodyAnswer k (idOf h) (readAt (body k) s m) ≡ messageAnswer (readAt message s 0)
-by-body k e hd = by-kind k e hd (record { is = refl })
+pub by-body : (e : Edition) {s : List ℕ} {m h : ℕ} (k : Kind) → kindOf (typeOf h) ≡ k → Reads (header e) s 0 (taken h m)
+    → bodyAnswer e k (idOf h) (readAt (body e k) s m) ≡ messageIn e s
+by-body e k same hd = by-kind e k same hd (record { is = refl })
 
 -- no bytes are always there
 pub nothing-read : (s : List ℕ) (m : ℕ) → Reads nothing s m (taken tt m)

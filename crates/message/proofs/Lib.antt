@@ -1,4 +1,5 @@
 -- Laws of messages.
 pub mod ByKind
+pub mod RepositoryLaws
 pub mod MessageNumbers
 pub mod KindLaws

@@ -13,7 +13,9 @@ use Rattle.record.specs.Block.{blocks, hash}
 use Rattle.record.specs.File.{name, isDeleted, files}
 use Rattle.message.specs.Limits.{filesLimit}
 use Rattle.message.specs.Header.{typeOf}
-use Rattle.message.specs.Message.{Kind, isIndex, isRequest, isResponse, isPing, isPong, isIndexUpdate, isOptions, kindOf, body, message}
+use Rattle.message.specs.Message.{Kind, isIndex, isRequest, isResponse, isPing, isPong, isIndexUpdate, isOptions, kindOf, repository, body, message}
+use Rattle.message.specs.declared.edition.Edition.{Edition}
+use Rattle.message.specs.declared.edition.Edition.the-variants as E
 
 -- neither 13 nor 14
 abbrev Neither : ℕ → Type 0
@@ -34,20 +36,24 @@ blocks-numbers deleted = ((refl, (refl, tt)), ((refl, tt), λ s. hash-numbers))
 files-numbers : (limit : ℕ) → NumbersIn Neither (files limit)
 files-numbers limit = ((refl, tt), (name-numbers, λ n. ((refl, tt), λ f. (tt, λ m. (tt, λ v. blocks-numbers (isDeleted f))))))
 
-body-numbers : (k : Kind) → NumbersIn Neither (body k)
-body-numbers isIndex = (text-numbers 64, λ r. files-numbers filesLimit)
-body-numbers isRequest = (text-numbers 64, λ r. (name-numbers, λ n. (tt, λ o. ((refl, tt), λ l. hash-numbers))))
-body-numbers isResponse = (refl, tt)
-body-numbers isPing = tt
-body-numbers isPong = tt
-body-numbers isIndexUpdate = (text-numbers 64, λ r. files-numbers filesLimit)
-body-numbers isOptions = ((refl, tt), (text-numbers 64, λ k. text-numbers 255))
+repository-numbers : (e : Edition) → NumbersIn Neither (repository e)
+repository-numbers E.Old = tt
+repository-numbers E.New = text-numbers 64
 
-pub message-number : (s : List ℕ) (k p : ℕ) → read message s ≡ refused k p → (k ≡ 13 → ⊥) × (k ≡ 14 → ⊥)
-message-number s k p e = (λ f. never (subst Neither f other), λ f. never (subst Neither f other))
+body-numbers : (e : Edition) (k : Kind) → NumbersIn Neither (body e k)
+body-numbers e isIndex = (repository-numbers e, λ r. files-numbers filesLimit)
+body-numbers e isRequest = (repository-numbers e, λ r. (name-numbers, λ n. (tt, λ o. ((refl, tt), λ l. hash-numbers))))
+body-numbers e isResponse = (refl, tt)
+body-numbers e isPing = tt
+body-numbers e isPong = tt
+body-numbers e isIndexUpdate = (repository-numbers e, λ r. files-numbers filesLimit)
+body-numbers e isOptions = ((refl, tt), (text-numbers 64, λ k. text-numbers 255))
+
+pub message-number : (e : Edition) (s : List ℕ) (k p : ℕ) → read (message e) s ≡ refused k p → (k ≡ 13 → ⊥) × (k ≡ 14 → ⊥)
+message-number e s k p r = (λ f. never (subst Neither f other), λ f. never (subst Neither f other))
   where
     other : Neither k
-    other = refused-number Neither refl refl message ((refl, (refl, (refl, tt))), λ h. body-numbers (kindOf (typeOf h))) s k p e
+    other = refused-number Neither refl refl (message e) ((refl, (refl, (refl, tt))), λ h. body-numbers e (kindOf (typeOf h))) s k p r
 
     never : false ≡ true → ⊥
     never z = let y : _≡_ {A = ℕ} 0 1 = cc in omega arith

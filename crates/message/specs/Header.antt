@@ -4,6 +4,8 @@ use mathlib.Core.Bool.{Bool, _&&_}
 use lib.Dec.{leb, eqb}
 use Rattle.xdr.specs.Format.{Format, checked}
 use Rattle.xdr.specs.Fields.{word}
+use Rattle.message.specs.declared.edition.Edition.{Edition}
+use Rattle.message.specs.declared.edition.Edition.the-variants as E
 
 -- the version: the top 4 bits
 abbrev pub versionOf : ℕ → ℕ
@@ -25,13 +27,18 @@ reservedOf h = h % 256
 abbrev pub headerOf : (id type : ℕ) → ℕ
 headerOf id type = id * 65536 + type * 256
 
--- the types: 1 to 7
-abbrev pub isType : ℕ → Bool
-isType t = leb 1 t && leb t 7
+-- the highest type: the old edition has no Options
+abbrev pub lastType : Edition → ℕ
+lastType E.Old = 6
+lastType E.New = 7
+
+-- the types of an edition: from 1 to the highest
+abbrev pub isType : Edition → ℕ → Bool
+isType e t = leb 1 t && leb t (lastType e)
 
 -- one field, with its checks in order
-abbrev pub header : Format ℕ
-header =
+abbrev pub header : Edition → Format ℕ
+header e =
     checked 4 (λ h. eqb (reservedOf h) 0)
-    (checked 3 (λ h. isType (typeOf h))
+    (checked 3 (λ h. isType e (typeOf h))
     (checked 2 (λ h. eqb (versionOf h) 0) word))

@@ -3,3 +3,4 @@ pub mod Header
 pub mod Message
 pub mod Answers
 pub mod Kinds
+pub mod Steps

@@ -3,7 +3,8 @@ ghost use mathlib.Core.Path.{_≡_};
 ghost use Prim.Native.Nat.{_%_};
 ghost use Rattle.xdr.specs.Answers.{wordAnswer};
 ghost use Rattle.xdr.specs.Format.{readAt};
-ghost use Rattle.message.specs.Header.{versionOf, idOf, typeOf, reservedOf, headerOf, header};
+ghost use Rattle.message.specs.Header.{versionOf, idOf, typeOf, reservedOf, lastType, headerOf, header};
+use crate::edition::Edition;
 use xdr::Refusal;
 use xdr::Word;
 
@@ -35,6 +36,16 @@ fn reserved_of(h: u32) -> u32
     h & 255
 }
 
+// The highest type of an edition.
+fn last_type(edition: Edition) -> u32
+    ensures { λ r. ⌜ r ≡ lastType edition ⌝ }
+{
+    match edition {
+        Edition::Old => 6,
+        Edition::New => 7,
+    }
+}
+
 // The header of a message with an ID and a type, of which the low 12 and 8 bits count.
 pub fn header_of(id: u32, kind: u32) -> u32
     ensures { λ r. ⌜ r ≡ headerOf (id % 4096) (kind % 256) ⌝ }
@@ -43,8 +54,8 @@ pub fn header_of(id: u32, kind: u32) -> u32
 }
 
 // The header at the front of some bytes.
-pub fn read_header(s: &[u8]) -> Word
-    ensures { λ r. ⌜ r ≡ wordAnswer (readAt header (now (s .entry)) 0) ⌝ }
+pub fn read_header(edition: Edition, s: &[u8]) -> Word
+    ensures { λ r. ⌜ r ≡ wordAnswer (readAt (header edition) (now (s .entry)) 0) ⌝ }
 {
     let answer = xdr::read_word(s, 0);
     let Word::Taken(h, next) = answer else {
@@ -63,7 +74,7 @@ pub fn read_header(s: &[u8]) -> Word
             place: 0,
         });
     }
-    if 7 < kind {
+    if last_type(edition) < kind {
         return Word::Refused(Refusal {
             number: 3,
             place: 0,

@@ -1,5 +1,6 @@
 // The header and the seven messages of BEP v1.0: read from a slice.
 pub mod answer;
+pub mod edition;
 pub mod header;
 pub mod kind;
 pub mod limits;
@@ -11,6 +12,7 @@ pub use answer::OptionsSpan;
 pub use answer::RequestSpan;
 pub use answer::ResponseSpan;
 pub use answer::Span;
+pub use edition::Edition;
 pub use header::header_of;
 pub use kind::IndexIn;
 pub use kind::RequestIn;

@@ -4,9 +4,10 @@ ghost use Rattle.xdr.specs.Format.{readAt};
 ghost use Prim.Native.Nat.{_≤_};
 ghost use lib.ListN.{length};
 ghost use Rattle.record.specs.KeyValue.{options};
-ghost use Rattle.message.specs.Answers.{indexAnswer, indexMessage, updateMessage, bodyAnswer, messageIn};
+ghost use Rattle.message.specs.Answers.{repositoryStart, indexAnswer, indexMessage, updateMessage, requestAnswer, responseAnswer, optionsAnswer, messageIn};
 ghost use Rattle.message.specs.Limits.{optionsLimit};
-ghost use Rattle.message.specs.Message.{isRequest, isResponse, isOptions, index, request, response};
+ghost use Rattle.message.specs.Message.{repository, index, request, response};
+ghost use Rattle.message.specs.Steps.{repositoryAnswer};
 use crate::answer::IndexRead;
 use crate::answer::IndexSpan;
 use crate::answer::Message;
@@ -14,6 +15,7 @@ use crate::answer::OptionsSpan;
 use crate::answer::RequestSpan;
 use crate::answer::ResponseSpan;
 use crate::answer::Span;
+use crate::edition::Edition;
 use crate::header::id_of;
 use crate::header::read_header;
 use crate::header::type_of;
@@ -27,11 +29,32 @@ use xdr::Hyper;
 use xdr::Refusal;
 use xdr::Word;
 
-// The body of an Index or an IndexUpdate: the files are read from the part that begins there.
-fn read_index(s: &[u8]) -> IndexRead
-    ensures { λ r. ⌜ r ≡ indexAnswer (readAt index (now (s .entry)) 4) ⌝ }
+// Where the Repository's contents begin.
+fn repository_start(edition: Edition) -> usize
+    ensures { λ r. ⌜ r ≡ repositoryStart edition ⌝ }
 {
-    let repository = xdr::read_text(s, 4, REPOSITORY_LIMIT);
+    match edition {
+        Edition::Old => 4,
+        Edition::New => 8,
+    }
+}
+
+// The Repository: the length of its contents and the place after it. In the old edition there is none.
+fn read_repository(edition: Edition, s: &[u8]) -> Bytes
+    ensures { λ r. ⌜ r ≡ repositoryAnswer edition (readAt (repository edition) (now (s .entry)) 4) ⌝ }
+{
+    match edition {
+        Edition::Old => Bytes::Taken(0, 4),
+        Edition::New => xdr::read_text(s, 4, REPOSITORY_LIMIT),
+    }
+}
+
+// The body of an Index or an IndexUpdate: the files are read from the part that begins there.
+fn read_index(edition: Edition, s: &[u8]) -> IndexRead
+    requires { ⌜ 4 ≤ length (now s) ⌝ }
+    ensures { λ r. ⌜ r ≡ indexAnswer edition (readAt (index edition) (now (s .entry)) 4) ⌝ }
+{
+    let repository = read_repository(edition, s);
     let Bytes::Taken(length, files_at) = repository else {
         return IndexRead::Refused(repository.refusal());
     };
@@ -44,7 +67,10 @@ fn read_index(s: &[u8]) -> IndexRead
         });
     };
     IndexRead::Taken(IndexSpan {
-        repository: Span { start: 8, length },
+        repository: Span {
+            start: repository_start(edition),
+            length,
+        },
         files: Span {
             start: files_at,
             length: used,
@@ -75,10 +101,10 @@ fn update_message(id: u32, read: IndexRead) -> Message
 }
 
 // A Request with an ID.
-fn read_request(s: &[u8], id: u32) -> Message
-    ensures { λ r. ⌜ r ≡ bodyAnswer isRequest id (readAt request (now (s .entry)) 4) ⌝ }
+fn read_request(edition: Edition, s: &[u8], id: u32) -> Message
+    ensures { λ r. ⌜ r ≡ requestAnswer edition id (readAt (request edition) (now (s .entry)) 4) ⌝ }
 {
-    let repository = xdr::read_text(s, 4, REPOSITORY_LIMIT);
+    let repository = read_repository(edition, s);
     let Bytes::Taken(repository_length, name_at) = repository else {
         return Message::Refused(repository.refusal());
     };
@@ -100,7 +126,7 @@ fn read_request(s: &[u8], id: u32) -> Message
     };
     let span = RequestSpan {
         repository: Span {
-            start: 8,
+            start: repository_start(edition),
             length: repository_length,
         },
         name: Span {
@@ -120,7 +146,7 @@ fn read_request(s: &[u8], id: u32) -> Message
 
 // A Response with an ID.
 fn read_response(s: &[u8], id: u32) -> Message
-    ensures { λ r. ⌜ r ≡ bodyAnswer isResponse id (readAt response (now (s .entry)) 4) ⌝ }
+    ensures { λ r. ⌜ r ≡ responseAnswer id (readAt response (now (s .entry)) 4) ⌝ }
 {
     let data = xdr::read_bytes(s, 4, DATA_LIMIT);
     let Bytes::Taken(length, end) = data else {
@@ -136,7 +162,7 @@ fn read_response(s: &[u8], id: u32) -> Message
 // Options with an ID: the array is read from the part that begins there.
 fn read_options(s: &[u8], id: u32) -> Message
     requires { ⌜ 4 ≤ length (now s) ⌝ }
-    ensures { λ r. ⌜ r ≡ bodyAnswer isOptions id (readAt (options optionsLimit) (now (s .entry)) 4) ⌝ }
+    ensures { λ r. ⌜ r ≡ optionsAnswer id (readAt (options optionsLimit) (now (s .entry)) 4) ⌝ }
 {
     let options = record::read_options(&s[4..], OPTIONS_LIMIT);
     let Array::Taken(count, used) = options else {
@@ -157,23 +183,23 @@ fn read_options(s: &[u8], id: u32) -> Message
     Message::Options(id, span)
 }
 
-// The message at the front of some bytes: whatever follows its end belongs to the next one.
-pub fn read(s: &[u8]) -> Message
-    ensures { λ r. ⌜ r ≡ messageIn (now (s .entry)) ⌝ }
+// The message of an edition at the front of some bytes: whatever follows its end belongs to the next one.
+pub fn read(edition: Edition, s: &[u8]) -> Message
+    ensures { λ r. ⌜ r ≡ messageIn edition (now (s .entry)) ⌝ }
 {
-    let head = read_header(s);
+    let head = read_header(edition, s);
     let Word::Taken(h, _) = head else {
         return Message::Refused(head.refusal());
     };
     let id = id_of(h);
     let kind = type_of(h);
     match kind {
-        1 => index_message(id, read_index(s)),
-        2 => read_request(s, id),
+        1 => index_message(id, read_index(edition, s)),
+        2 => read_request(edition, s, id),
         3 => read_response(s, id),
         4 => Message::Ping(id, 4),
         5 => Message::Pong(id, 4),
-        6 => update_message(id, read_index(s)),
+        6 => update_message(id, read_index(edition, s)),
         _ => read_options(s, id),
     }
 }

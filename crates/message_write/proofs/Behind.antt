@@ -1,7 +1,7 @@
 -- A body behind its header, of which a check needs to know only that it has four bytes.
 use Prim.Native.Nat.{ℕ, _+_, _≤_}
-use mathlib.Core.List.{List, [], _∷_, _++_, append-assoc}
-use mathlib.Core.Path.{_≡_, refl, sym, ap, _∙_}
+use mathlib.Core.List.{List, _∷_, _++_, append-assoc}
+use mathlib.Core.Path.{_≡_, sym, ap, _∙_}
 use native.Mathlib.Omega.{arith}
 use borrow.Author.Tests.{leb-true}
 use lib.ListN.{length, drop, length-append}
@@ -12,9 +12,8 @@ use Rattle.xdr.specs.Format.{Format, bytes, encode, readAt}
 use Rattle.xdr.specs.Fields.{word, upTo}
 use Rattle.xdr.proofs.EncodedSize.{number-size, bytes-size}
 use Rattle.xdr.proofs.Steps.{Reads, part-read, refused-within}
-use Rattle.xdr.proofs.Told.{Wide, told-same, encoded-at}
-use Rattle.message.specs.Message.{repository}
-use Rattle.message_write.specs.Writing.{requestBytes}
+use Rattle.xdr.proofs.Told.{told-same}
+use Rattle.message_write.specs.Writing.{pieceBytes}
 use Rattle.message_write.specs.Steps.{checkAnswer, bodyCheck}
 
 abbrev pub behind : List ℕ → List ℕ
@@ -42,20 +41,15 @@ string-refused l h = let w = refused-within (omega arith) h in omega (arith, str
 pub string-taken : {limit : ℕ} (l : List ℕ) {m : List ℕ} {n : ℕ} → Reads (bytes (upTo limit)) (encode (bytes word) l) 0 (taken m n) → (n ≡ 4 + padded (length l)) × (length l ≤ limit)
 string-taken {limit} l h = let q = told-same l h in (q .1, leb-true (length l) limit (q .2))
 
--- the bytes up to the field behind the first string
-pub behind-string : (l : List ℕ) (n : ℕ) → n ≡ 4 + padded (length l) → length (behind (encode (bytes word) l)) ≡ 4 + n
-behind-string l n e = omega (arith, string-size l)
-
--- a repository right behind the header is read there as it is alone
-pub repository-there : (l t : List ℕ) {r : Reading (List ℕ)} → Reads repository (encode (bytes word) l) 0 r → Reads repository (behind (encode (bytes word) l ++ t)) 4 (shifted 4 r)
-unfolding encode Wide
-repository-there l t h = encoded-at {F = repository} l (0 ∷ 0 ∷ 0 ∷ 0 ∷ []) t (omega arith) refl refl h
-
 -- the bytes of a Request: how many they are, and its fields one behind another
 
+pub piece-size : (n : List ℕ) (o s : ℕ) (h : List ℕ)
+    → length (pieceBytes n o s h) ≡ length (encode (bytes word) n) + (8 + (4 + length (encode (bytes word) h)))
+piece-size n o s h = simp (length-append, number-size 8 o, number-size 4 s)
+
 pub request-size : (r n : List ℕ) (o s : ℕ) (h : List ℕ)
-    → length (requestBytes r n o s h) ≡ length (encode (bytes word) r) + (length (encode (bytes word) n) + (8 + (4 + length (encode (bytes word) h))))
-request-size r n o s h = simp (length-append, number-size 8 o, number-size 4 s)
+    → length (r ++ pieceBytes n o s h) ≡ length r + (length (encode (bytes word) n) + (8 + (4 + length (encode (bytes word) h))))
+request-size r n o s h = length-append r (pieceBytes n o s h) ∙ ap (λ (k : ℕ). length r + k) (piece-size n o s h)
 
 pub request-grouped : (w r n o s h : List ℕ) → ((((w ++ r) ++ n) ++ o) ++ s) ++ h ≡ w ++ (r ++ (n ++ (o ++ (s ++ h))))
 request-grouped w r n o s h = simp append-assoc

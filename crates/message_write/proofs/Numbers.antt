@@ -10,20 +10,21 @@ use Rattle.xdr.specs.Format.{read}
 use Rattle.xdr.specs.Filling.{refuses}
 use Rattle.message.specs.Limits.{idLimit}
 use Rattle.message.specs.Message.{MessageValue, message}
+use Rattle.message.specs.declared.edition.Edition.{Edition}
 use Rattle.message.proofs.MessageNumbers.{message-number}
 use Rattle.message_write.specs.Writing.{messageBytes, asRead, writing}
 
-pub writing-never : (id type : ℕ) (b : List ℕ) (k p : ℕ) → writing message id type b ≡ refuses k p → (k ≡ 13 → ⊥) × (k ≡ 14 → ⊥)
+pub writing-never : (e : Edition) (id type : ℕ) (b : List ℕ) (k p : ℕ) → writing (message e) id type b ≡ refuses k p → (k ≡ 13 → ⊥) × (k ≡ 14 → ⊥)
 unfolding writing
-writing-never id type b k p = by-id (leb id idLimit)
+writing-never e id type b k p = by-id (leb id idLimit)
   where
     m : List ℕ
     m = messageBytes id type b
 
-    by-reading : (r : Reading MessageValue) → read message m ≡ r → asRead m r ≡ refuses k p → (k ≡ 13 → ⊥) × (k ≡ 14 → ⊥)
-    by-reading (taken v u) q e = let z : _≡_ {A = ℕ} 0 1 = cc in absurd (omega arith)
-    by-reading (refused a c) q e = let same : a ≡ k = cc in let w = message-number m a c q in (λ f. w .0 (same ∙ f), λ f. w .1 (same ∙ f))
+    by-reading : (r : Reading (MessageValue e)) → read (message e) m ≡ r → asRead m r ≡ refuses k p → (k ≡ 13 → ⊥) × (k ≡ 14 → ⊥)
+    by-reading (taken v u) q w = let z : _≡_ {A = ℕ} 0 1 = cc in absurd (omega arith)
+    by-reading (refused a c) q w = let same : a ≡ k = cc in let n = message-number e m a c q in (λ f. n .0 (same ∙ f), λ f. n .1 (same ∙ f))
 
-    by-id : (c : Bool) → cond c (asRead m (read message m)) (refuses 5 0) ≡ refuses k p → (k ≡ 13 → ⊥) × (k ≡ 14 → ⊥)
-    by-id true e = by-reading (read message m) refl e
-    by-id false e = let same : k ≡ 5 = cc in (λ f. omega arith, λ f. omega arith)
+    by-id : (c : Bool) → cond c (asRead m (read (message e) m)) (refuses 5 0) ≡ refuses k p → (k ≡ 13 → ⊥) × (k ≡ 14 → ⊥)
+    by-id true w = by-reading (read (message e) m) refl w
+    by-id false w = let same : k ≡ 5 = cc in (λ f. omega arith, λ f. omega arith)

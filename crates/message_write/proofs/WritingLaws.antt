@@ -19,46 +19,71 @@ use Rattle.xdr.specs.declared.filling.Filling.{Filling}
 use Rattle.xdr.specs.declared.filling.Filling.the-variants as Out
 use Rattle.xdr.proofs.EncodedSize.{number-size}
 use Rattle.xdr.proofs.FillingLaws.{fills-given, fills-kept}
-use Rattle.xdr.proofs.Steps.{Reads, checked-passed, both-read, shifted-zero, ends}
+use Rattle.xdr.proofs.Steps.{Reads, checked-refused, checked-failed, checked-passed, first-refused, both-read, shifted-zero, ends}
 use Rattle.xdr.proofs.Told.{Wide, encoded-at, number-alone}
 use Rattle.xdr.proofs.Within.{Within, within}
-use Rattle.message.specs.Header.{headerOf, versionOf, typeOf, reservedOf, header}
+use Rattle.message.specs.Header.{headerOf, versionOf, typeOf, reservedOf, lastType, header}
 use Rattle.message.specs.Message.{kindOf, body, message}
+use Rattle.message.specs.declared.edition.Edition.{Edition}
+use Rattle.message.specs.declared.edition.Edition.the-variants as E
 use Rattle.message_write.specs.Writing.{messageBytes, asRead, writing}
 use Rattle.message_write.specs.Steps.{writingBody, checkAnswer, bodyCheck, sizeIn, admittedAnswer}
 use Rattle.message_write.proofs.Behind.{behind}
 
+-- each edition has the types 1 to 6, and none above 7
+pub types-end : (e : Edition) → (6 ≤ lastType e) × (lastType e ≤ 7)
+types-end E.Old = (omega arith, omega arith)
+types-end E.New = (omega arith, omega arith)
+
 -- a header that was put together reads back
-header-there : (id k : ℕ) (b : List ℕ) → id ≤ 4095 → 1 ≤ k → k ≤ 7 → Reads header (messageBytes id k b) 0 (taken (headerOf id k) 4)
+header-there : (e : Edition) (id k : ℕ) (b : List ℕ) → id ≤ 4095 → 1 ≤ k → k ≤ lastType e → Reads (header e) (messageBytes id k b) 0 (taken (headerOf id k) 4)
 unfolding Wide
-header-there id k b h p q =
+header-there e id k b h p q =
+    let low = types-end e in
     let t : typeOf (headerOf id k) ≡ k = omega arith in
     checked-passed (checked-passed (checked-passed (encoded-at {F = word} (headerOf id k) [] b (omega arith) refl refl (number-alone 3 (headerOf id k)))
-    (eq-eqb (versionOf (headerOf id k)) 0 (omega arith))) (simp (t, le-leb 1 k p, le-leb k 7 q))) (eq-eqb (reservedOf (headerOf id k)) 0 (omega arith))
+    (eq-eqb (versionOf (headerOf id k)) 0 (omega arith))) (simp (t, le-leb 1 k p, le-leb k (lastType e) q))) (eq-eqb (reservedOf (headerOf id k)) 0 (omega arith))
+
+-- one of another type does not
+other-type-there : (e : Edition) (id k : ℕ) (b : List ℕ) → id ≤ 4095 → lastType e < k → k < 256 → Reads (header e) (messageBytes id k b) 0 (refused 3 0)
+unfolding Wide
+other-type-there e id k b h p q =
+    let t : typeOf (headerOf id k) ≡ k = omega arith in
+    checked-refused (checked-failed (checked-passed (encoded-at {F = word} (headerOf id k) [] b (omega arith) refl refl (number-alone 3 (headerOf id k)))
+    (eq-eqb (versionOf (headerOf id k)) 0 (omega arith))) (simp (t, le-leb 1 k (omega arith), lt-leb k (lastType e) p)))
 
 as-read-mapped : {A B : Type 0} (f : A → B) (m : List ℕ) (r : Reading A) → asRead m (mapped f r) ≡ asRead m r
 as-read-mapped f m (taken v n) = refl
 as-read-mapped f m (refused k p) = refl
 
 -- what is written goes by the reading of the body
-pub by-body : (id k : ℕ) (b : List ℕ) → 1 ≤ k → k ≤ 7 → writing message id k b ≡ writingBody (body (kindOf k)) id k b
+pub by-body : (e : Edition) (id k : ℕ) (b : List ℕ) → 1 ≤ k → k ≤ lastType e → writing (message e) id k b ≡ writingBody (body e (kindOf k)) id k b
 unfolding writing writingBody readAt
-by-body id k b p q = go (decLe id 4095)
+by-body e id k b p q = go (decLe id 4095)
   where
     m : List ℕ
     m = messageBytes id k b
 
-    go : Dec (id ≤ 4095) → writing message id k b ≡ writingBody (body (kindOf k)) id k b
+    go : Dec (id ≤ 4095) → writing (message e) id k b ≡ writingBody (body e (kindOf k)) id k b
     go (yes h) =
         let w : ℕ = headerOf id k in
+        let low = types-end e in
         let t : typeOf w ≡ k = omega arith in
         let behind-it : drop 4 m ≡ b = drop-at (encode word w) b 4 (number-size 4 w) in
         simp (le-leb id 4095 h)
-        (ap (asRead m) (sym (shifted-zero (read message m)) ∙ both-read (header-there id k b h p q) (record { is = refl }) .is)
-        ∙ as-read-mapped (λ y. (w, y)) m (shifted 4 (read (body (kindOf (typeOf w))) (drop 4 m)))
-        ∙ ap (λ (l : List ℕ). asRead m (shifted 4 (read (body (kindOf (typeOf w))) l))) behind-it
-        ∙ ap (λ (x : ℕ). asRead m (shifted 4 (read (body (kindOf x)) b))) t)
+        (ap (asRead m) (sym (shifted-zero (read (message e) m)) ∙ both-read (header-there e id k b h p q) (record { is = refl }) .is)
+        ∙ as-read-mapped (λ y. (w, y)) m (shifted 4 (read (body e (kindOf (typeOf w))) (drop 4 m)))
+        ∙ ap (λ (l : List ℕ). asRead m (shifted 4 (read (body e (kindOf (typeOf w))) l))) behind-it
+        ∙ ap (λ (x : ℕ). asRead m (shifted 4 (read (body e (kindOf x)) b))) t)
     go (no h) = simp (lt-leb id 4095 (omega arith))
+
+-- what has another type than the edition's isn't written
+pub other-type : (e : Edition) (id k : ℕ) (b : List ℕ) → id ≤ 4095 → lastType e < k → k < 256 → writing (message e) id k b ≡ refuses 3 0
+unfolding writing readAt
+other-type e id k b h p q =
+    let m : List ℕ = messageBytes id k b in
+    let r : Reads (message e) m 0 (refused 3 0) = first-refused (other-type-there e id k b h p q) in
+    simp (le-leb id 4095 h) (ap (asRead m) (sym (shifted-zero (read (message e) m)) ∙ r .is))
 
 -- a type that is one of two
 pub either : (a c k : ℕ) (P : ℕ → Type 0) → (eqb k a || eqb k c) ≡ true → P a → P c → P k
@@ -94,9 +119,9 @@ unfolding writing
 id-refused F id k b h = simp (lt-leb id 4095 h)
 
 -- one that isn't
-pub id-passed : (id k : ℕ) (b : List ℕ) → id ≤ 4095 → 1 ≤ k → k ≤ 7 → bodyCheck (body (kindOf k)) b ≡ fillingAnswer (writing message id k b)
+pub id-passed : (e : Edition) (id k : ℕ) (b : List ℕ) → id ≤ 4095 → 1 ≤ k → k ≤ lastType e → bodyCheck (body e (kindOf k)) b ≡ fillingAnswer (writing (message e) id k b)
 unfolding writingBody
-id-passed id k b h p q = rw (by-body id k b p q) (simp (le-leb id 4095 h) (check-answers (body (kindOf k)) id k b))
+id-passed e id k b h p q = rw (by-body e id k b p q) (simp (le-leb id 4095 h) (check-answers (body e (kindOf k)) id k b))
 
 size-in : (room : ℕ) (o : Outcome) → sizeIn room (fillingAnswer o) ≡ fillingAnswer (inRoom room o)
 size-in room (gives l) = go (leb (length l) room)

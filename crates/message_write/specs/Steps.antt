@@ -1,15 +1,34 @@
 -- The steps of a writer: a body is checked as it reads behind its header, and then the Message ID and the room.
 use Prim.Native.Nat.{ℕ}
 use mathlib.Core.List.{List}
+use mathlib.Core.Path.{_≡_}
 use mathlib.Core.Bool.{cond}
+use lib.ListN.{length}
 use lib.Dec.{leb}
 use Rattle.xdr.specs.Reading.{Reading, taken, refused, shifted}
 use Rattle.xdr.specs.Format.{Format, read}
+use Rattle.xdr.specs.Buffer.{filled}
 use Rattle.xdr.specs.Filling.{Outcome, refuses, fillingAnswer}
 use Rattle.xdr.specs.declared.filling.Filling.{Filling}
 use Rattle.xdr.specs.declared.filling.Filling.the-variants as F
 use Rattle.message.specs.Limits.{idLimit}
-use Rattle.message_write.specs.Writing.{messageBytes, asRead}
+use Rattle.message.specs.Message.{Repository}
+use Rattle.message.specs.declared.edition.Edition.{Edition}
+use Rattle.message.specs.declared.edition.Edition.the-variants as E
+use Rattle.message_write.specs.Writing.{repositoryBytes, messageBytes, asRead}
+
+-- the Repository that some bytes are: in the old edition none, whatever they are
+abbrev pub repositoryOf : (e : Edition) → List ℕ → Repository e
+repositoryOf E.Old l = tt
+repositoryOf E.New l = l
+
+-- how they would be written
+abbrev pub givenBytes : (e : Edition) → List ℕ → List ℕ
+givenBytes e l = repositoryBytes e (repositoryOf e l)
+
+-- bytes that were put at the start of a buffer, and how many they are
+abbrev pub Stored : (l out : List ℕ) → (count : ℕ) → (after : List ℕ) → Type 0
+Stored l out count after = (count ≡ length l) × (after ≡ filled out l)
 
 -- writing by the format of the body, read behind the header
 unfoldable pub writingBody : {A : Type 0} → Format A → (id type : ℕ) → List ℕ → Outcome

@@ -1,6 +1,6 @@
 -- Writing a message: what reading the bytes that would be written gives decides.
 use Prim.Native.Nat.{ℕ}
-use mathlib.Core.List.{List, _++_}
+use mathlib.Core.List.{List, [], _++_}
 use mathlib.Core.Bool.{cond}
 use lib.ListN.{take}
 use lib.Dec.{leb}
@@ -10,15 +10,26 @@ use Rattle.xdr.specs.Fields.{word, hyper}
 use Rattle.xdr.specs.Filling.{Outcome, gives, refuses}
 use Rattle.message.specs.Limits.{idLimit}
 use Rattle.message.specs.Header.{headerOf}
+use Rattle.message.specs.Message.{Repository}
+use Rattle.message.specs.declared.edition.Edition.{Edition}
+use Rattle.message.specs.declared.edition.Edition.the-variants as E
+
+-- the Repository as it would be written: in the old edition not at all
+abbrev pub repositoryBytes : (e : Edition) → Repository e → List ℕ
+repositoryBytes E.Old u = []
+repositoryBytes E.New r = encode (bytes word) r
 
 -- the body of an Index or an IndexUpdate as it would be written: the files are given encoded (the options too, which are all of their body)
-abbrev pub indexBytes : (repository files : List ℕ) → List ℕ
-indexBytes repository files = encode (bytes word) repository ++ files
+abbrev pub indexBytes : (e : Edition) → Repository e → (files : List ℕ) → List ℕ
+indexBytes e r files = repositoryBytes e r ++ files
+
+-- the fields of a Request behind its Repository as they would be written
+abbrev pub pieceBytes : (name : List ℕ) (offset size : ℕ) (hash : List ℕ) → List ℕ
+pieceBytes name offset size hash = encode (bytes word) name ++ (encode hyper offset ++ (encode word size ++ encode (bytes word) hash))
 
 -- the body of a Request as it would be written
-abbrev pub requestBytes : (repository name : List ℕ) (offset size : ℕ) (hash : List ℕ) → List ℕ
-requestBytes repository name offset size hash =
-    encode (bytes word) repository ++ (encode (bytes word) name ++ (encode hyper offset ++ (encode word size ++ encode (bytes word) hash)))
+abbrev pub requestBytes : (e : Edition) → Repository e → (name : List ℕ) (offset size : ℕ) (hash : List ℕ) → List ℕ
+requestBytes e r name offset size hash = repositoryBytes e r ++ pieceBytes name offset size hash
 
 -- the body of a Response as it would be written
 abbrev pub responseBytes : List ℕ → List ℕ

@@ -8,10 +8,12 @@ ghost use Rattle.record.specs.Block.{hash as hashField};
 ghost use Rattle.record.specs.File.{name as nameField};
 ghost use Rattle.record.specs.KeyValue.{options as optionsField};
 ghost use Rattle.message.specs.Limits.{optionsLimit};
-ghost use Rattle.message.specs.Message.{index, request, response};
-ghost use Rattle.message_write.specs.Steps.{bodyCheck, admittedAnswer};
+ghost use Rattle.message.specs.Message.{repository as repositoryField, index, request, response};
+ghost use Rattle.message.specs.Steps.{repositoryAnswer};
+ghost use Rattle.message_write.specs.Steps.{repositoryOf, givenBytes, bodyCheck, admittedAnswer};
 ghost use Rattle.message_write.specs.Writing.{indexBytes, requestBytes, responseBytes};
 use message::DATA_LIMIT;
+use message::Edition;
 use message::FILES_LIMIT;
 use message::ID_LIMIT;
 use message::OPTIONS_LIMIT;
@@ -86,6 +88,17 @@ pub fn check_hash(l: &[u8]) -> Bytes
     Bytes::Taken(32, 36)
 }
 
+// The same for the Repository of a message: in the old edition there is none, whatever is given.
+pub fn check_repository(edition: Edition, repository: &[u8]) -> Bytes
+    ensures { λ r. ⌜ r ≡ repositoryAnswer edition
+        (readAt (repositoryField edition) (givenBytes edition (now (repository .entry))) 0) ⌝ }
+{
+    match edition {
+        Edition::Old => Bytes::Taken(0, 0),
+        Edition::New => check_text(repository, REPOSITORY_LIMIT),
+    }
+}
+
 // A refusal of a field that begins at a place.
 fn refused_at(r: Refusal, at: usize) -> Filling
     requires { ⌜ at + r .place < 18446744073709551616 ⌝ }
@@ -98,10 +111,11 @@ fn refused_at(r: Refusal, at: usize) -> Filling
 }
 
 // The body of an Index or an IndexUpdate.
-pub fn check_index(repository: &[u8], files: &[u8]) -> Filling
-    ensures { λ r. ⌜ r ≡ bodyCheck index (indexBytes (now (repository .entry)) (now (files .entry))) ⌝ }
+pub fn check_index(edition: Edition, repository: &[u8], files: &[u8]) -> Filling
+    ensures { λ r. ⌜ r ≡ bodyCheck (index edition)
+        (indexBytes edition (repositoryOf edition (now (repository .entry))) (now (files .entry))) ⌝ }
 {
-    let text = check_text(repository, REPOSITORY_LIMIT);
+    let text = check_repository(edition, repository);
     let Bytes::Taken(_, size) = text else {
         return refused_at(text.refusal(), 4);
     };
@@ -113,11 +127,18 @@ pub fn check_index(repository: &[u8], files: &[u8]) -> Filling
 }
 
 // The body of a Request, whatever its offset.
-pub fn check_request(repository: &[u8], name: &[u8], size: u32, hash: &[u8]) -> Filling
+pub fn check_request(
+    edition: Edition,
+    repository: &[u8],
+    name: &[u8],
+    size: u32,
+    hash: &[u8],
+) -> Filling
     ensures { λ r. ⌜ ((offset : ℕ)
-        → r ≡ bodyCheck request (requestBytes (now (repository .entry)) (now (name .entry)) offset size (now (hash .entry)))) ⌝ }
+        → r ≡ bodyCheck (request edition) (requestBytes edition (repositoryOf edition (now (repository .entry)))
+        (now (name .entry)) offset size (now (hash .entry)))) ⌝ }
 {
-    let first = check_text(repository, REPOSITORY_LIMIT);
+    let first = check_repository(edition, repository);
     let Bytes::Taken(_, repository_size) = first else {
         return refused_at(first.refusal(), 4);
     };

@@ -15,6 +15,7 @@ use Rattle.xdr.proofs.Corollaries.{read-exactly}
 use Rattle.record.specs.File.{File}
 use Rattle.message.specs.Header.{typeOf}
 use Rattle.message.specs.Message.{Kind, kindOf, Body, body, MessageValue, message}
+use Rattle.message.specs.declared.edition.Edition.the-variants as E
 use Rattle.table.specs.Limits.{recordsLimit, bytesLimit}
 use Rattle.order.specs.Order.{isEqual, compareLists}
 use Rattle.table.specs.Table.{isGood, isWithin, records, tableOf, resultingTable}
@@ -61,7 +62,7 @@ table-records fs l v = go (isWithin (length fs) (length (tableOf fs))) refl
     go false w q = not-given q
 
 -- what an accepted call went through
-record Took (old repository table : List ℕ) (k : Kind) (b : Body k) : Type 0 where
+record Took (old repository table : List ℕ) (k : Kind) (b : Body E.New k) : Type 0 where
   update : Bool
   sent : List File
   sends : indexBody k b ≡ indexWith update (repository, sent)
@@ -83,7 +84,7 @@ module _ (old repository l : List ℕ) (valid-old : AllValid (records old)) wher
           (is-same (sent .0) repository q, r .2, table-records fs l (resulting-valid update (sent .1) (records old) v valid-old) (r .0))
       go false q e = not-given e
 
-  body-took : (k : Kind) (s : Body k) → Valid (body k) s → (y : IndexBody) → indexBody k s ≡ y → ofBody old repository y ≡ gives l → Took old repository l k s
+  body-took : (k : Kind) (s : Body E.New k) → Valid (body E.New k) s → (y : IndexBody) → indexBody k s ≡ y → ofBody old repository y ≡ gives l → Took old repository l k s
   body-took k s v (indexWith update sent) q e =
       let r = index-took update sent (files-valid sent (index-format (λ A F a. Valid F a) k s q v)) e in
       record { update = update; sent = sent .1; sends = q ∙ ap (λ (n : List ℕ). indexWith update (n, sent .1)) (r .0); distinct = r .1; records-are = r .2 }
@@ -95,9 +96,9 @@ pub accepted-records : (old bytes repository table : List ℕ) → IsBytes old �
 unfolding acceptOutcome Valid
 accepted-records old bytes repository table b c e = by-old (isGood old) refl e
   where
-    by-reading : isGood old ≡ true → (r : Reading MessageValue) → read message bytes ≡ r → ofReading old repository r ≡ gives table → Accepted old bytes repository table
+    by-reading : isGood old ≡ true → (r : Reading (MessageValue E.New)) → read (message E.New) bytes ≡ r → ofReading old repository r ≡ gives table → Accepted old bytes repository table
     by-reading g (taken m n) q h =
-        let t = body-took old repository table (good-table old b g .valid) (kindOf (typeOf (m .0))) (m .1) (read-exactly message bytes m n c q .1 .1) (indexBody (kindOf (typeOf (m .0))) (m .1)) refl h in
+        let t = body-took old repository table (good-table old b g .valid) (kindOf (typeOf (m .0))) (m .1) (read-exactly (message E.New) bytes m n c q .1 .1) (indexBody (kindOf (typeOf (m .0))) (m .1)) refl h in
         record {
           value = m;
           end = n;
@@ -111,6 +112,6 @@ accepted-records old bytes repository table b c e = by-old (isGood old) refl e
         }
     by-reading g (unread k p) q h = not-given h
 
-    by-old : (g : Bool) → isGood old ≡ g → cond g (ofReading old repository (readAt message bytes 0)) (refuses 15 0) ≡ gives table → Accepted old bytes repository table
-    by-old true g h = by-reading g (read message bytes) refl (ap (ofReading old repository) (sym (from-start bytes)) ∙ h)
+    by-old : (g : Bool) → isGood old ≡ g → cond g (ofReading old repository (readAt (message E.New) bytes 0)) (refuses 15 0) ≡ gives table → Accepted old bytes repository table
+    by-old true g h = by-reading g (read (message E.New) bytes) refl (ap (ofReading old repository) (sym (from-start E.New bytes)) ∙ h)
     by-old false g h = not-given h

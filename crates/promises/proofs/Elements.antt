@@ -27,6 +27,7 @@ use Rattle.message.specs.Header.{typeOf, idOf}
 use Rattle.message.specs.Message.{Kind, isIndex, isRequest, isResponse, isPing, isPong, isIndexUpdate, isOptions, kindOf, Body, body, MessageValue, message}
 use Rattle.message.specs.Answers.{spanBytes, messageIn}
 use Rattle.message.specs.declared.answer.Message.{Message}
+use Rattle.message.specs.declared.edition.Edition.{Edition}
 use Rattle.promises.specs.Spans.{SaysFields}
 use Rattle.promises.specs.Elements.{BlocksFrom, FilesFrom, OptionsFrom, Walked}
 use Rattle.promises.proofs.Spans.{spans-are-fields}
@@ -88,18 +89,19 @@ options-walked s os v e =
     let q = elements-of (upTo optionsLimit) keyValue s os v e in
     options-from s 4 os (subst (λ (k : ℕ). Elements keyValue s k os (length s)) (ends-word (passed (q .1)) .0) (q .2))
 
-by-kind : (s : List ℕ) (k : Kind) (b : Body k) (id n : ℕ) (a : Message) → Valid (body k) b → SaysFields s id k b n a → Walked s k b a
-unfolding Valid
-by-kind s isIndex b id n a v (x, e, f) = (id, x, e, files-walked (spanBytes s (x .files)) (b .1) (v .1) (f .files-are))
-by-kind s isRequest b id n a v f = tt
-by-kind s isResponse b id n a v f = tt
-by-kind s isPing b id n a v f = tt
-by-kind s isPong b id n a v f = tt
-by-kind s isIndexUpdate b id n a v (x, e, f) = (id, x, e, files-walked (spanBytes s (x .files)) (b .1) (v .1) (f .files-are))
-by-kind s isOptions b id n a v (x, e, f) = (id, x, e, options-walked (spanBytes s (x .options)) b v (f .options-are))
+module _ (ed : Edition) where
+  by-kind : (s : List ℕ) (k : Kind) (b : Body ed k) (id n : ℕ) (a : Message) → Valid (body ed k) b → SaysFields ed s id k b n a → Walked ed s k b a
+  unfolding Valid
+  by-kind s isIndex b id n a v (x, e, f) = (id, x, e, files-walked (spanBytes s (x .files)) (b .1) (v .1) (f .files-are))
+  by-kind s isRequest b id n a v f = tt
+  by-kind s isResponse b id n a v f = tt
+  by-kind s isPing b id n a v f = tt
+  by-kind s isPong b id n a v f = tt
+  by-kind s isIndexUpdate b id n a v (x, e, f) = (id, x, e, files-walked (spanBytes s (x .files)) (b .1) (v .1) (f .files-are))
+  by-kind s isOptions b id n a v (x, e, f) = (id, x, e, options-walked (spanBytes s (x .options)) b v (f .options-are))
 
--- every message that is read
-pub elements-walked : (s : List ℕ) (m : MessageValue) (n : ℕ) → IsBytes s → read message s ≡ taken m n → Walked s (kindOf (typeOf (m .0))) (m .1) (messageIn s)
-unfolding Valid
-elements-walked s m n b e =
-    by-kind s (kindOf (typeOf (m .0))) (m .1) (idOf (m .0)) n (messageIn s) (read-exactly message s m n b e .1 .1) (spans-are-fields s m n b e)
+  -- every message that is read
+  pub elements-walked : (s : List ℕ) (m : MessageValue ed) (n : ℕ) → IsBytes s → read (message ed) s ≡ taken m n → Walked ed s (kindOf (typeOf (m .0))) (m .1) (messageIn ed s)
+  unfolding Valid
+  elements-walked s m n b e =
+      by-kind s (kindOf (typeOf (m .0))) (m .1) (idOf (m .0)) n (messageIn ed s) (read-exactly (message ed) s m n b e .1 .1) (spans-are-fields ed s m n b e)

@@ -19,63 +19,75 @@ use Rattle.accept.specs.Accepting.{ofReading, acceptOutcome}
 use Rattle.serve.specs.Ruling.{isOurs, Ruling, serves, fills, rulingOn, rulingOf}
 use Rattle.message.specs.Kinds.{requestIn}
 use Rattle.queue.specs.Queue.{answerOf}
-use Rattle.promises.specs.Following.{IsEnough, Unchanged}
+use Rattle.message.specs.declared.edition.Edition.{Edition}
+use Rattle.message.specs.declared.edition.Edition.the-variants as E
+use Rattle.edition.specs.Turning.{upgrading, downgrading}
+use Rattle.promises.specs.Following.{IsEnough, Unchanged, OldUnchanged}
 use Rattle.promises.proofs.Spans.{from-start, request-fields, body-there}
 use Rattle.promises.proofs.Serving.{ours-by-fields}
 
-enough : (s : List ℕ) → IsEnough s → cutShort (read message s) ≡ false
-enough s h = go (read message s) refl
+enough : (ed : Edition) (s : List ℕ) → IsEnough ed s → cutShort (read (message ed) s) ≡ false
+enough ed s h = go (read (message ed) s) refl
   where
-    by-number : (k p : ℕ) → read message s ≡ refused k p → (b : Bool) → eqb k 1 ≡ b → eqb k 1 ≡ false
+    by-number : (k p : ℕ) → read (message ed) s ≡ refused k p → (b : Bool) → eqb k 1 ≡ b → eqb k 1 ≡ false
     by-number k p e true q = absurd (h p (e ∙ ap (λ (n : ℕ). refused n p) (eqb-true k 1 q)))
     by-number k p e false q = q
 
-    go : (r : Reading MessageValue) → read message s ≡ r → cutShort r ≡ false
+    go : (r : Reading (MessageValue ed)) → read (message ed) s ≡ r → cutShort r ≡ false
     go (taken m n) e = refl
     go (refused k p) e = by-number k p e (eqb k 1) refl
 
-module _ (s t : List ℕ) (same : read message (s ++ t) ≡ read message s) where
-  read-same : readAt message (s ++ t) 0 ≡ readAt message s 0
-  read-same = from-start (s ++ t) ∙ same ∙ sym (from-start s)
+-- the message is read as it is without them
+read-same : (ed : Edition) (s t : List ℕ) → IsEnough ed s → read (message ed) (s ++ t) ≡ read (message ed) s
+read-same ed s t h = steady (message ed) s t (enough ed s h)
 
+read-from-start : (ed : Edition) (s t : List ℕ) → IsEnough ed s → readAt (message ed) (s ++ t) 0 ≡ readAt (message ed) s 0
+read-from-start ed s t h = from-start ed (s ++ t) ∙ read-same ed s t h ∙ sym (from-start ed s)
+
+module _ (s t : List ℕ) (same : read (message E.New) (s ++ t) ≡ read (message E.New) s) where
   -- the ruling on a Request goes by its fields, and on any other message by its kind
 
   module _ (table repository : List ℕ) where
-    by-kind : (k : Kind) (b : Body k) (id n : ℕ) → Reads (body k) (s ++ t) 4 (taken b n) → Reads (body k) s 4 (taken b n)
-        → rulingOn table repository (s ++ t) (requestIn (bodyAnswer k id (taken b n))) ≡ rulingOn table repository s (requestIn (bodyAnswer k id (taken b n)))
+    by-kind : (k : Kind) (b : Body E.New k) (id n : ℕ) → Reads (body E.New k) (s ++ t) 4 (taken b n) → Reads (body E.New k) s 4 (taken b n)
+        → rulingOn table repository (s ++ t) (requestIn (bodyAnswer E.New k id (taken b n))) ≡ rulingOn table repository s (requestIn (bodyAnswer E.New k id (taken b n)))
     by-kind isIndex b id n g h = refl
     by-kind isRequest b id n g h =
-        let x = requestSpan b n in
+        let x = requestSpan E.New b n in
         let ours : isOurs table repository (s ++ t) x ≡ isOurs table repository s x =
-        ours-by-fields table repository (s ++ t) x b n (request-fields g) ∙ sym (ours-by-fields table repository s x b n (request-fields h)) in
-        ap (λ (v : Bool). cond v (serves (x .name) (x .offset) (x .size)) (fills (writing message id 3 (responseBytes [])))) ours
+        ours-by-fields table repository (s ++ t) x b n (request-fields E.New g) ∙ sym (ours-by-fields table repository s x b n (request-fields E.New h)) in
+        ap (λ (v : Bool). cond v (serves (x .name) (x .offset) (x .size)) (fills (writing (message E.New) id 3 (responseBytes [])))) ours
     by-kind isResponse b id n g h = refl
     by-kind isPing b id n g h = refl
     by-kind isPong b id n g h = refl
     by-kind isIndexUpdate b id n g h = refl
     by-kind isOptions b id n g h = refl
 
-    by-reading : (r : Reading MessageValue) → read message s ≡ r → rulingOn table repository (s ++ t) (requestIn (messageAnswer r)) ≡ rulingOn table repository s (requestIn (messageAnswer r))
-    by-reading (taken m n) e = by-kind (kindOf (typeOf (m .0))) (m .1) (idOf (m .0)) n (body-there (same ∙ e)) (body-there e)
+    by-reading : (r : Reading (MessageValue E.New)) → read (message E.New) s ≡ r → rulingOn table repository (s ++ t) (requestIn (messageAnswer E.New r)) ≡ rulingOn table repository s (requestIn (messageAnswer E.New r))
+    by-reading (taken m n) e = by-kind (kindOf (typeOf (m .0))) (m .1) (idOf (m .0)) n (body-there E.New (same ∙ e)) (body-there E.New e)
     by-reading (refused k p) e = refl
 
     ruling-same : rulingOf table repository (s ++ t) ≡ rulingOf table repository s
     unfolding rulingOf
     ruling-same =
         ap (λ (u : Ruling). cond (isGood table) u (fills (refuses 15 0)))
-        (ap (λ (r : Reading MessageValue). rulingOn table repository (s ++ t) (requestIn (messageAnswer r))) (read-same ∙ from-start s)
-        ∙ by-reading (read message s) refl
-        ∙ ap (λ (r : Reading MessageValue). rulingOn table repository s (requestIn (messageAnswer r))) (sym (from-start s)))
+        (ap (λ (r : Reading (MessageValue E.New)). rulingOn table repository (s ++ t) (requestIn (messageAnswer E.New r))) (from-start E.New (s ++ t) ∙ same)
+        ∙ by-reading (read (message E.New) s) refl
+        ∙ ap (λ (r : Reading (MessageValue E.New)). rulingOn table repository s (requestIn (messageAnswer E.New r))) (sym (from-start E.New s)))
 
 -- whatever follows bytes that are enough
-pub following-unchanged : (s t : List ℕ) → IsEnough s → Unchanged s t
-unfolding acceptOutcome
+pub following-unchanged : (s t : List ℕ) → IsEnough E.New s → Unchanged s t
+unfolding acceptOutcome downgrading
 following-unchanged s t h =
-    let same : read message (s ++ t) ≡ read message s = steady message s t (enough s h) in
-    let e = read-same s t same in
+    let same = read-same E.New s t h in
+    let e = read-from-start E.New s t h in
     record {
-      reading = ap messageAnswer e;
-      accepting = λ old repository. ap (λ (r : Reading MessageValue). cond (isGood old) (ofReading old repository r) (refuses 15 0)) e;
-      answering = λ q. ap (λ (r : Reading MessageValue). answerOf q (messageAnswer r)) e;
+      reading = ap (messageAnswer E.New) e;
+      turning = rw same refl;
+      accepting = λ old repository. ap (λ (r : Reading (MessageValue E.New)). cond (isGood old) (ofReading old repository r) (refuses 15 0)) e;
+      answering = λ q. ap (λ (r : Reading (MessageValue E.New)). answerOf q (messageAnswer E.New r)) e;
       serving = λ table repository. ruling-same s t same table repository;
     }
+
+pub old-following-unchanged : (s t : List ℕ) → IsEnough E.Old s → OldUnchanged s t
+unfolding upgrading
+old-following-unchanged s t h = record { reading = ap (messageAnswer E.Old) (read-from-start E.Old s t h); turning = λ repository. rw (read-same E.Old s t h) refl }

@@ -13,7 +13,9 @@ pub mod Following
 pub mod Walking
 mod BelongLaws
 pub mod Accepting
+mod FieldLaws
 pub mod RoundTrips
+pub mod Turning
 pub mod Elements
 pub mod Arrived
 pub mod SampleArrived

@@ -15,6 +15,7 @@ use Rattle.message.specs.declared.answer.Message.{Message}
 use Rattle.message.specs.Answers.{messageIn}
 use Rattle.message.specs.Kinds.{responseIn}
 use Rattle.message.specs.declared.kind.ResponseIn.{ResponseIn}
+use Rattle.message.specs.declared.edition.Edition.the-variants as E
 use Rattle.message_write.specs.Writing.{requestBytes, writing}
 use Rattle.xdr.proofs.FillingLaws.{given-room}
 use Rattle.link.specs.Requests.{total}
@@ -43,7 +44,7 @@ use Rattle.promises.specs.History.{Call, issue, answer, drop, isAccepted
 -- a call as the link sees it
 abbrev linkCall : RequestQueue → Call → LinkCall
 linkCall q (issue r n o size h room) = link.issue (total (outstanding (q .link))) allowance r n o size h room
-linkCall q (answer s) = link.answer (responseIn (messageIn s))
+linkCall q (answer s) = link.answer (responseIn (messageIn E.New s))
 linkCall q drop = link.drop
 
 module _ (q : RequestQueue) (s : isSound q ≡ true) where
@@ -61,23 +62,23 @@ module _ (q : RequestQueue) (s : isSound q ≡ true) where
   same-drop = past-22 (record { queue = record { link = emptied (q .link) }; verdict = Ruled.Accepted }) (record { queue = q; verdict = Ruled.Refused (atStart 22) })
 
   same-after : (c : Call) → queueAfter q c .link ≡ link.afterCall (q .link) (linkCall q c)
-  same-after (issue r n o size h room) = ap (λ (x : Outcome). issuedLink (q .link) size (inRoom room x)) (same-issue (requestBytes r n o size h) size)
-  same-after (answer m) = ap (λ (x : Answered). x .queue .link) (same-answer (messageIn m))
+  same-after (issue r n o size h room) = ap (λ (x : Outcome). issuedLink (q .link) size (inRoom room x)) (same-issue (requestBytes E.New r n o size h) size)
+  same-after (answer m) = ap (λ (x : Answered). x .queue .link) (same-answer (messageIn E.New m))
   same-after drop = ap (λ (x : Emptied). x .queue .link) same-drop
 
   same-event : (c : Call) → queueEvent q c ≡ link.event (q .link) (linkCall q c)
-  same-event (issue r n o size h room) = ap (λ (x : Outcome). issueWas (q .link .next) size (inRoom room x)) (same-issue (requestBytes r n o size h) size)
-  same-event (answer m) = ap (λ (x : Answered). answerWas (responseIn (messageIn m)) (x .release)) (same-answer (messageIn m))
+  same-event (issue r n o size h room) = ap (λ (x : Outcome). issueWas (q .link .next) size (inRoom room x)) (same-issue (requestBytes E.New r n o size h) size)
+  same-event (answer m) = ap (λ (x : Answered). answerWas (responseIn (messageIn E.New m)) (x .release)) (same-answer (messageIn E.New m))
   same-event drop = ap (λ (x : Emptied). dropWas (isAccepted (x .verdict))) same-drop
 
 -- the total stays within the allowance
 
 issue-within : (q : Link) (r n : List ℕ) (o size : ℕ) (h : List ℕ) (room : ℕ) (x : Outcome)
-    → inRoom room (issuing (total (outstanding q)) allowance q (requestBytes r n o size h) size) ≡ x → Good q
+    → inRoom room (issuing (total (outstanding q)) allowance q (requestBytes E.New r n o size h) size) ≡ x → Good q
     → total (outstanding q) ≤ allowance → total (outstanding (issuedLink q size x)) ≤ allowance
 issue-within q r n o size h room (gives l) e g t =
     let s : Orderly q = orderly-facts q (g .orderly) in
-    let a = issuing-tells (total (outstanding q)) allowance q r n o size h l s (given-room room (issuing (total (outstanding q)) allowance q (requestBytes r n o size h) size) l e .0) in
+    let a = issuing-tells (total (outstanding q)) allowance q r n o size h l s (given-room room (issuing (total (outstanding q)) allowance q (requestBytes E.New r n o size h) size) l e .0) in
     let out : outstanding (appended q size) ≡ outstanding q ++ (nextRequest q size ∷ []) = outstanding-appended q size (omega (arith, g .long, a .0, s .high)) in
     rw (out, total-append (outstanding q) (nextRequest q size)) (a .2)
 issue-within q r n o size h room (refuses k p) e g t = t
@@ -92,8 +93,8 @@ answer-within q m g t = go (answeredBy q m) (answer-was q m)
         rw (outstanding-without q r rs g o) (omega arith)
 
 within : (q : RequestQueue) (c : Call) → Good (q .link) → total (outstanding (q .link)) ≤ allowance → total (outstanding (link.afterCall (q .link) (linkCall q c))) ≤ allowance
-within q (issue r n o size h room) g t = issue-within (q .link) r n o size h room (inRoom room (issuing (total (outstanding (q .link))) allowance (q .link) (requestBytes r n o size h) size)) refl g t
-within q (answer s) g t = answer-within (q .link) (responseIn (messageIn s)) g t
+within q (issue r n o size h room) g t = issue-within (q .link) r n o size h room (inRoom room (issuing (total (outstanding (q .link))) allowance (q .link) (requestBytes E.New r n o size h) size)) refl g t
+within q (answer s) g t = answer-within (q .link) (responseIn (messageIn E.New s)) g t
 within q drop g t = omega arith
 
 record Same (q : RequestQueue) (cs : List Call) : Type 0 where
@@ -190,7 +191,7 @@ held-in-words window calls e =
 
 -- freed room can be issued again: wherever the count and the bytes allow, an issue is what writing alone gives
 pub issued-again : (q : RequestQueue) (b : List ℕ) (size : ℕ) → isSound q ≡ true → q .link .count < q .link .window → total (outstanding (q .link)) + size ≤ allowance
-    → issueOutcome q b size ≡ writing message (q .link .next) 2 b
+    → issueOutcome q b size ≡ writing (message E.New) (q .link .next) 2 b
 issued-again q b size s below bytes =
     let f : Orderly (q .link) = orderly-facts (q .link) (sound-facts q s .0) in
     same-issue q s b size

@@ -16,6 +16,7 @@ use Rattle.message.specs.declared.answer.RequestSpan.{RequestSpan}
 use Rattle.message.specs.declared.answer.Message.{Message}
 use Rattle.message.specs.declared.answer.Message.the-variants as M
 use Rattle.message.specs.declared.kind.RequestIn.the-variants as Q
+use Rattle.message.specs.declared.edition.Edition.the-variants as E
 use Rattle.message_write.specs.Writing.{messageBytes, responseBytes, asRead, writing}
 use Rattle.message_write.specs.Steps.{writingBody}
 use Rattle.message_write.proofs.WritingLaws.{by-body}
@@ -42,7 +43,7 @@ idIn (M.IndexUpdate id x) = id
 idIn (M.Options id x) = id
 idIn (M.Refused r) = 0
 
-id-of : (k : Kind) (b : Body k) (id next : ℕ) → idIn (bodyAnswer k id (taken b next)) ≡ id
+id-of : (k : Kind) (b : Body E.New k) (id next : ℕ) → idIn (bodyAnswer E.New k id (taken b next)) ≡ id
 id-of isIndex b id next = refl
 id-of isRequest b id next = refl
 id-of isResponse b id next = refl
@@ -51,7 +52,7 @@ id-of isPong b id next = refl
 id-of isIndexUpdate b id next = refl
 id-of isOptions b id next = refl
 
-small-id : (r : Reading MessageValue) → idIn (messageAnswer r) ≤ 4095
+small-id : (r : Reading (MessageValue E.New)) → idIn (messageAnswer E.New r) ≤ 4095
 small-id (taken m next) = rw (id-of (kindOf (typeOf (m .0))) (m .1) (idOf (m .0)) next) (omega arith)
 small-id (refused k p) = omega arith
 
@@ -67,24 +68,24 @@ module _ (id : ℕ) (h : id ≤ 4095) where
       let d : headerOf id 3 % 16777216 % 65536 % 256 / 1 ≡ 0 = omega arith in
       cc
 
-  reply-writing : writing message id 3 (responseBytes []) ≡ gives (replyBytes id)
+  reply-writing : writing (message E.New) id 3 (responseBytes []) ≡ gives (replyBytes id)
   unfolding read encode allZero writingBody
-  reply-writing = by-body id 3 (responseBytes []) (omega arith) (omega arith) ∙ simp (le-leb id 4095 h) (ap (λ (l : List ℕ). asRead {A = List ℕ} l (taken [] 8)) reply-bytes)
+  reply-writing = by-body E.New id 3 (responseBytes []) (omega arith) (omega arith) ∙ simp (le-leb id 4095 h) (ap (λ (l : List ℕ). asRead {A = List ℕ} l (taken [] 8)) reply-bytes)
 
 -- a Request that is not ours: what there is to fill in is the reply's eight bytes, under its ID
-pub unserved-replied : (t repository s : List ℕ) (id : ℕ) (x : RequestSpan) → isGood t ≡ true → messageIn s ≡ M.Request id x → isOurs t repository s x ≡ false
+pub unserved-replied : (t repository s : List ℕ) (id : ℕ) (x : RequestSpan) → isGood t ≡ true → messageIn E.New s ≡ M.Request id x → isOurs t repository s x ≡ false
     → rulingOf t repository s ≡ fills (gives (replyBytes id))
 unserved-replied t repository s id x g e o =
-    let small : id ≤ 4095 = subst (λ (a : Message). idIn a ≤ 4095) e (small-id (readAt message s 0)) in
+    let small : id ≤ 4095 = subst (λ (a : Message). idIn a ≤ 4095) e (small-id (readAt (message E.New) s 0)) in
     table-good t repository s [] g (sym e) refl refl ∙ ours-not t repository s [] id x refl o ∙ ap fills (reply-writing id small)
 
 -- whether it is ours goes by its fields
-pub ours-by-fields : (t repository s : List ℕ) (x : RequestSpan) (b : Body isRequest) (end : ℕ) → RequestFields s x b end
+pub ours-by-fields : (t repository s : List ℕ) (x : RequestSpan) (b : Body E.New isRequest) (end : ℕ) → RequestFields E.New s x b end
     → isOurs t repository s x ≡ (isEqual (compareLists (b .repository) repository) && listsThere (records t) (b .name) (b .offset) (blockWith (b .size) (b .hash)))
 ours-by-fields t repository s x b end f = rw (f .repository-is, f .name-is, f .offset-is, f .size-is, f .hash-is) refl
 
 -- the ruling by the fields
-module _ (t repository s : List ℕ) (g : isGood t ≡ true) (id : ℕ) (x : RequestSpan) (e : messageIn s ≡ M.Request id x) (b : Body isRequest) (end : ℕ) (f : RequestFields s x b end) where
+module _ (t repository s : List ℕ) (g : isGood t ≡ true) (id : ℕ) (x : RequestSpan) (e : messageIn E.New s ≡ M.Request id x) (b : Body E.New isRequest) (end : ℕ) (f : RequestFields E.New s x b end) where
   abbrev named : Bool
   named = isEqual (compareLists (b .repository) repository)
 
@@ -120,5 +121,5 @@ module _ (t repository s : List ℕ) (g : isGood t ≡ true) (id : ℕ) (x : Req
       }
 
 -- every Request that is read
-pub served-exactly : (t repository s : List ℕ) → isGood t ≡ true → (id : ℕ) (b : RequestBody) (end : ℕ) → SaysFields s id isRequest b end (messageIn s) → ServedExactly t repository s id b
+pub served-exactly : (t repository s : List ℕ) → isGood t ≡ true → (id : ℕ) (b : RequestBody E.New) (end : ℕ) → SaysFields E.New s id isRequest b end (messageIn E.New s) → ServedExactly t repository s id b
 served-exactly t repository s g id b end (x, e, f) = by-test t repository s g id x e b end f _ refl

@@ -16,10 +16,12 @@ use Rattle.record.specs.KeyValue.{KeyValue, keyValue}
 use Rattle.record.proofs.NameLaws.{path-faultless, path-stays-below}
 use Rattle.message.specs.Limits.{repositoryLimit}
 use Rattle.message.specs.Header.{typeOf}
-use Rattle.message.specs.Message.{Kind, isIndex, isRequest, isResponse, isPing, isPong, isIndexUpdate, isOptions, kindOf, Body, body, MessageValue, message}
+use Rattle.message.specs.Message.{Repository, repository, Kind, isIndex, isRequest, isResponse, isPing, isPong, isIndexUpdate, isOptions, kindOf, Body, body, MessageValue, message}
+use Rattle.message.specs.declared.edition.Edition.{Edition}
+use Rattle.message.specs.declared.edition.Edition.the-variants as E
 use Rattle.table.specs.Table.{isGood, records}
 use Rattle.table.proofs.TableLaws.{good-table}
-use Rattle.promises.specs.Strings.{NamesHave, StringsHave, LeadsDown, NamesAreUtf8, StringsAreUtf8, NamesLeadDown}
+use Rattle.promises.specs.Strings.{RepositoryHas, NamesHave, StringsHave, LeadsDown, NamesAreUtf8, StringsAreUtf8, NamesLeadDown}
 
 -- what every text has, and every name
 module _ (P Q : List ℕ → Type 0) (texts : (limit : ℕ) (l : List ℕ) → Valid (text limit) l → P l) (named : (l : List ℕ) → Valid name l → Q l) where
@@ -33,19 +35,23 @@ module _ (P Q : List ℕ → Type 0) (texts : (limit : ℕ) (l : List ℕ) → V
   options [] v = tt
   options (o ∷ os) v = ((texts keyLimit (o .key) (v .0 .0), texts valueLimit (o .value) (v .0 .1)), options os (v .1))
 
-  by-kind : (k : Kind) (b : Body k) → Valid (body k) b → StringsHave P Q k b
-  unfolding Valid
-  by-kind isIndex b v = (texts repositoryLimit (b .0) (v .0), names (b .1) (v .1 .1))
-  by-kind isRequest b v = (texts repositoryLimit (b .repository) (v .0), named (b .name) (v .1 .0))
-  by-kind isResponse b v = tt
-  by-kind isPing b v = tt
-  by-kind isPong b v = tt
-  by-kind isIndexUpdate b v = (texts repositoryLimit (b .0) (v .0), names (b .1) (v .1 .1))
-  by-kind isOptions b v = options b (v .1)
+  repository-has : (ed : Edition) (r : Repository ed) → Valid (repository ed) r → RepositoryHas P ed r
+  repository-has E.Old r v = tt
+  repository-has E.New r v = texts repositoryLimit r v
 
-  of-message : (s : List ℕ) → IsBytes s → (m : MessageValue) (n : ℕ) → read message s ≡ taken m n → StringsHave P Q (kindOf (typeOf (m .0))) (m .1)
+  by-kind : (ed : Edition) (k : Kind) (b : Body ed k) → Valid (body ed k) b → StringsHave P Q ed k b
   unfolding Valid
-  of-message s b m n e = by-kind (kindOf (typeOf (m .0))) (m .1) (read-exactly message s m n b e .1 .1)
+  by-kind ed isIndex b v = (repository-has ed (b .0) (v .0), names (b .1) (v .1 .1))
+  by-kind ed isRequest b v = (repository-has ed (b .repository) (v .0), named (b .name) (v .1 .0))
+  by-kind ed isResponse b v = tt
+  by-kind ed isPing b v = tt
+  by-kind ed isPong b v = tt
+  by-kind ed isIndexUpdate b v = (repository-has ed (b .0) (v .0), names (b .1) (v .1 .1))
+  by-kind ed isOptions b v = options b (v .1)
+
+  of-message : (ed : Edition) (s : List ℕ) → IsBytes s → (m : MessageValue ed) (n : ℕ) → read (message ed) s ≡ taken m n → StringsHave P Q ed (kindOf (typeOf (m .0))) (m .1)
+  unfolding Valid
+  of-message ed s b m n e = by-kind ed (kindOf (typeOf (m .0))) (m .1) (read-exactly (message ed) s m n b e .1 .1)
 
   of-table : (t : List ℕ) → IsBytes t → isGood t ≡ true → NamesHave Q (records t)
   of-table t b e = names (records t) (good-table t b e .valid)
@@ -59,7 +65,7 @@ name-utf8 : (l : List ℕ) → Valid name l → IsUtf8 l
 unfolding Valid
 name-utf8 l v = text-is-utf8 l (v .0 .0 .1)
 
-pub read-strings : (s : List ℕ) → IsBytes s → (m : MessageValue) (n : ℕ) → read message s ≡ taken m n → StringsAreUtf8 (kindOf (typeOf (m .0))) (m .1)
+pub read-strings : (ed : Edition) (s : List ℕ) → IsBytes s → (m : MessageValue ed) (n : ℕ) → read (message ed) s ≡ taken m n → StringsAreUtf8 ed (kindOf (typeOf (m .0))) (m .1)
 read-strings = of-message IsUtf8 IsUtf8 text-utf8 name-utf8
 
 pub good-names : (t : List ℕ) → IsBytes t → isGood t ≡ true → NamesAreUtf8 (records t)
@@ -70,7 +76,7 @@ name-leads-down : (l : List ℕ) → Valid name l → LeadsDown l
 unfolding Valid
 name-leads-down l v = record { faultless = path-faultless l (v .1) .1; stays-below = path-stays-below l (v .1) }
 
-pub read-names-lead-down : (s : List ℕ) → IsBytes s → (m : MessageValue) (n : ℕ) → read message s ≡ taken m n → NamesLeadDown (kindOf (typeOf (m .0))) (m .1)
+pub read-names-lead-down : (ed : Edition) (s : List ℕ) → IsBytes s → (m : MessageValue ed) (n : ℕ) → read (message ed) s ≡ taken m n → NamesLeadDown ed (kindOf (typeOf (m .0))) (m .1)
 read-names-lead-down = of-message (λ l. Unit {0}) LeadsDown (λ limit l v. tt) name-leads-down
 
 pub good-names-lead-down : (t : List ℕ) → IsBytes t → isGood t ≡ true → NamesHave LeadsDown (records t)

@@ -9,6 +9,7 @@ use Rattle.xdr.specs.Format.{read}
 use Rattle.record.specs.File.{File}
 use Rattle.message.specs.Header.{typeOf}
 use Rattle.message.specs.Message.{kindOf, MessageValue, message}
+use Rattle.message.specs.declared.edition.Edition.the-variants as E
 use Rattle.table.specs.Table.{isGood, records}
 use Rattle.accept.specs.Accepting.{indexWith, indexBody}
 
@@ -23,9 +24,9 @@ Belongs update sent old f = List·Memᴰ f sent ⊎ ((update ≡ true) × List·
 -- a message was accepted over an old table for a Repository, and filled in a table
 pub record Accepted (old bytes repository table : List ℕ) : Type 0 where
   -- the bytes were read as an Index or an IndexUpdate that sends files for the Repository
-  pub value : MessageValue
+  pub value : MessageValue E.New
   pub end : ℕ
-  pub reads : read message bytes ≡ taken value end
+  pub reads : read (message E.New) bytes ≡ taken value end
   pub update : Bool
   pub sent : List File
   pub sends : indexBody (kindOf (typeOf (value .0))) (value .1) ≡ indexWith update (repository, sent)

@@ -6,14 +6,15 @@ use Rattle.record.specs.File.{files}
 use Rattle.record.specs.KeyValue.{options}
 use Rattle.message.specs.Limits.{filesLimit, optionsLimit}
 use Rattle.message.specs.Message.{Kind, isIndex, isRequest, isResponse, isPing, isPong, isIndexUpdate, isOptions, Body}
+use Rattle.message.specs.declared.edition.Edition.{Edition}
 use Rattle.message_write.specs.Writing.{indexBytes, requestBytes, responseBytes}
 
 -- files and options are given as encoded arrays
-abbrev pub bodyBytes : (k : Kind) → Body k → List ℕ
-bodyBytes isIndex b = indexBytes (b .0) (encode (files filesLimit) (b .1))
-bodyBytes isRequest b = requestBytes (b .repository) (b .name) (b .offset) (b .size) (b .hash)
-bodyBytes isResponse b = responseBytes b
-bodyBytes isPing b = []
-bodyBytes isPong b = []
-bodyBytes isIndexUpdate b = indexBytes (b .0) (encode (files filesLimit) (b .1))
-bodyBytes isOptions b = encode (options optionsLimit) b
+abbrev pub bodyBytes : (ed : Edition) (k : Kind) → Body ed k → List ℕ
+bodyBytes ed isIndex b = indexBytes ed (b .0) (encode (files filesLimit) (b .1))
+bodyBytes ed isRequest b = requestBytes ed (b .repository) (b .name) (b .offset) (b .size) (b .hash)
+bodyBytes ed isResponse b = responseBytes b
+bodyBytes ed isPing b = []
+bodyBytes ed isPong b = []
+bodyBytes ed isIndexUpdate b = indexBytes ed (b .0) (encode (files filesLimit) (b .1))
+bodyBytes ed isOptions b = encode (options optionsLimit) b

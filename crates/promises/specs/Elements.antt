@@ -20,6 +20,7 @@ use Rattle.message.specs.declared.answer.IndexSpan.{IndexSpan}
 use Rattle.message.specs.declared.answer.OptionsSpan.{OptionsSpan}
 use Rattle.message.specs.declared.answer.Message.{Message}
 use Rattle.message.specs.declared.answer.Message.the-variants as M
+use Rattle.message.specs.declared.edition.Edition.{Edition}
 
 -- blocks by their numbers, from i on: Length and hash
 abbrev pub BlocksFrom : (s : List ℕ) → (first i : ℕ) → List Block → Type 0
@@ -51,11 +52,11 @@ OptionsFrom s at [] = (at ≡ length s) × (optionOf s at ≡ P.Short)
 OptionsFrom s at (o ∷ os) = (g : OptionFields) × (optionOf s at ≡ P.Whole g) × ShowsOption s g o × OptionsFrom s (g .past) os
 
 -- walking the array of a message gives what was read; its first element is at 4, behind the count; the other kinds have no array
-abbrev pub Walked : (s : List ℕ) → (k : Kind) → Body k → Message → Type 0
-Walked s isIndex b a = (id : ℕ) × (x : IndexSpan) × (a ≡ M.Index id x) × FilesFrom (spanBytes s (x .files)) 4 (b .1)
-Walked s isRequest b a = Unit {0}
-Walked s isResponse b a = Unit {0}
-Walked s isPing b a = Unit {0}
-Walked s isPong b a = Unit {0}
-Walked s isIndexUpdate b a = (id : ℕ) × (x : IndexSpan) × (a ≡ M.IndexUpdate id x) × FilesFrom (spanBytes s (x .files)) 4 (b .1)
-Walked s isOptions b a = (id : ℕ) × (x : OptionsSpan) × (a ≡ M.Options id x) × OptionsFrom (spanBytes s (x .options)) 4 b
+abbrev pub Walked : (ed : Edition) (s : List ℕ) (k : Kind) → Body ed k → Message → Type 0
+Walked ed s isIndex b a = (id : ℕ) × (x : IndexSpan) × (a ≡ M.Index id x) × FilesFrom (spanBytes s (x .files)) 4 (b .1)
+Walked ed s isRequest b a = Unit {0}
+Walked ed s isResponse b a = Unit {0}
+Walked ed s isPing b a = Unit {0}
+Walked ed s isPong b a = Unit {0}
+Walked ed s isIndexUpdate b a = (id : ℕ) × (x : IndexSpan) × (a ≡ M.IndexUpdate id x) × FilesFrom (spanBytes s (x .files)) 4 (b .1)
+Walked ed s isOptions b a = (id : ℕ) × (x : OptionsSpan) × (a ≡ M.Options id x) × OptionsFrom (spanBytes s (x .options)) 4 b

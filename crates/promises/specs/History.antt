@@ -7,6 +7,7 @@ use lib.ListN.{length}
 use Rattle.xdr.specs.Filling.{inRoom}
 use Rattle.message.specs.Answers.{messageIn}
 use Rattle.message.specs.Kinds.{responseIn}
+use Rattle.message.specs.declared.edition.Edition.the-variants as E
 use Rattle.message_write.specs.Writing.{requestBytes}
 use Rattle.link.specs.Requests.{total}
 use Rattle.link.specs.OneLink.{outstanding, issuedLink}
@@ -30,14 +31,14 @@ isAccepted (Ruled.Refused r) = false
 
 -- the queue that a call hands back
 abbrev pub queueAfter : RequestQueue → Call → RequestQueue
-queueAfter q (issue r n o size h room) = record { link = issuedLink (q .link) size (inRoom room (issueOutcome q (requestBytes r n o size h) size)) }
-queueAfter q (answer s) = answerOf q (messageIn s) .queue
+queueAfter q (issue r n o size h room) = record { link = issuedLink (q .link) size (inRoom room (issueOutcome q (requestBytes E.New r n o size h) size)) }
+queueAfter q (answer s) = answerOf q (messageIn E.New s) .queue
 queueAfter q drop = dropOf q .queue
 
 -- the event of a call; an issue's ID is the one that it hands back (`Issues.id`, link's OneLink)
 abbrev pub queueEvent : RequestQueue → Call → Event
-queueEvent q (issue r n o size h room) = issueWas (q .link .next) size (inRoom room (issueOutcome q (requestBytes r n o size h) size))
-queueEvent q (answer s) = answerWas (responseIn (messageIn s)) (answerOf q (messageIn s) .release)
+queueEvent q (issue r n o size h room) = issueWas (q .link .next) size (inRoom room (issueOutcome q (requestBytes E.New r n o size h) size))
+queueEvent q (answer s) = answerWas (responseIn (messageIn E.New s)) (answerOf q (messageIn E.New s) .release)
 queueEvent q drop = dropWas (isAccepted (dropOf q .verdict))
 
 -- the queue after some calls

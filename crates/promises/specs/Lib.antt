@@ -10,6 +10,7 @@ pub mod Following
 pub mod Walking
 pub mod Accepting
 pub mod RoundTrips
+pub mod Turning
 pub mod Elements
 pub mod Arrived
 pub mod Strings

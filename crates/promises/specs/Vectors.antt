@@ -6,6 +6,7 @@ use Rattle.record.specs.File.{File}
 use Rattle.message.specs.Answers.{span, refusal, messageIn}
 use Rattle.message.specs.declared.answer.Message.{Message}
 use Rattle.message.specs.declared.answer.Message.the-variants as M
+use Rattle.message.specs.declared.edition.Edition.the-variants as E
 use Rattle.table.specs.Newest.{compareFiles}
 use Rattle.order.specs.declared.compare.Order.the-variants.{Greater}
 
@@ -16,7 +17,7 @@ pub data Vector : Type 0 where
 
 -- what a case says
 abbrev pub Holds : Vector → Type 0
-Holds (answers bytes m) = messageIn bytes ≡ m
+Holds (answers bytes m) = messageIn E.New bytes ≡ m
 Holds (newer modified other) = (f g : File) → f .modified ≡ modified → g .modified ≡ other → compareFiles f g ≡ Greater
 
 -- K1 to K10

@@ -14,6 +14,7 @@ use crate::outcome::Verdict;
 use link::Link;
 use link::Release;
 use link::Tally;
+use message::Edition;
 use xdr::Refusal;
 
 // The outstanding requests, which are those of one link.
@@ -103,7 +104,7 @@ impl RequestQueue {
         out: &mut [u8],
     ) -> Issued
         ensures { λ r. ⌜ Issues (issueOutcome self
-            (requestBytes (now (repository .entry)) (now (name .entry)) offset size (now (hash .entry))) size)
+            (requestBytes Edition.New (now (repository .entry)) (now (name .entry)) offset size (now (hash .entry))) size)
             (self .link) size (now (out .entry)) (linkIssued r) (now (out .exit)) ⌝ }
     {
         let Tally::Bytes(held) = self.sound_bytes() else {
@@ -134,7 +135,7 @@ impl RequestQueue {
 
     // Releases the oldest request by the Response to it.
     pub fn answer(self, message: &[u8]) -> Answered
-        ensures { λ r. ⌜ r ≡ answerOf self (messageIn (now (message .entry))) ⌝ }
+        ensures { λ r. ⌜ r ≡ answerOf self (messageIn Edition.New (now (message .entry))) ⌝ }
     {
         if !self.is_sound() {
             return Answered {

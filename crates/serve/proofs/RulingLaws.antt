@@ -37,6 +37,7 @@ use Rattle.serve.specs.Ruling.{isOurs, Ruling, serves, fills, rulingOn, 
 use Rattle.message.specs.Kinds.{requestIn}
 use Rattle.message.specs.declared.kind.RequestIn.{RequestIn}
 use Rattle.message.specs.declared.kind.RequestIn.the-variants as Q
+use Rattle.message.specs.declared.edition.Edition.the-variants as E
 use Rattle.serve.specs.declared.ruling.Serving.{Serving}
 use Rattle.serve.specs.declared.ruling.Serving.the-variants as S
 
@@ -135,7 +136,7 @@ module _ (t repository m out : List ℕ) where
   unfolding rulingOf
   table-bad e = rw e refl
 
-  pub table-good : {a : Message} {b c : RequestIn} → isGood t ≡ true → a ≡ messageIn m → b ≡ requestIn a → b ≡ c → rulingOf t repository m ≡ rulingOn t repository m c
+  pub table-good : {a : Message} {b c : RequestIn} → isGood t ≡ true → a ≡ messageIn E.New m → b ≡ requestIn a → b ≡ c → rulingOf t repository m ≡ rulingOn t repository m c
   unfolding rulingOf
   table-good e f g h = rw e (ap (rulingOn t repository m) (ap requestIn (sym f) ∙ sym g ∙ h))
 
@@ -143,5 +144,5 @@ module _ (t repository m out : List ℕ) where
     pub ours-served : r ≡ true → rulingOn t repository m (Q.Taken id x) ≡ serves (x .name) (x .offset) (x .size)
     ours-served f = rw (sym e ∙ f) refl
 
-    pub ours-not : r ≡ false → rulingOn t repository m (Q.Taken id x) ≡ fills (writing message id 3 (responseBytes []))
+    pub ours-not : r ≡ false → rulingOn t repository m (Q.Taken id x) ≡ fills (writing (message E.New) id 3 (responseBytes []))
     ours-not f = rw (sym e ∙ f) refl

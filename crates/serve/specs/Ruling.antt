@@ -13,6 +13,7 @@ use Rattle.message.specs.declared.kind.RequestIn.the-variants as Q
 use Rattle.message.specs.Message.{message}
 use Rattle.message.specs.declared.answer.Span.{Span}
 use Rattle.message.specs.declared.answer.RequestSpan.{RequestSpan}
+use Rattle.message.specs.declared.edition.Edition.the-variants as E
 use Rattle.message_write.specs.Writing.{writing, responseBytes}
 use Rattle.order.specs.Order.{isEqual, compareLists}
 use Rattle.table.specs.Table.{isGood, records}
@@ -33,12 +34,12 @@ pub data Ruling : Type 0 where
 
 -- by what was read: a Request, or a refusal (18 for another type)
 abbrev pub rulingOn : (t repository m : List ℕ) → RequestIn → Ruling
-rulingOn t repository m (Q.Taken id x) = cond (isOurs t repository m x) (serves (x .name) (x .offset) (x .size)) (fills (writing message id 3 (responseBytes [])))
+rulingOn t repository m (Q.Taken id x) = cond (isOurs t repository m x) (serves (x .name) (x .offset) (x .size)) (fills (writing (message E.New) id 3 (responseBytes [])))
 rulingOn t repository m (Q.Refused r) = fills (refuses (r .number) (r .place))
 
 -- the table is good (15) first
 unfoldable pub rulingOf : (t repository m : List ℕ) → Ruling
-rulingOf t repository m = cond (isGood t) (rulingOn t repository m (requestIn (messageIn m))) (fills (refuses 15 0))
+rulingOf t repository m = cond (isGood t) (rulingOn t repository m (requestIn (messageIn E.New m))) (fills (refuses 15 0))
 
 -- what is answered, with a buffer of so many bytes
 abbrev pub servingAnswer : Ruling → (room : ℕ) → Serving

@@ -5,6 +5,7 @@ ghost use Rattle.table.specs.Table.{isGood, records};
 ghost use Rattle.message.specs.Answers.{spanBytes};
 ghost use Rattle.want.specs.Listing.{listsThere, blockWith};
 ghost use Rattle.serve.specs.Ruling.{isOurs as isOursOf, rulingOf, Rules};
+use message::Edition;
 use message::RequestIn;
 use message::RequestSpan;
 use message::Span;
@@ -79,7 +80,7 @@ pub fn serve(table: &[u8], repository: &[u8], message: &[u8], out: &mut [u8]) ->
     if !table::is_good(table) {
         return Serving::Unserved(xdr::refused(15));
     }
-    match message::request_in(message::read(message)) {
+    match message::request_in(message::read(Edition::New, message)) {
         RequestIn::Refused(r) => Serving::Unserved(Filling::Refused(r)),
         RequestIn::Taken { id, request: x } => {
             if is_ours(table, repository, message, x) {

@@ -34,6 +34,75 @@ static const uint8_t options[20] = {
     0, 0, 0, 1, 0, 0, 0, 1, 'k', 0, 0, 0, 0, 0, 0, 2, 'v', 'w', 0, 0
 };
 
+/* The old edition, and turning its messages up and new ones down. */
+static int editions(void)
+{
+    const uint8_t repository[2] = {'r', 0xFF};
+    const uint8_t above[4] = {'.', '.', '/', 'a'};
+    const uint8_t hash[33] = {9};
+    uint8_t old[100];
+    uint8_t new[100];
+    uint8_t back[100];
+    uint64_t length[1];
+    uint64_t answer[BEP_READ_WORDS];
+
+    CHECK(bep_write_old_index(old, 75, 7, files, 72, length) == BEP_REFUSED_NO_ROOM);
+    CHECK(length[BEP_PLACE] == 0);
+    CHECK(bep_write_old_index(old, 76, 7, files, 71, length) == BEP_REFUSED_INCOMPLETE);
+    CHECK(length[BEP_PLACE] == 4 + 36);
+    CHECK(bep_write_old_index(old, 76, 7, files, 72, length) == 0 && length[BEP_WRITTEN] == 76);
+    CHECK(memcmp(old, "\0\7\1\0", 4) == 0 && memcmp(old + 4, files, 72) == 0);
+    CHECK(bep_read_old(old, 76, answer) == 0);
+    CHECK(answer[BEP_READ_USED] == 76);
+    CHECK(answer[BEP_READ_TYPE] == BEP_INDEX && answer[BEP_READ_ID] == 7);
+    CHECK(answer[BEP_INDEX_REPOSITORY_AT] == 4 && answer[BEP_INDEX_REPOSITORY_LENGTH] == 0);
+    CHECK(answer[BEP_INDEX_FILES_AT] == 4 && answer[BEP_INDEX_FILES_LENGTH] == 72);
+    CHECK(answer[BEP_INDEX_FILES_COUNT] == 1);
+    CHECK(answer[8] == 0 && answer[9] == 0 && answer[10] == 0);
+
+    CHECK(bep_upgrade(new, 83, old, 76, repository, 1, length) == BEP_REFUSED_NO_ROOM);
+    CHECK(length[BEP_PLACE] == 0);
+    CHECK(bep_upgrade(new, 84, old, 75, repository, 2, length) == BEP_REFUSED_INCOMPLETE);
+    CHECK(length[BEP_PLACE] == 4 + 36);
+    CHECK(bep_upgrade(new, 84, old, 76, repository, 2, length) == BEP_REFUSED_TEXT);
+    CHECK(length[BEP_PLACE] == 9);
+    CHECK(bep_upgrade(new, 84, old, 76, repository, 1, length) == 0);
+    CHECK(length[BEP_WRITTEN] == 84);
+    CHECK(memcmp(new, "\0\7\1\0\0\0\0\1r\0\0\0", 12) == 0);
+    CHECK(memcmp(new + 12, files, 72) == 0);
+    CHECK(bep_downgrade(back, 75, new, 84, length) == BEP_REFUSED_NO_ROOM);
+    CHECK(length[BEP_PLACE] == 0);
+    CHECK(bep_downgrade(back, 76, new, 84, length) == 0 && length[BEP_WRITTEN] == 76);
+    CHECK(memcmp(back, old, 76) == 0);
+
+    CHECK(bep_write_old_index_update(old, 100, 4095, files, 72, length) == 0);
+    CHECK(length[BEP_WRITTEN] == 76 && old[2] == BEP_INDEX_UPDATE);
+    CHECK(bep_write_old_index_update(old, 100, 4096, files, 72, length)
+          == BEP_REFUSED_ABOVE_LIMIT);
+
+    CHECK(bep_write_old_request(old, 100, 5, above, 4, 1ULL << 33, 77, hash, 33, length)
+          == BEP_REFUSED_UNSAFE_NAME);
+    CHECK(length[BEP_PLACE] == 4);
+    CHECK(bep_write_old_request(old, 100, 5, above + 3, 1, 1ULL << 33, 77, hash, 33, length)
+          == BEP_REFUSED_HASH_LENGTH);
+    CHECK(length[BEP_PLACE] == 24);
+    CHECK(bep_write_old_request(old, 100, 5, above + 3, 1, 1ULL << 33, 77, hash, 32, length) == 0);
+    CHECK(length[BEP_WRITTEN] == 60);
+    CHECK(bep_read_old(old, 60, answer) == 0);
+    CHECK(answer[BEP_READ_TYPE] == BEP_REQUEST && answer[BEP_READ_ID] == 5);
+    CHECK(answer[BEP_REQUEST_REPOSITORY_AT] == 4 && answer[BEP_REQUEST_REPOSITORY_LENGTH] == 0);
+    CHECK(answer[BEP_REQUEST_NAME_AT] == 8 && answer[BEP_REQUEST_NAME_LENGTH] == 1);
+    CHECK(answer[BEP_REQUEST_OFFSET] == 1ULL << 33 && answer[BEP_REQUEST_LENGTH] == 77);
+    CHECK(answer[BEP_REQUEST_HASH_AT] == 28);
+    CHECK(answer[BEP_REQUEST_HASH_LENGTH] == BEP_HASH_BYTES);
+
+    CHECK(bep_write_options(new, 100, 5, options, 20, length) == 0);
+    CHECK(bep_read_old(new, 24, answer) == BEP_REFUSED_TYPE && answer[BEP_PLACE] == 0);
+    CHECK(bep_downgrade(back, 0, new, 24, length) == BEP_REFUSED_OTHER_TYPE);
+    CHECK(length[BEP_PLACE] == 0);
+    return 0;
+}
+
 /* The empty table, and tables from messages. */
 static int tables(void)
 {
@@ -227,6 +296,9 @@ static int words(void)
 
     CHECK(bep_read(NULL, 0, untouched(answer)) != 0 && filled(answer, BEP_READ_WORDS));
     CHECK(bep_write_ping(NULL, 0, 0, untouched(answer)) != 0 && filled(answer, 1));
+    CHECK(bep_read_old(NULL, 0, untouched(answer)) != 0 && filled(answer, BEP_READ_WORDS));
+    CHECK(bep_upgrade(out, 1, NULL, 0, NULL, 0, untouched(answer)) != 0 && filled(answer, 1));
+    CHECK(bep_downgrade(out, 1, NULL, 0, untouched(answer)) != 0 && filled(answer, 1));
     CHECK(bep_file(NULL, 0, 0, untouched(answer)) != 0 && filled(answer, BEP_FILE_WORDS));
     CHECK(bep_step(NULL, 0, 0, untouched(answer)) != 0 && filled(answer, BEP_FILE_WORDS));
     CHECK(bep_option(NULL, 0, 0, untouched(answer)) != 0 && filled(answer, BEP_OPTION_WORDS));
@@ -339,5 +411,5 @@ int main(void)
     CHECK(option[BEP_PLACE] == 20);
     CHECK(bep_option(options, 19, 4, option) == BEP_REFUSED_INCOMPLETE);
     CHECK(option[BEP_PLACE] == 12);
-    return tables() || queues() || requests() || words();
+    return editions() || tables() || queues() || requests() || words();
 }

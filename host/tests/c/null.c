@@ -58,6 +58,11 @@ static uint32_t read(const struct slice *s, struct result *r)
     return bep_read(IN(0), r->answer);
 }
 
+static uint32_t read_old(const struct slice *s, struct result *r)
+{
+    return bep_read_old(IN(0), r->answer);
+}
+
 static uint32_t file(const struct slice *s, struct result *r)
 {
     return bep_file(IN(0), place, r->answer);
@@ -127,6 +132,31 @@ static uint32_t write_pong(const struct slice *s, struct result *r)
 static uint32_t write_options(const struct slice *s, struct result *r)
 {
     return bep_write_options(OUT, id, IN(1), r->answer);
+}
+
+static uint32_t write_old_index(const struct slice *s, struct result *r)
+{
+    return bep_write_old_index(OUT, id, IN(1), r->answer);
+}
+
+static uint32_t write_old_index_update(const struct slice *s, struct result *r)
+{
+    return bep_write_old_index_update(OUT, id, IN(1), r->answer);
+}
+
+static uint32_t write_old_request(const struct slice *s, struct result *r)
+{
+    return bep_write_old_request(OUT, id, IN(1), 0, 5, IN(2), r->answer);
+}
+
+static uint32_t upgrade(const struct slice *s, struct result *r)
+{
+    return bep_upgrade(OUT, IN(1), IN(2), r->answer);
+}
+
+static uint32_t downgrade(const struct slice *s, struct result *r)
+{
+    return bep_downgrade(OUT, IN(1), r->answer);
 }
 
 static uint32_t merge(const struct slice *s, struct result *r)
@@ -203,11 +233,14 @@ static void try(const char *name, call *f, int count, const struct slice *whole)
 static void try_all(void)
 {
     static const size_t places[] = {0, 4, 72, SIZE_MAX - 3, SIZE_MAX};
-    static uint8_t messages[6][ROOM];
-    uint64_t lengths[6][1];
+    static uint8_t messages[8][ROOM];
+    uint64_t lengths[8][1];
     uint32_t refused = 0;
 
-    /* Of no Repository, so that an empty one is the right one; the last two of another. */
+    /*
+     * Of no Repository, so that an empty one is the right one; two of another; and two of the old
+     * edition.
+     */
     refused |= bep_write_index(messages[0], ROOM, 1, &nowhere, 0, files, 72, lengths[0]);
     refused |= bep_write_index_update(messages[1], ROOM, 1, &nowhere, 0, files, 72, lengths[1]);
     refused |= bep_write_request(messages[2], ROOM, 1, &nowhere, 0, files + 8, 1, 0, 5, hash, 32,
@@ -216,6 +249,9 @@ static void try_all(void)
     refused |= bep_write_index(messages[4], ROOM, 1, repository, 2, files, 72, lengths[4]);
     refused |= bep_write_request(messages[5], ROOM, 1, repository, 2, files + 8, 1, 0, 5, hash, 32,
                                  lengths[5]);
+    refused |= bep_write_old_index(messages[6], ROOM, 1, files, 72, lengths[6]);
+    refused |= bep_write_old_request(messages[7], ROOM, 1, files + 8, 1, 0, 5, hash, 32,
+                                     lengths[7]);
     if (refused != BEP_ACCEPTED) {
         printf("the messages are refused\n");
         different = 1;
@@ -237,10 +273,13 @@ static void try_all(void)
     TRY(request_list, LENT, EMPTY, FILES, EMPTY, FILES, EMPTY);
     TRY(request_list, LENT, FILES, FILES, EMPTY, EMPTY, EMPTY);
     TRY(request_list, LENT, EMPTY, EMPTY, EMPTY, EMPTY, EMPTY);
-    for (size_t i = 0; i < 6; i++) {
+    for (size_t i = 0; i < 8; i++) {
         const struct slice message = {messages[i], (size_t)lengths[i][BEP_WRITTEN]};
 
         TRY(read, message);
+        TRY(read_old, message);
+        TRY(upgrade, LENT, message, REPOSITORY);
+        TRY(downgrade, LENT, message);
         TRY(accept, LENT, FILES, message, REPOSITORY);
         TRY(accept, LENT, EMPTY, message, REPOSITORY);
         TRY(serve, LENT, FILES, REPOSITORY, message);
@@ -258,6 +297,9 @@ static void try_all(void)
         TRY(write_pong, LENT);
         TRY(write_options, LENT, {options, sizeof options});
         TRY(write_options, LENT, EMPTY);
+        TRY(write_old_index, LENT, FILES);
+        TRY(write_old_index_update, LENT, FILES);
+        TRY(write_old_request, LENT, NAME, HASH);
     }
     TRY(queue_issue, LENT, REPOSITORY, NAME, HASH);
 }

@@ -6,6 +6,8 @@
 // Each test program uses its own part of this module.
 #![allow(dead_code, unused_imports)]
 
+pub mod by_copy;
+mod editions;
 mod fields;
 pub mod hashed;
 mod names;
@@ -17,16 +19,17 @@ mod text;
 mod want;
 mod write;
 
+pub use editions::{downgrade, upgrade, Edition};
 pub use names::is_plain_path;
 pub use queue::{Answered, Outcome, Queue, Request as Outstanding};
-pub use read::{read, Body, Message};
+pub use read::{read, read_as, Body, Message};
 pub use records::{file_at, file_or_missing, option_at, option_or_missing, File, KeyValue};
 pub use table::{accept, compare, is_good, merge, step, MAX_TABLE};
 pub use text::broken_at;
 pub use want::{find_local, request_list, serve, Serving};
 pub use write::{
-    write_index, write_index_update, write_options, write_ping, write_pong, write_request,
-    write_response,
+    write_index, write_index_update, write_old_index, write_old_index_update, write_old_request,
+    write_options, write_ping, write_pong, write_request, write_response,
 };
 
 /// Why an input is refused and where: at the field at fault, or at the byte for 6 and 7.

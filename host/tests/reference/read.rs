@@ -2,8 +2,8 @@
 
 use super::fields::Reader;
 use super::{
-    records, Refusal, Span, INDEX, INDEX_UPDATE, MAX_DATA, MAX_ID, MAX_NAME, MAX_REPOSITORY,
-    OPTIONS, PING, PONG, REQUEST, RESPONSE,
+    records, Edition, Refusal, Span, INDEX, INDEX_UPDATE, MAX_DATA, MAX_ID, MAX_NAME,
+    MAX_REPOSITORY, OPTIONS, PING, PONG, REQUEST, RESPONSE,
 };
 
 /// A message that was read. Its spans lie in the input.
@@ -49,15 +49,26 @@ pub enum Body {
     },
 }
 
-/// Reads the message at the start of `input`.
+/// Reads the message of the new edition at the start of `input`.
 pub fn read(input: &[u8]) -> Result<Message, Refusal> {
+    read_as(Edition::New, input)
+}
+
+/// Reads the message of this edition at the start of `input`. Where the edition is known, its code is made
+/// for that one alone.
+#[inline(always)]
+pub fn read_as(edition: Edition, input: &[u8]) -> Result<Message, Refusal> {
     let mut reader = Reader::new(input, 0);
     let header = reader.word()?;
     if header >> 28 != 0 {
         return Err(Refusal::new(2, 0));
     }
     let kind = header >> 8 & 0xFF;
-    if !(INDEX..=OPTIONS).contains(&kind) {
+    let last = match edition {
+        Edition::Old => INDEX_UPDATE,
+        Edition::New => OPTIONS,
+    };
+    if !(INDEX..=last).contains(&kind) {
         return Err(Refusal::new(3, 0));
     }
     if header & 0xFF != 0 {
@@ -65,7 +76,7 @@ pub fn read(input: &[u8]) -> Result<Message, Refusal> {
     }
     let body = match kind {
         INDEX => {
-            let (repository, files, count) = index(&mut reader)?;
+            let (repository, files, count) = index(edition, &mut reader)?;
             Body::Index {
                 repository,
                 files,
@@ -73,7 +84,7 @@ pub fn read(input: &[u8]) -> Result<Message, Refusal> {
             }
         }
         INDEX_UPDATE => {
-            let (repository, files, count) = index(&mut reader)?;
+            let (repository, files, count) = index(edition, &mut reader)?;
             Body::IndexUpdate {
                 repository,
                 files,
@@ -82,7 +93,7 @@ pub fn read(input: &[u8]) -> Result<Message, Refusal> {
         }
         // The fields of a struct expression are evaluated in the order they are written in.
         REQUEST => Body::Request {
-            repository: reader.string(MAX_REPOSITORY)?,
+            repository: repository(edition, &mut reader)?,
             name: reader.name(MAX_NAME)?,
             offset: reader.hyper()?,
             length: records::block_length(&mut reader)?,
@@ -105,10 +116,23 @@ pub fn read(input: &[u8]) -> Result<Message, Refusal> {
     })
 }
 
-fn index(reader: &mut Reader) -> Result<(Span, Span, u32), Refusal> {
-    let repository = reader.string(MAX_REPOSITORY)?;
+#[inline(always)]
+fn index(edition: Edition, reader: &mut Reader) -> Result<(Span, Span, u32), Refusal> {
+    let repository = repository(edition, reader)?;
     let (files, count) = array(reader, records::files)?;
     Ok((repository, files, count))
+}
+
+/// The Repository. An old message has none, which is an empty span where it would stand.
+#[inline(always)]
+fn repository(edition: Edition, reader: &mut Reader) -> Result<Span, Refusal> {
+    match edition {
+        Edition::Old => Ok(Span {
+            start: reader.place(),
+            len: 0,
+        }),
+        Edition::New => reader.string(MAX_REPOSITORY),
+    }
 }
 
 /// Passes over an array and gives its span and its number of elements.

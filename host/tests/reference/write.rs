@@ -1,7 +1,9 @@
-//! Writing the seven messages into a lent buffer.
+//! Writing the messages of both editions into a lent buffer.
 //!
 //! Each writer checks the ID, then the fields in the order a reader meets them, then the room. Only
-//! after that it writes, so a refusal leaves the buffer as it was.
+//! after that it writes, so a refusal leaves the buffer as it was. Those of an Index, an IndexUpdate and
+//! a Request are given a Repository in the new edition and none in the old; the other messages are the
+//! same in both.
 
 use super::fields::Reader;
 use super::names::is_plain_path;
@@ -20,7 +22,12 @@ pub fn write_index(
     repository: &[u8],
     files: &[u8],
 ) -> Result<usize, Refusal> {
-    index(out, INDEX, id, repository, files)
+    index(out, INDEX, id, Some(repository), files)
+}
+
+/// Writes an Index message of the old edition.
+pub fn write_old_index(out: &mut [u8], id: u32, files: &[u8]) -> Result<usize, Refusal> {
+    index(out, INDEX, id, None, files)
 }
 
 /// Writes an IndexUpdate message, which is built like an Index.
@@ -30,22 +37,27 @@ pub fn write_index_update(
     repository: &[u8],
     files: &[u8],
 ) -> Result<usize, Refusal> {
-    index(out, INDEX_UPDATE, id, repository, files)
+    index(out, INDEX_UPDATE, id, Some(repository), files)
+}
+
+/// Writes an IndexUpdate message of the old edition.
+pub fn write_old_index_update(out: &mut [u8], id: u32, files: &[u8]) -> Result<usize, Refusal> {
+    index(out, INDEX_UPDATE, id, None, files)
 }
 
 fn index(
     out: &mut [u8],
     kind: u32,
     id: u32,
-    repository: &[u8],
+    repository: Option<&[u8]>,
     files: &[u8],
 ) -> Result<usize, Refusal> {
     let header = header(kind, id)?;
-    check_string(repository, MAX_REPOSITORY, HEADER_LEN)?;
-    let files = array(files, HEADER_LEN + opaque_len(repository), records::files)?;
-    let mut out = Output::new(out, HEADER_LEN + opaque_len(repository) + files.len())?;
+    let files_place = after_repository(repository)?;
+    let files = array(files, files_place, records::files)?;
+    let mut out = Output::new(out, files_place + files.len())?;
     out.word(header);
-    out.opaque(repository);
+    out.repository(repository);
     out.bytes(files);
     Ok(out.len)
 }
@@ -60,9 +72,32 @@ pub fn write_request(
     length: u32,
     hash: &[u8],
 ) -> Result<usize, Refusal> {
+    request(out, id, Some(repository), name, offset, length, hash)
+}
+
+/// Writes a Request message of the old edition.
+pub fn write_old_request(
+    out: &mut [u8],
+    id: u32,
+    name: &[u8],
+    offset: u64,
+    length: u32,
+    hash: &[u8],
+) -> Result<usize, Refusal> {
+    request(out, id, None, name, offset, length, hash)
+}
+
+fn request(
+    out: &mut [u8],
+    id: u32,
+    repository: Option<&[u8]>,
+    name: &[u8],
+    offset: u64,
+    length: u32,
+    hash: &[u8],
+) -> Result<usize, Refusal> {
     let header = header(REQUEST, id)?;
-    check_string(repository, MAX_REPOSITORY, HEADER_LEN)?;
-    let name_place = HEADER_LEN + opaque_len(repository);
+    let name_place = after_repository(repository)?;
     check_name(name, name_place)?;
     let length_place = name_place + opaque_len(name) + 8;
     if !records::is_block_length(length) {
@@ -74,7 +109,7 @@ pub fn write_request(
     }
     let mut out = Output::new(out, hash_place + opaque_len(hash))?;
     out.word(header);
-    out.opaque(repository);
+    out.repository(repository);
     out.opaque(name);
     out.bytes(&offset.to_be_bytes());
     out.word(length);
@@ -127,6 +162,15 @@ fn header(kind: u32, id: u32) -> Result<u32, Refusal> {
         return Err(Refusal::new(5, 0));
     }
     Ok(id << 16 | kind << 8)
+}
+
+/// Checks the Repository, where there is one, and gives the place of the next field.
+fn after_repository(repository: Option<&[u8]>) -> Result<usize, Refusal> {
+    let Some(repository) = repository else {
+        return Ok(HEADER_LEN);
+    };
+    check_string(repository, MAX_REPOSITORY, HEADER_LEN)?;
+    Ok(HEADER_LEN + opaque_len(repository))
 }
 
 /// Checks a string whose length word would stand at `place`. The pad is the writer's own, so 6 can't
@@ -193,6 +237,12 @@ impl<'a> Output<'a> {
 
     fn word(&mut self, word: u32) {
         self.bytes(&word.to_be_bytes());
+    }
+
+    fn repository(&mut self, repository: Option<&[u8]>) {
+        if let Some(repository) = repository {
+            self.opaque(repository);
+        }
     }
 
     fn opaque(&mut self, bytes: &[u8]) {

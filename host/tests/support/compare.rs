@@ -3,18 +3,43 @@
 use super::draft::Draft;
 use super::library::{Answer, Library};
 use super::random::Random;
-use crate::reference::{self, Body, Span, BLOCK_LEN};
-use fordtrumpet::{FilesBuilder, Message, OptionsBuilder};
+use crate::reference::{self, Body, Edition, Span, BLOCK_LEN};
+use fordtrumpet::{FilesBuilder, Message, OptionsBuilder, ReadMessage, Refusal};
 use std::collections::BTreeMap;
 use std::fmt::Debug;
+use std::ops::Range;
 use std::str::from_utf8;
 
 /// An error says what differs.
 pub type Compared = Result<(), String>;
 
+const INDEX: [u32; 10] = [1, 5, 6, 7, 8, 9, 10, 11, 12, 24];
+
+/// What reading a message of each type can give, beside what every header can.
+pub const READING: [(u32, &[u32]); 7] = [
+    (1, &INDEX),
+    (2, &[1, 5, 6, 7, 8, 9, 10, 24]),
+    (3, &[1, 5, 6]),
+    (4, &[1]),
+    (5, &[1]),
+    (6, &INDEX),
+    (7, &[1, 5, 6, 7]),
+];
+
+/// What writing a message of each type can give, beside 14.
+pub const WRITING: [(u32, &[u32]); 7] = [
+    (1, &INDEX),
+    (2, &[5, 7, 8, 9, 10, 24]),
+    (3, &[5]),
+    (4, &[5]),
+    (5, &[5]),
+    (6, &INDEX),
+    (7, &[1, 5, 6, 7]),
+];
+
 /// Compares and counts.
 pub struct Comparison {
-    library: Library,
+    pub library: Library,
     /// The number of calls compared.
     pub calls: u64,
     /// How often a call, given a message of a type, answered with a number.
@@ -30,21 +55,48 @@ impl Comparison {
         }
     }
 
-    /// Reads `input`, which was made from a message of type `kind`, with both.
+    /// One call more, which was given a message of type `kind` and answered with `number`.
+    pub fn met(&mut self, call: &'static str, kind: u32, number: u32) {
+        self.calls += 1;
+        *self.seen.entry((call, kind, number)).or_default() += 1;
+    }
+
+    /// That a call, given messages of type `kind`, answered often with each of these numbers. A run that
+    /// meets one too seldom says little about it.
+    #[track_caller]
+    pub fn met_often(&self, call: &'static str, kind: u32, numbers: &[u32]) {
+        for &number in numbers {
+            let times = self.seen.get(&(call, kind, number)).copied();
+            assert!(
+                times >= Some(20),
+                "{call} of type {kind} met {number} {times:?} times"
+            );
+        }
+    }
+
+    /// Reads `input`, which was made from a message of this edition and of type `kind`, with both.
     ///
     /// An accepted message is also gone through record by record, and its array and the message are
     /// made again from what was read.
-    pub fn read(&mut self, kind: u32, input: &[u8]) -> Compared {
-        let message = reference::read(input);
+    pub fn read(&mut self, edition: Edition, kind: u32, input: &[u8]) -> Compared {
+        let message = reference::read_as(edition, input);
         let expected = read_words(&message);
-        self.calls += 2;
-        *self.seen.entry(("read", kind, expected.0)).or_default() += 1;
-        same("bep_read", &(self.library.read)(input), &expected)?;
-        same("read", &(self.library.read_safely)(input), &expected)?;
+        let (call, read, read_safely) = match edition {
+            Edition::New => ("read", self.library.read, self.library.read_safely),
+            Edition::Old => (
+                "read_old",
+                self.library.read_old,
+                self.library.read_old_safely,
+            ),
+        };
+        self.met(call, kind, expected.0);
+        self.calls += 1;
+        same(call, &read(input), &expected)?;
+        same("safe reading", &read_safely(input), &expected)?;
         let Ok(message) = message else { return Ok(()) };
         match message.body {
             Body::Index { files, count, .. } | Body::IndexUpdate { files, count, .. } => {
-                self.files(input, files.of(input), count)?;
+                self.files(edition, input, files.of(input), count)?;
             }
             Body::Options { options, count } => {
                 self.options(input, options.of(input), count)?;
@@ -55,15 +107,15 @@ impl Comparison {
         let mut out = vec![0xC3; message.end];
         same(
             "length written again",
-            &write_again(input, &mut out),
+            &write_again(edition, input, &mut out),
             &Ok(message.end),
         )?;
         same_bytes("what is written again", &out, &input[..message.end])
     }
 
     /// Goes through the records of an accepted array, by places and by the safe iterator.
-    fn files(&mut self, input: &[u8], array: &[u8], count: u32) -> Compared {
-        let read = fordtrumpet::read(input).map_err(|refusal| refusal.to_string())?;
+    fn files(&mut self, edition: Edition, input: &[u8], array: &[u8], count: u32) -> Compared {
+        let read = read_safely(edition, input).map_err(|refusal| refusal.to_string())?;
         let (Message::Index(index) | Message::IndexUpdate(index)) = read.message else {
             return Err("no Index".to_string());
         };
@@ -169,36 +221,70 @@ impl Comparison {
     }
 
     /// Writes the draft with both into a buffer of `room` bytes and compares all of them.
-    ///
-    /// The buffer lies at any place in memory, between bytes that must stay as they are too.
     pub fn write_into(
         &mut self,
         draft: &Draft,
         room: usize,
         random: &mut Random,
     ) -> Result<Answer<1>, String> {
-        let start = random.below(8);
-        let lent = start..start + room;
-        let before = random.bytes(start + room + 8);
-        let mut expected_memory = before.clone();
-        let expected = match draft.write_with_reference(&mut expected_memory[lent.clone()]) {
-            Ok(len) => (0, [len as u64]),
-            Err(refusal) => (refusal.number, [refusal.place as u64]),
+        let write = self.library.write;
+        let expected = fill(
+            room,
+            random,
+            |out| write(draft, out),
+            |out| expected(draft.write_with_reference(out)),
+        )?;
+        let call = match draft.edition {
+            Edition::New => "write",
+            Edition::Old => "write_old",
         };
-        self.calls += 1;
-        let entry = ("write", draft.kind(), expected.0);
-        *self.seen.entry(entry).or_default() += 1;
-        let mut memory = before.clone();
-        let answer = (self.library.write)(draft, &mut memory[lent]);
-        same("answer in writing", &answer, &expected)?;
-        same_bytes("memory", &memory, &expected_memory)?;
-        let end = match expected {
-            (0, [len]) => start + len as usize,
-            _ => start,
-        };
-        same_bytes("memory before", &memory[..start], &before[..start])?;
-        same_bytes("memory after", &memory[end..], &before[end..])?;
+        self.met(call, draft.kind(), expected.0);
         Ok(expected)
+    }
+}
+
+/// Lends both a buffer of `room` bytes and compares answers and bytes.
+///
+/// The buffer lies at any place in memory, between bytes that must stay as they are. So must the buffer
+/// itself after a refusal, and what isn't filled of it otherwise.
+pub fn fill(
+    room: usize,
+    random: &mut Random,
+    library: impl FnOnce(&mut [u8]) -> Answer<1>,
+    reference: impl FnOnce(&mut [u8]) -> Answer<1>,
+) -> Result<Answer<1>, String> {
+    let start = random.below(8);
+    let lent = start..start + room;
+    let before = random.bytes(start + room + 8);
+    let mut expected_memory = before.clone();
+    let expected = reference(&mut expected_memory[lent.clone()]);
+    let mut memory = before.clone();
+    let answer = library(&mut memory[lent]);
+    same("answer", &answer, &expected)?;
+    same_bytes("memory", &memory, &expected_memory)?;
+    let end = match expected {
+        (0, [len]) => start + len as usize,
+        _ => start,
+    };
+    same_bytes("memory before", &memory[..start], &before[..start])?;
+    same_bytes("memory after", &memory[end..], &before[end..])?;
+    Ok(expected)
+}
+
+/// Bytes laid out somewhere in memory, and where. Zeros after their end could pass for a pad.
+pub fn laid_out(bytes: &[u8], random: &mut Random) -> (Vec<u8>, Range<usize>) {
+    let start = random.below(8);
+    let mut memory = vec![0xFF; start];
+    memory.extend_from_slice(bytes);
+    memory.extend_from_slice(&[0; 40]);
+    (memory, start..start + bytes.len())
+}
+
+/// What the reference answered, in the words of the library.
+pub fn expected(answer: Result<usize, reference::Refusal>) -> Answer<1> {
+    match answer {
+        Ok(len) => (0, [len as u64]),
+        Err(refusal) => (refusal.number, [refusal.place as u64]),
     }
 }
 
@@ -230,30 +316,50 @@ pub fn short(text: &str) -> String {
     text.chars().take(4000).collect()
 }
 
+/// Reads by the safe call of this edition.
+fn read_safely(edition: Edition, input: &[u8]) -> Result<ReadMessage<'_>, Refusal> {
+    match edition {
+        Edition::New => fordtrumpet::read(input),
+        Edition::Old => fordtrumpet::read_old(input),
+    }
+}
+
 /// Writes the message that `input` holds with the library, from the fields the library read.
-fn write_again(input: &[u8], out: &mut [u8]) -> Result<usize, fordtrumpet::Refusal> {
-    match fordtrumpet::read(input)?.message {
-        Message::Index(index) => {
-            fordtrumpet::write_index(index.id, index.repository, index.files.as_bytes(), out)
-        }
-        Message::IndexUpdate(index) => {
-            fordtrumpet::write_index_update(index.id, index.repository, index.files.as_bytes(), out)
-        }
-        Message::Request(request) => fordtrumpet::write_request(
-            request.id,
-            request.repository,
-            request.name,
-            request.offset,
-            request.length,
-            request.hash,
-            out,
-        ),
-        Message::Response(response) => fordtrumpet::write_response(response.id, response.data, out),
-        Message::Ping(ping) => fordtrumpet::write_ping(ping.id, out),
-        Message::Pong(pong) => fordtrumpet::write_pong(pong.id, out),
-        Message::Options(message) => {
-            fordtrumpet::write_options(message.id, message.options.as_bytes(), out)
-        }
+fn write_again(edition: Edition, input: &[u8], out: &mut [u8]) -> Result<usize, Refusal> {
+    use fordtrumpet::*;
+    let is_new = edition == Edition::New;
+    match read_safely(edition, input)?.message {
+        Message::Index(Index {
+            id,
+            repository,
+            files,
+        }) => match is_new {
+            true => write_index(id, repository, files.as_bytes(), out),
+            false => write_old_index(id, files.as_bytes(), out),
+        },
+        Message::IndexUpdate(Index {
+            id,
+            repository,
+            files,
+        }) => match is_new {
+            true => write_index_update(id, repository, files.as_bytes(), out),
+            false => write_old_index_update(id, files.as_bytes(), out),
+        },
+        Message::Request(Request {
+            id,
+            repository,
+            name,
+            offset,
+            length,
+            hash,
+        }) => match is_new {
+            true => write_request(id, repository, name, offset, length, hash, out),
+            false => write_old_request(id, name, offset, length, hash, out),
+        },
+        Message::Response(response) => write_response(response.id, response.data, out),
+        Message::Ping(ping) => write_ping(ping.id, out),
+        Message::Pong(pong) => write_pong(pong.id, out),
+        Message::Options(message) => write_options(message.id, message.options.as_bytes(), out),
     }
 }
 

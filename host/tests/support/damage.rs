@@ -124,6 +124,34 @@ fn name(bytes: &mut [u8], random: &mut Random) {
     }
 }
 
+/// Every cut of some bytes, every value of each of them, and some values of each word.
+pub fn everywhere(whole: &[u8], mut take: impl FnMut(&[u8])) {
+    for len in 0..=whole.len() {
+        take(&whole[..len]);
+    }
+    let mut bytes = whole.to_vec();
+    for at in 0..whole.len() {
+        for value in 0..=255 {
+            bytes[at] = value;
+            take(&bytes);
+        }
+        bytes[at] = whole[at];
+    }
+    for at in (0..whole.len()).step_by(4) {
+        let word = u32::from_be_bytes(whole[at..at + 4].try_into().unwrap());
+        for other in [
+            word.wrapping_add(1),
+            word.wrapping_sub(1),
+            1 << 31,
+            u32::MAX,
+        ] {
+            bytes[at..at + 4].copy_from_slice(&other.to_be_bytes());
+            take(&bytes);
+        }
+        bytes[at..at + 4].copy_from_slice(&whole[at..at + 4]);
+    }
+}
+
 /// Damages what a writer is given: one or two fields.
 pub fn draft(draft: &mut Draft, random: &mut Random) {
     for _ in 0..random.pick(&[1, 1, 2]) {

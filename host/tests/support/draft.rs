@@ -2,12 +2,15 @@
 
 use super::encode::Encoding;
 use super::library::ffi;
-use crate::reference;
+use crate::reference::{self, Edition};
 
 /// The fields of a message, with its arrays encoded.
+///
+/// In the old edition the Repository doesn't count, and there is no writer for Options.
 #[derive(Clone, Debug)]
 pub struct Draft {
     pub id: u32,
+    pub edition: Edition,
     pub body: Body,
 }
 
@@ -36,6 +39,12 @@ pub enum Body {
 }
 
 impl Draft {
+    /// A message of the new edition.
+    pub fn new(id: u32, body: Body) -> Self {
+        let edition = Edition::New;
+        Draft { id, edition, body }
+    }
+
     /// The type of the message.
     pub fn kind(&self) -> u32 {
         match self.body {
@@ -49,25 +58,33 @@ impl Draft {
         }
     }
 
+    /// The Repository, which such a message has in the new edition.
+    pub fn repository(&self) -> Option<&[u8]> {
+        match &self.body {
+            Body::Index { repository, .. } | Body::Request { repository, .. } => Some(repository),
+            _ => None,
+        }
+    }
+
     /// The message that the fields make, put together without any check.
     pub fn encode(&self) -> Encoding {
         let mut encoding = Encoding::new();
         encoding.header(self.kind(), self.id);
+        if let (Edition::New, Some(repository)) = (self.edition, self.repository()) {
+            encoding.string(repository, 64);
+        }
         match &self.body {
-            Body::Index {
-                repository, files, ..
-            } => {
-                encoding.string(repository, 64).append(files);
+            Body::Index { files, .. } => {
+                encoding.append(files);
             }
             Body::Request {
-                repository,
                 name,
                 offset,
                 length,
                 hash,
+                ..
             } => {
                 encoding
-                    .string(repository, 64)
                     .name(name)
                     .offset(*offset)
                     .block_length(*length)
@@ -86,29 +103,37 @@ impl Draft {
 
     /// Writes it with the reference.
     pub fn write_with_reference(&self, out: &mut [u8]) -> Result<usize, reference::Refusal> {
+        use reference::{
+            write_index, write_index_update, write_old_index, write_old_index_update,
+            write_old_request, write_options, write_ping, write_pong, write_request,
+            write_response,
+        };
+        let (id, edition) = (self.id, self.edition);
         match &self.body {
             Body::Index {
                 update,
                 repository,
                 files,
-            } => {
-                let write = match update {
-                    false => reference::write_index,
-                    true => reference::write_index_update,
-                };
-                write(out, self.id, repository, &files.bytes)
-            }
+            } => match (edition, update) {
+                (Edition::New, false) => write_index(out, id, repository, &files.bytes),
+                (Edition::New, true) => write_index_update(out, id, repository, &files.bytes),
+                (Edition::Old, false) => write_old_index(out, id, &files.bytes),
+                (Edition::Old, true) => write_old_index_update(out, id, &files.bytes),
+            },
             Body::Request {
                 repository,
                 name,
                 offset,
                 length,
                 hash,
-            } => reference::write_request(out, self.id, repository, name, *offset, *length, hash),
-            Body::Response { data } => reference::write_response(out, self.id, data),
-            Body::Ping => reference::write_ping(out, self.id),
-            Body::Pong => reference::write_pong(out, self.id),
-            Body::Options { options } => reference::write_options(out, self.id, &options.bytes),
+            } => match edition {
+                Edition::New => write_request(out, id, repository, name, *offset, *length, hash),
+                Edition::Old => write_old_request(out, id, name, *offset, *length, hash),
+            },
+            Body::Response { data } => write_response(out, id, data),
+            Body::Ping => write_ping(out, id),
+            Body::Pong => write_pong(out, id),
+            Body::Options { options } => write_options(out, id, &options.bytes),
         }
     }
 
@@ -126,18 +151,23 @@ impl Draft {
 
     /// Writes it by way of the safe functions.
     pub fn write_safely(&self, out: &mut [u8]) -> Result<usize, fordtrumpet::Refusal> {
+        use fordtrumpet::{
+            write_index, write_index_update, write_old_index, write_old_index_update,
+            write_old_request, write_options, write_ping, write_pong, write_request,
+            write_response,
+        };
+        let (id, edition) = (self.id, self.edition);
         match &self.body {
             Body::Index {
                 update,
                 repository,
                 files,
-            } => {
-                let write = match update {
-                    false => fordtrumpet::write_index,
-                    true => fordtrumpet::write_index_update,
-                };
-                write(self.id, repository, &files.bytes, out)
-            }
+            } => match (edition, update) {
+                (Edition::New, false) => write_index(id, repository, &files.bytes, out),
+                (Edition::New, true) => write_index_update(id, repository, &files.bytes, out),
+                (Edition::Old, false) => write_old_index(id, &files.bytes, out),
+                (Edition::Old, true) => write_old_index_update(id, &files.bytes, out),
+            },
             Body::Request {
                 repository,
                 name,
@@ -146,12 +176,16 @@ impl Draft {
                 hash,
             } => {
                 let hash = hash.as_slice().try_into().expect("a hash has 32 bytes");
-                fordtrumpet::write_request(self.id, repository, name, *offset, *length, hash, out)
+                let (offset, length) = (*offset, *length);
+                match edition {
+                    Edition::New => write_request(id, repository, name, offset, length, hash, out),
+                    Edition::Old => write_old_request(id, name, offset, length, hash, out),
+                }
             }
-            Body::Response { data } => fordtrumpet::write_response(self.id, data, out),
-            Body::Ping => fordtrumpet::write_ping(self.id, out),
-            Body::Pong => fordtrumpet::write_pong(self.id, out),
-            Body::Options { options } => fordtrumpet::write_options(self.id, &options.bytes, out),
+            Body::Response { data } => write_response(id, data, out),
+            Body::Ping => write_ping(id, out),
+            Body::Pong => write_pong(id, out),
+            Body::Options { options } => write_options(id, &options.bytes, out),
         }
     }
 
@@ -170,20 +204,34 @@ impl Draft {
         let mut answer = [0];
         // SAFETY: each pointer and length are those of one slice, and the answer has the size asked for.
         let number = unsafe {
-            ffi::bep_write_request(
-                out.as_mut_ptr(),
-                out.len(),
-                self.id,
-                repository.as_ptr(),
-                repository.len(),
-                name.as_ptr(),
-                name.len(),
-                *offset,
-                *length,
-                hash.as_ptr(),
-                hash.len(),
-                &mut answer,
-            )
+            match self.edition {
+                Edition::New => ffi::bep_write_request(
+                    out.as_mut_ptr(),
+                    out.len(),
+                    self.id,
+                    repository.as_ptr(),
+                    repository.len(),
+                    name.as_ptr(),
+                    name.len(),
+                    *offset,
+                    *length,
+                    hash.as_ptr(),
+                    hash.len(),
+                    &mut answer,
+                ),
+                Edition::Old => ffi::bep_write_old_request(
+                    out.as_mut_ptr(),
+                    out.len(),
+                    self.id,
+                    name.as_ptr(),
+                    name.len(),
+                    *offset,
+                    *length,
+                    hash.as_ptr(),
+                    hash.len(),
+                    &mut answer,
+                ),
+            }
         };
         match number {
             0 => Ok(answer[0] as usize),

@@ -5,6 +5,7 @@ use super::encode::{Block, Encoding, File};
 use super::names::mend;
 use super::random::Random;
 use super::text::character;
+use crate::reference::Edition;
 
 /// A message that keeps all rules. Most are short; limits are met now and then.
 pub fn draft(random: &mut Random) -> Draft {
@@ -32,7 +33,7 @@ pub fn draft(random: &mut Random) -> Draft {
             options: options(random),
         },
     };
-    Draft { id, body }
+    Draft::new(id, body)
 }
 
 fn files(random: &mut Random) -> Encoding {
@@ -170,4 +171,61 @@ pub fn text(random: &mut Random, limit: usize) -> Vec<u8> {
         }
     }
     text.into_bytes()
+}
+
+/// A short message of each type and edition with every kind of field in it.
+pub fn short_messages() -> Vec<Draft> {
+    let block = |length| Block {
+        length,
+        hash: [0x20; 32],
+    };
+    let file = |name: &[u8], flags, blocks| File {
+        name: name.to_vec(),
+        flags,
+        modified: -5,
+        version: 3,
+        blocks,
+    };
+    let mut files = Encoding::new();
+    files.files(&[
+        file("bé".as_bytes(), 0o644, vec![block(1), block(131_072)]),
+        file(b"a/.b", 0x3000, vec![]),
+    ]);
+    let mut options = Encoding::new();
+    options.options(&[
+        (b"clientId".to_vec(), b"x".to_vec()),
+        ("ключ".as_bytes().to_vec(), vec![]),
+    ]);
+    let bodies = [
+        Body::Index {
+            update: false,
+            repository: b"r".to_vec(),
+            files: files.clone(),
+        },
+        Body::Index {
+            update: true,
+            repository: vec![],
+            files,
+        },
+        Body::Request {
+            repository: b"re".to_vec(),
+            name: b"\xE2\x82\xAC\xF0\x9F\x98\x80".to_vec(),
+            offset: 131_072,
+            length: 5,
+            hash: vec![0x20; 32],
+        },
+        Body::Response {
+            data: b"12345".to_vec(),
+        },
+        Body::Ping,
+        Body::Pong,
+        Body::Options { options },
+    ];
+    let new = bodies.map(|body| Draft::new(0x0ABC, body));
+    // All but the last, Options, are in the old edition too.
+    let old = new[..6].iter().cloned().map(|draft| Draft {
+        edition: Edition::Old,
+        ..draft
+    });
+    new.iter().cloned().chain(old).collect()
 }

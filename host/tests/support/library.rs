@@ -17,7 +17,12 @@ pub type Answer<const N: usize> = (u32, [u64; N]);
 pub struct Library {
     pub read: fn(&[u8]) -> Answer<11>,
     pub read_safely: fn(&[u8]) -> Answer<11>,
+    pub read_old: fn(&[u8]) -> Answer<11>,
+    pub read_old_safely: fn(&[u8]) -> Answer<11>,
     pub write: fn(&Draft, &mut [u8]) -> Answer<1>,
+    /// Message, repository, buffer.
+    pub upgrade: fn(&[u8], &[u8], &mut [u8]) -> Answer<1>,
+    pub downgrade: fn(&[u8], &mut [u8]) -> Answer<1>,
     pub file: fn(&[u8], usize) -> Answer<8>,
     pub option: fn(&[u8], usize) -> Answer<5>,
 }
@@ -25,8 +30,12 @@ pub struct Library {
 /// The library as it is.
 pub const LIBRARY: Library = Library {
     read,
-    read_safely,
+    read_safely: |input| safely(input, fordtrumpet::read(input)),
+    read_old,
+    read_old_safely: |input| safely(input, fordtrumpet::read_old(input)),
     write,
+    upgrade: |message, repository, out| written(fordtrumpet::upgrade(message, repository, out)),
+    downgrade: |message, out| written(fordtrumpet::downgrade(message, out)),
     file,
     option,
 };
@@ -35,6 +44,13 @@ fn read(input: &[u8]) -> Answer<11> {
     let mut answer = [UNSET; 11];
     // SAFETY: pointer and length are those of one slice. The same holds for the other calls.
     let number = unsafe { ffi::bep_read(input.as_ptr(), input.len(), &mut answer) };
+    (number, answer)
+}
+
+fn read_old(input: &[u8]) -> Answer<11> {
+    let mut answer = [UNSET; 11];
+    // SAFETY: as in `read`.
+    let number = unsafe { ffi::bep_read_old(input.as_ptr(), input.len(), &mut answer) };
     (number, answer)
 }
 
@@ -52,7 +68,7 @@ fn option(array: &[u8], at: usize) -> Answer<5> {
     (number, answer)
 }
 
-/// The safe writers give all there is in an answer, so they stand for the calls below them.
+/// The safe writers stand for the calls below them.
 fn write(draft: &Draft, out: &mut [u8]) -> Answer<1> {
     match draft.write_with_library(out) {
         Ok(len) => (0, [len as u64]),
@@ -60,10 +76,18 @@ fn write(draft: &Draft, out: &mut [u8]) -> Answer<1> {
     }
 }
 
-/// What the safe `read` gives, put back into the words it was made from.
-fn read_safely(input: &[u8]) -> Answer<11> {
+/// What a safe call that fills a buffer answered. It gives all there is in an answer.
+pub fn written(answer: Result<usize, Refusal>) -> Answer<1> {
+    match answer {
+        Ok(len) => (0, [len as u64]),
+        Err(refusal) => (refusal.number(), [refusal.place() as u64]),
+    }
+}
+
+/// What the safe reading of an input gave, put back into the words it was made from.
+fn safely(input: &[u8], read: Result<ReadMessage, Refusal>) -> Answer<11> {
     let mut answer = [0; 11];
-    let ReadMessage { message, used } = match fordtrumpet::read(input) {
+    let ReadMessage { message, used } = match read {
         Ok(read) => read,
         Err(refusal) => {
             answer[0] = refusal.place() as u64;

@@ -17,3 +17,4 @@ pub mod random;
 pub mod table_calls;
 pub mod tables;
 pub mod text;
+pub mod turning;

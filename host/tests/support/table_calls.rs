@@ -1,7 +1,7 @@
 //! Compares the calls on tables with the reference.
 
-use super::compare::{file_words, same, same_bytes, Compared};
-use super::library::{ffi, Answer, UNSET};
+use super::compare::{self, expected, file_words, same, Compared};
+use super::library::{ffi, written, Answer, UNSET};
 use super::random::Random;
 use crate::reference;
 use std::cmp::Ordering;
@@ -38,11 +38,11 @@ fn compare(a: &[u8], i: usize, b: &[u8], j: usize) -> Answer<1> {
 }
 
 fn merge(a: &[u8], b: &[u8], out: &mut [u8]) -> Answer<1> {
-    filled(fordtrumpet::raw::merge(a, b, out))
+    written(fordtrumpet::raw::merge(a, b, out))
 }
 
 fn accept(old: &[u8], message: &[u8], repository: &[u8], out: &mut [u8]) -> Answer<1> {
-    filled(fordtrumpet::raw::accept(old, message, repository, out))
+    written(fordtrumpet::raw::accept(old, message, repository, out))
 }
 
 fn step(table: &[u8], at: usize) -> Answer<8> {
@@ -50,22 +50,6 @@ fn step(table: &[u8], at: usize) -> Answer<8> {
     // SAFETY: pointer and length are those of one slice.
     let number = unsafe { ffi::bep_step(table.as_ptr(), table.len(), at, &mut answer) };
     (number, answer)
-}
-
-/// An answer of the safe side, which gives all there is in it.
-fn filled(answer: Result<usize, fordtrumpet::Refusal>) -> Answer<1> {
-    match answer {
-        Ok(len) => (0, [len as u64]),
-        Err(refusal) => (refusal.number(), [refusal.place() as u64]),
-    }
-}
-
-/// What the reference answered, in the same words.
-pub fn expected(answer: Result<usize, reference::Refusal>) -> Answer<1> {
-    match answer {
-        Ok(len) => (0, [len as u64]),
-        Err(refusal) => (refusal.number, [refusal.place as u64]),
-    }
 }
 
 /// Compares and counts.
@@ -215,16 +199,9 @@ impl TableComparison {
         call: impl Fn(&mut [u8]) -> Answer<1>,
         reference: impl Fn(&mut [u8]) -> Answer<1>,
     ) -> Result<Answer<1>, String> {
-        let start = random.below(8);
-        let lent = start..start + room;
-        let before = random.bytes(start + room + 8);
-        let mut memory = before.clone();
-        let answer = call(&mut memory[lent.clone()]);
-        let mut expected_memory = before;
-        let expected = reference(&mut expected_memory[lent]);
-        self.met(what, expected.0);
-        same(what, &answer, &expected)?;
-        same_bytes("memory", &memory, &expected_memory)?;
-        Ok(expected)
+        let answer = compare::fill(room, random, call, reference)
+            .map_err(|difference| format!("{what}: {difference}"))?;
+        self.met(what, answer.0);
+        Ok(answer)
     }
 }

@@ -14,8 +14,7 @@ use Rattle.record.specs.Answers.{arrayAnswer}
 use Rattle.record.specs.KeyValue.{KeyValue, options}
 use Rattle.record.proofs.Answered.{array-taken, array-refused}
 use Rattle.message.specs.Limits.{optionsLimit}
-use Rattle.message.specs.Message.{isOptions}
-use Rattle.message.specs.Answers.{span, bodyAnswer}
+use Rattle.message.specs.Answers.{span, optionsAnswer}
 use Rattle.message.specs.declared.answer.Message.the-variants as M
 use Rattle.message.proofs.reading.read_options.Statement.{statement}
 use Rattle.message.proofs.reading.read_options.Tie as tie
@@ -44,7 +43,7 @@ add-t12 c =
     let w = refused-within (c .before .before .before .before .before .before .before .pre) (array-there-refused (c .before)) in omega arith
 
 returns : tie.Need-returns
-returns c = answered (bodyAnswer isOptions (c .before .before .before .before .before .before .before .args .id)) (array-there-refused (c .before))
+returns c = answered (optionsAnswer (c .before .before .before .before .before .before .before .args .id)) (array-there-refused (c .before))
 
 add-t9 : tie.Need-add-t9
 add-t9 c =
@@ -54,7 +53,7 @@ returns-2 : tie.Need-returns-2
 returns-2 c =
     let q = array-there c in
     let used : c .before .options .given .0 .1 .0 ≡ 4 + c .before .options .given .0 .1 .0 - 4 = omega arith in
-    same-span used (q .2) ∙ answered (bodyAnswer isOptions (c .before .before .before .before .before .before .args .id)) (q .1)
+    same-span used (q .2) ∙ answered (optionsAnswer (c .before .before .before .before .before .before .args .id)) (q .1)
 
 pub read-options-spec : {M : Type 1} → statement M
 read-options-spec =

@@ -1,6 +1,6 @@
 -- `message_write::check::check_index` meets its contract: the repository stands right behind the header, and the files behind it.
 use Prim.Native.Nat.{ℕ, _+_, _≤_}
-use mathlib.Core.List.{List}
+use mathlib.Core.List.{List, _++_}
 use mathlib.Core.Path.{_≡_, refl, _∙_}
 use native.Mathlib.Omega.{arith}
 use borrow.Author.Needs.{needs}
@@ -8,29 +8,31 @@ use denote.Ref.{now}
 use lib.ListN.{length}
 use Rattle.xdr.specs.Reading.{Reading, taken, refused, shifted}
 use Rattle.xdr.specs.Pad.{padded}
-use Rattle.xdr.specs.Format.{bytes, encode}
-use Rattle.xdr.specs.Fields.{word, text}
-use Rattle.xdr.proofs.Answered.{bytes-taken, bytes-refused}
-use Rattle.xdr.proofs.Steps.{Reads, passed, first-refused, both-read, ends, refused-within}
-use Rattle.message_write.specs.Writing.{indexBytes}
-use Rattle.message_write.proofs.Behind.{behind, checks, last-at, string-refused, string-taken, behind-string, repository-there}
+use Rattle.xdr.proofs.Steps.{Reads, first-refused, both-read, ends, refused-within}
+use Rattle.message_write.specs.Steps.{givenBytes}
+use Rattle.message_write.proofs.Behind.{behind, checks, last-at}
+use Rattle.message_write.proofs.RepositoryLaws.{Checked, repository-checked, repository-unfit, repository-there}
 use Rattle.record.specs.File.{File, files}
 use Rattle.record.proofs.Answered.{array-taken, array-refused}
 use Rattle.message.specs.Limits.{filesLimit}
 use Rattle.message.specs.Message.{repository}
+use Rattle.message.specs.declared.edition.Edition.{Edition}
 use Rattle.message_write.proofs.check.check_index.Statement.{statement}
 use Rattle.message_write.proofs.check.check_index.Tie as tie
 
--- the repository, refused or read, by itself and behind the header
-repository-refused : (c : tie.After-refusal) → Reads repository (encode (bytes word) (now (c .before .before .before .before .before .before .args .repository))) 0 (refused (c .refusal .result .number) (c .refusal .result .place))
-repository-refused c = bytes-refused (c .before .before .before .check-text .ensures) (c .before .enum-told .given .1) (c .refusal .ensures)
+-- the edition and the repository that were given
+abbrev edition : tie.Start → Edition
+edition c = c .args .edition
 
-repository-read : (c : tie.After-known-told)
-    → (l : List ℕ) × Reads repository (encode (bytes word) (now (c .before .before .before .before .before .before .args .repository))) 0 (taken l (c .before .text .given .0 .1 .0)) × (length l ≡ c .before .text .given .0 .0)
-repository-read c = bytes-taken (c .before .before .before .check-text .ensures) (c .before .text .given .1)
+abbrev given : tie.Start → List ℕ
+given c = now (c .args .repository)
 
-repository-size : (c : tie.After-known-told) → let l = now (c .before .before .before .before .before .before .args .repository) in (c .before .text .given .0 .1 .0 ≡ 4 + padded (length l)) × (length l ≤ 64)
-repository-size c = string-taken (now (c .before .before .before .before .before .before .args .repository)) (passed (repository-read c .1))
+-- the repository, refused or read
+unfit : (c : tie.After-refusal) → let k = c .before .before .before .before .before .before in Reads (repository (edition k)) (givenBytes (edition k) (given k)) 0 (refused (c .refusal .result .number) (c .refusal .result .place)) × (c .refusal .result .place ≤ 4 + padded (length (given k)))
+unfit c = repository-unfit (edition (c .before .before .before .before .before .before)) (given (c .before .before .before .before .before .before)) (c .before .before .before .check-repository .ensures) (c .before .enum-told .given .1) (c .refusal .ensures)
+
+fit : (c : tie.After-known-told) → Checked (edition (c .before .before .before .before .before .before)) (given (c .before .before .before .before .before .before)) (c .before .text .given .0 .1 .0)
+fit c = repository-checked (edition (c .before .before .before .before .before .before)) (given (c .before .before .before .before .before .before)) (c .before .before .before .check-repository .ensures) (c .before .text .given .1)
 
 -- the files, refused or read, by themselves and behind the repository
 files-refused : (c : tie.After-refusal2) → Reads (files filesLimit) (now (c .before .before .before .before .before .before .before .before .before .before .args .files)) 0 (refused (c .refusal2 .result .number) (c .refusal2 .result .place))
@@ -41,46 +43,42 @@ files-read : (c : tie.After-known-told2)
 files-read c = array-taken (c .before .before .before .read-files .ensures) (c .before .array .given .1)
 
 files-there : (c : tie.After-known-told) {r : Reading (List File)}
-    → let a = c .before .before .before .before .before .before .args in
-    Reads (files filesLimit) (now (a .files)) 0 r
-    → Reads (files filesLimit) (behind (indexBytes (now (a .repository)) (now (a .files)))) (4 + c .before .text .given .0 .1 .0) (shifted (4 + c .before .text .given .0 .1 .0) r)
+    → let k = c .before .before .before .before .before .before in
+    Reads (files filesLimit) (now (k .args .files)) 0 r
+    → Reads (files filesLimit) (behind (givenBytes (edition k) (given k) ++ now (k .args .files))) (4 + c .before .text .given .0 .1 .0) (shifted (4 + c .before .text .given .0 .1 .0) r)
 files-there c h =
-    let a = c .before .before .before .before .before .before .args in
-    let l = now (a .repository) in
-    last-at (behind (encode (bytes word) l)) (now (a .files)) refl (behind-string l _ (repository-size c .0)) h
+    let k = c .before .before .before .before .before .before in
+    last-at (behind (givenBytes (edition k) (given k))) (now (k .args .files)) refl (omega (arith, fit c .ends)) h
 
 refused-at-requires : tie.Need-refused-at-requires
-refused-at-requires c κs =
-    let w = string-refused (now (c .before .before .before .before .before .before .args .repository)) (repository-refused c) in omega (arith, c .before .before .before .before .before .before .good .0 .1)
+refused-at-requires c κs = omega (arith, unfit c .1, c .before .before .before .before .before .before .good .1 .0 .1)
 
 returns : tie.Need-returns
-returns c = c .refused-at .ensures ∙ checks (first-refused (repository-there (now (c .before .before .before .before .before .before .before .args .repository)) (now (c .before .before .before .before .before .before .before .args .files)) (repository-refused (c .before))))
+returns c = let k = c .before .before .before .before .before .before .before in c .refused-at .ensures ∙ checks (first-refused (repository-there (edition k) (given k) (now (k .args .files)) (unfit (c .before) .0)))
 
 add-refused-at : tie.Need-add-refused-at
-add-refused-at c =
-    let w = repository-size (c .before .before .before .before) in omega arith
+add-refused-at c = let f = fit (c .before .before .before .before) in omega (arith, f .ends, f .small)
 
 refused-at-requires-2 : tie.Need-refused-at-requires-2
 refused-at-requires-2 c κs =
-    let w = repository-size (c .before .before .before .before) in let v = refused-within (omega arith) (files-refused c) in omega (arith, c .before .before .before .before .before .before .before .before .before .before .good .1 .0 .1)
+    let f = fit (c .before .before .before .before) in let v = refused-within (omega arith) (files-refused c) in omega (arith, f .ends, f .small, c .before .before .before .before .before .before .before .before .before .before .good .1 .1 .0 .1)
 
 returns-2 : tie.Need-returns-2
 returns-2 c =
-    let k = c .before .before .before .before .before in
-    c .refused-at2 .ensures ∙ checks (both-read (repository-there (now (c .before .before .before .before .before .before .before .before .before .before .before .args .repository)) (now (c .before .before .before .before .before .before .before .before .before .before .before .args .files)) (repository-read k .1)) (files-there k (files-refused (c .before))))
-
-add-t10 : tie.Need-add-t10
-add-t10 c =
-    let w = repository-size (c .before .before .before .before) in omega arith
+    let k = c .before .before .before .before .before .before .before .before .before .before .before in
+    c .refused-at2 .ensures ∙ checks (both-read (repository-there (edition k) (given k) (now (k .args .files)) (fit (c .before .before .before .before .before) .reads)) (files-there (c .before .before .before .before .before) (files-refused (c .before))))
 
 add-t11 : tie.Need-add-t11
-add-t11 c =
-    let w = repository-size (c .before .before .before .before) in let v = ends (omega arith) (files-read c .1) in omega (arith, c .before .before .before .before .before .before .before .before .before .before .good .1 .0 .1)
+add-t11 c = let f = fit (c .before .before .before .before) in omega (arith, f .ends, f .small)
+
+add-t12 : tie.Need-add-t12
+add-t12 c =
+    let f = fit (c .before .before .before .before) in let v = ends (omega arith) (files-read c .1) in omega (arith, f .ends, f .small, c .before .before .before .before .before .before .before .before .before .before .good .1 .1 .0 .1)
 
 returns-3 : tie.Need-returns-3
 returns-3 c =
-    let k = c .before .before .before .before in
-    checks (both-read (repository-there (now (c .before .before .before .before .before .before .before .before .before .before .args .repository)) (now (c .before .before .before .before .before .before .before .before .before .before .args .files)) (repository-read k .1)) (files-there k (files-read c .1)))
+    let k = c .before .before .before .before .before .before .before .before .before .before in
+    checks (both-read (repository-there (edition k) (given k) (now (k .args .files)) (fit (c .before .before .before .before) .reads)) (files-there (c .before .before .before .before) (files-read c .1)))
 
 pub check-index-spec : {M : Type 1} → statement M
 check-index-spec =
@@ -99,6 +97,6 @@ check-index-spec =
     add-refused-at
     refused-at-requires-2
     returns-2
-    add-t10
     add-t11
+    add-t12
     returns-3)

@@ -11,29 +11,35 @@ use Rattle.xdr.specs.Pad.{padded}
 use Rattle.xdr.specs.Format.{bytes, encode}
 use Rattle.xdr.specs.Fields.{word, hyper}
 use Rattle.xdr.proofs.Answered.{bytes-taken, bytes-refused}
-use Rattle.xdr.proofs.Steps.{Reads, passed, first-refused, both-read, via-refused, via-taken, checked-failed, checked-passed}
+use Rattle.xdr.proofs.Steps.{Reads, first-refused, both-read, via-refused, via-taken, checked-failed, checked-passed}
 use Rattle.xdr.proofs.Told.{Wide, encoded-at, number-alone, told-same}
-use Rattle.message_write.proofs.Behind.{behind, checks, last-at, string-size, string-refused, string-taken, behind-string, repository-there}
+use Rattle.message_write.proofs.Behind.{behind, checks, last-at, string-size, string-refused, string-taken}
+use Rattle.message_write.proofs.RepositoryLaws.{Checked, repository-checked, repository-unfit, repository-there}
 use borrow.Author.Tests.{not-true, not-false, eqb-true}
 use Rattle.record.specs.Block.{hash}
 use Rattle.record.specs.File.{name}
 use Rattle.record.proofs.NameSteps.{name-string}
 use Rattle.xdr.proofs.EncodedSize.{number-size}
 use Rattle.message.specs.Message.{repository}
+use Rattle.message.specs.declared.edition.Edition.{Edition}
 use Rattle.message_write.specs.Writing.{requestBytes}
+use Rattle.message_write.specs.Steps.{repositoryOf, givenBytes}
 use Rattle.message_write.proofs.check.check_request.Statement.{statement}
 use Rattle.message_write.proofs.check.check_request.Tie as tie
 
--- the repository, refused or read, by itself and behind the header
-repository-refused : (c : tie.After-refusal) → Reads repository (encode (bytes word) (now (c .before .before .before .before .before .before .before .args .repository))) 0 (refused (c .refusal .result .number) (c .refusal .result .place))
-repository-refused c = bytes-refused (c .before .before .before .check-text .ensures) (c .before .enum-told .given .1) (c .refusal .ensures)
+-- the edition and the repository that were given
+abbrev edition : tie.Start → Edition
+edition c = c .args .edition
 
-repository-read : (c : tie.After-known-told)
-    → (l : List ℕ) × Reads repository (encode (bytes word) (now (c .before .before .before .before .before .before .before .args .repository))) 0 (taken l (c .before .first .given .0 .1 .0)) × (length l ≡ c .before .first .given .0 .0)
-repository-read c = bytes-taken (c .before .before .before .check-text .ensures) (c .before .first .given .1)
+abbrev given : tie.Start → List ℕ
+given c = now (c .args .repository)
 
-repository-size : (c : tie.After-known-told) → let l = now (c .before .before .before .before .before .before .before .args .repository) in (c .before .first .given .0 .1 .0 ≡ 4 + padded (length l)) × (length l ≤ 64)
-repository-size c = string-taken (now (c .before .before .before .before .before .before .before .args .repository)) (passed (repository-read c .1))
+-- the repository, refused or read
+unfit : (c : tie.After-refusal) → let k = c .before .before .before .before .before .before .before in Reads (repository (edition k)) (givenBytes (edition k) (given k)) 0 (refused (c .refusal .result .number) (c .refusal .result .place)) × (c .refusal .result .place ≤ 4 + padded (length (given k)))
+unfit c = repository-unfit (edition (c .before .before .before .before .before .before .before)) (given (c .before .before .before .before .before .before .before)) (c .before .before .before .check-repository .ensures) (c .before .enum-told .given .1) (c .refusal .ensures)
+
+fit : (c : tie.After-known-told) → Checked (edition (c .before .before .before .before .before .before .before)) (given (c .before .before .before .before .before .before .before)) (c .before .first .given .0 .1 .0)
+fit c = repository-checked (edition (c .before .before .before .before .before .before .before)) (given (c .before .before .before .before .before .before .before)) (c .before .before .before .check-repository .ensures) (c .before .first .given .1)
 
 -- the name, refused or read, by itself and behind the repository
 name-refused : (c : tie.After-refusal2) → Reads name (encode (bytes word) (now (c .before .before .before .before .before .before .before .before .before .before .before .args .name))) 0 (refused (c .refusal2 .result .number) (c .refusal2 .result .place))
@@ -48,13 +54,13 @@ name-size c = string-taken (now (c .before .before .before .before .before .befo
 
 -- the bytes up to a field, and how many they are
 abbrev to-name : tie.After-known-told → List ℕ
-to-name c = behind (encode (bytes word) (now (c .before .before .before .before .before .before .before .args .repository)))
+to-name c = behind (givenBytes (edition (c .before .before .before .before .before .before .before)) (given (c .before .before .before .before .before .before .before)))
 
 abbrev name-at : tie.After-known-told → ℕ
 name-at c = 4 + c .before .first .given .0 .1 .0
 
 long-name : (c : tie.After-known-told) → length (to-name c) ≡ name-at c
-long-name c = behind-string (now (c .before .before .before .before .before .before .before .args .repository)) _ (repository-size c .0)
+long-name c = omega (arith, fit c .ends)
 
 name-there : (c : tie.After-known-told) (t : List ℕ) {r : Reading (List ℕ)}
     → let l = now (c .before .before .before .before .before .before .before .args .name) in Reads name (encode (bytes word) l) 0 r → Reads name (to-name c ++ (encode (bytes word) l ++ t)) (name-at c) (shifted (name-at c) r)
@@ -74,7 +80,7 @@ long-offset c =
 
 -- the whole message, with an offset
 abbrev whole : tie.After-known-told2 → ℕ → List ℕ
-whole c o = let a = c .before .before .before .before .before .before .before .before .before .before .before .args in behind (requestBytes (now (a .repository)) (now (a .name)) o (a .size) (now (a .hash)))
+whole c o = let a = c .before .before .before .before .before .before .before .before .before .before .before .args in behind (requestBytes (a .edition) (repositoryOf (a .edition) (now (a .repository))) (now (a .name)) o (a .size) (now (a .hash)))
 
 abbrev the-hash : tie.After-known-told2 → List ℕ
 the-hash c = encode (bytes word) (now (c .before .before .before .before .before .before .before .before .before .before .before .args .hash))
@@ -117,66 +123,66 @@ hash-there c o h =
 
 refused-at-requires : tie.Need-refused-at-requires
 refused-at-requires c κs =
-    let w = string-refused (now (c .before .before .before .before .before .before .before .args .repository)) (repository-refused c) in omega (arith, c .before .before .before .before .before .before .before .good .0 .1)
+    omega (arith, unfit c .1, c .before .before .before .before .before .before .before .good .1 .0 .1)
 
 returns : tie.Need-returns
 returns c = λ o.
     let a = c .before .before .before .before .before .before .before .before .args in
-    c .refused-at .ensures ∙ checks (via-refused (first-refused (repository-there (now (a .repository)) _ (repository-refused (c .before)))))
+    c .refused-at .ensures ∙ checks (via-refused (first-refused (repository-there (a .edition) (now (a .repository)) _ (unfit (c .before) .0))))
 
 add-name-at : tie.Need-add-name-at
 add-name-at c =
-    let w = repository-size c in omega arith
+    let f = fit c in let w = f .ends in let z = f .small in omega arith
 
 refused-at-requires-2 : tie.Need-refused-at-requires-2
 refused-at-requires-2 c κs =
-    let w = repository-size (c .before .before .before .before) in let v = string-refused (now (c .before .before .before .before .before .before .before .before .before .before .before .args .name)) (name-refused c) in omega (arith, c .before .before .before .before .before .before .before .before .before .before .before .good .1 .0 .1)
+    let f = fit (c .before .before .before .before) in let w = f .ends in let z = f .small in let v = string-refused (now (c .before .before .before .before .before .before .before .before .before .before .before .args .name)) (name-refused c) in omega (arith, c .before .before .before .before .before .before .before .before .before .before .before .good .1 .1 .0 .1)
 
 returns-2 : tie.Need-returns-2
 returns-2 c = λ o.
     let a = c .before .before .before .before .before .before .before .before .before .before .before .before .args in
     let k = c .before .before .before .before .before in
-    c .refused-at2 .ensures ∙ checks (via-refused (both-read (repository-there (now (a .repository)) _ (repository-read k .1)) (first-refused (name-there k _ (name-refused (c .before))))))
+    c .refused-at2 .ensures ∙ checks (via-refused (both-read (repository-there (a .edition) (now (a .repository)) _ (fit k .reads)) (first-refused (name-there k _ (name-refused (c .before))))))
 
 add-size-at : tie.Need-add-size-at
 add-size-at c =
-    let w = repository-size (c .before .before .before .before) in let v = name-size c in omega arith
+    let f = fit (c .before .before .before .before) in let w = f .ends in let z = f .small in let v = name-size c in omega arith
 
 add-size-at-2 : tie.Need-add-size-at-2
 add-size-at-2 c =
-    let w = repository-size (c .before .before .before .before) in let v = name-size c in omega arith
+    let f = fit (c .before .before .before .before) in let w = f .ends in let z = f .small in let v = name-size c in omega arith
 
 returns-3 : tie.Need-returns-3
 returns-3 c = λ o.
     let a = c .before .before .before .before .before .before .before .before .before .before .before .before .before .args in
     let k = c .before .before in
-    checks (via-refused (both-read (repository-there (now (a .repository)) _ (repository-read (k .before .before .before .before) .1)) (both-read (name-there (k .before .before .before .before) _ (name-read k .1)) (both-read (offset-there k o)
+    checks (via-refused (both-read (repository-there (a .edition) (now (a .repository)) _ (fit (k .before .before .before .before) .reads)) (both-read (name-there (k .before .before .before .before) _ (name-read k .1)) (both-read (offset-there k o)
     (first-refused (checked-failed (length-there k o) (sym (c .before .is-size .ensures) ∙ not-true _ (c .if1 .taken))))))))
 
 add-hash-at : tie.Need-add-hash-at
 add-hash-at c =
-    let w = repository-size (c .before .before .before .before .before .before) in let v = name-size (c .before .before) in omega arith
+    let f = fit (c .before .before .before .before .before .before) in let w = f .ends in let z = f .small in let v = name-size (c .before .before) in omega arith
 
 refused-at-requires-3 : tie.Need-refused-at-requires-3
 refused-at-requires-3 c κs =
-    let w = repository-size (c .before .before .before .before .before .before .before .before .before .before) in let v = name-size (c .before .before .before .before .before .before) in let u = string-refused (now (c .before .before .before .before .before .before .before .before .before .before .before .before .before .before .before .before .before .args .hash)) (hash-refused c) in omega (arith, c .before .before .before .before .before .before .before .before .before .before .before .before .before .before .before .before .before .good .1 .1 .1 .0 .1)
+    let f = fit (c .before .before .before .before .before .before .before .before .before .before) in let w = f .ends in let z = f .small in let v = name-size (c .before .before .before .before .before .before) in let u = string-refused (now (c .before .before .before .before .before .before .before .before .before .before .before .before .before .before .before .before .before .args .hash)) (hash-refused c) in omega (arith, c .before .before .before .before .before .before .before .before .before .before .before .before .before .before .before .before .before .good .1 .1 .1 .1 .0 .1)
 
 returns-4 : tie.Need-returns-4
 returns-4 c = λ o.
     let a = c .before .before .before .before .before .before .before .before .before .before .before .before .before .before .before .before .before .before .args in
     let k = c .before .before .before .before .before .before .before in
-    c .refused-at3 .ensures ∙ checks (via-refused (both-read (repository-there (now (a .repository)) _ (repository-read (k .before .before .before .before) .1)) (both-read (name-there (k .before .before .before .before) _ (name-read k .1)) (both-read (offset-there k o)
+    c .refused-at3 .ensures ∙ checks (via-refused (both-read (repository-there (a .edition) (now (a .repository)) _ (fit (k .before .before .before .before) .reads)) (both-read (name-there (k .before .before .before .before) _ (name-read k .1)) (both-read (offset-there k o)
     (both-read (checked-passed (length-there k o) (sym (c .before .before .before .before .before .before .is-size .ensures) ∙ not-false _ (c .before .before .before .before .before .if1 .left))) (hash-there k o (hash-refused (c .before))))))))
 
-add-t16 : tie.Need-add-t16
-add-t16 c =
-    let w = repository-size (c .before .before .before .before .before .before .before .before .before .before) in let v = name-size (c .before .before .before .before .before .before) in let u = told-same (now (c .before .before .before .before .before .before .before .before .before .before .before .before .before .before .before .before .before .args .hash)) (hash-read c .1) in omega (arith, u .1, eqb-true (length (now (c .before .before .before .before .before .before .before .before .before .before .before .before .before .before .before .before .before .args .hash))) 32 (u .2))
+add-t17 : tie.Need-add-t17
+add-t17 c =
+    let f = fit (c .before .before .before .before .before .before .before .before .before .before) in let w = f .ends in let z = f .small in let v = name-size (c .before .before .before .before .before .before) in let u = told-same (now (c .before .before .before .before .before .before .before .before .before .before .before .before .before .before .before .before .before .args .hash)) (hash-read c .1) in omega (arith, u .1, eqb-true (length (now (c .before .before .before .before .before .before .before .before .before .before .before .before .before .before .before .before .before .args .hash))) 32 (u .2))
 
 returns-5 : tie.Need-returns-5
 returns-5 c = λ o.
     let a = c .before .before .before .before .before .before .before .before .before .before .before .before .before .before .before .before .before .args in
     let k = c .before .before .before .before .before .before in
-    checks (via-taken (both-read (repository-there (now (a .repository)) _ (repository-read (k .before .before .before .before) .1)) (both-read (name-there (k .before .before .before .before) _ (name-read k .1)) (both-read (offset-there k o)
+    checks (via-taken (both-read (repository-there (a .edition) (now (a .repository)) _ (fit (k .before .before .before .before) .reads)) (both-read (name-there (k .before .before .before .before) _ (name-read k .1)) (both-read (offset-there k o)
     (both-read (checked-passed (length-there k o) (sym (c .before .before .before .before .before .is-size .ensures) ∙ not-false _ (c .before .before .before .before .if1 .left))) (hash-there k o (hash-read c .1)))))))
 
 pub check-request-spec : {M : Type 1} → statement M
@@ -207,5 +213,5 @@ check-request-spec =
     (λ c κs. search needs)
     refused-at-requires-3
     returns-4
-    add-t16
+    add-t17
     returns-5)

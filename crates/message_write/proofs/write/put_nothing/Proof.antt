@@ -15,6 +15,7 @@ use Rattle.xdr.proofs.BufferLaws.{filled-none, put-next}
 use Rattle.xdr.proofs.EncodedSize.{number-size}
 use Rattle.xdr.proofs.FillingLaws.{fills-same}
 use Rattle.message.specs.Message.{message}
+use Rattle.message.specs.declared.edition.Edition.the-variants as E
 use Rattle.message_write.specs.Steps.{writingBody, bodyCheck}
 use Rattle.message_write.specs.Writing.{writing}
 use Rattle.message_write.proofs.WritingLaws.{by-body, either, Passed, admits, not-admitted, body-filled}
@@ -27,10 +28,10 @@ unfolding bodyCheck read
 checked = refl
 
 -- a Ping or a Pong is written by the format of its body
-by-nothing : (c : tie.Start) → let a = c .args in writing message (a .id) (a .kind) [] ≡ writingBody nothing (a .id) (a .kind) []
+by-nothing : (c : tie.Start) → let a = c .args in writing (message E.New) (a .id) (a .kind) [] ≡ writingBody nothing (a .id) (a .kind) []
 by-nothing c =
     let a = c .args in
-    either 4 5 (a .kind) (λ k. writing message (a .id) k [] ≡ writingBody nothing (a .id) k []) (c .pre) (by-body (a .id) 4 [] (omega arith) (omega arith)) (by-body (a .id) 5 [] (omega arith) (omega arith))
+    either 4 5 (a .kind) (λ k. writing (message E.New) (a .id) k [] ≡ writingBody nothing (a .id) k []) (c .pre) (by-body E.New (a .id) 4 [] (omega arith) (omega arith)) (by-body E.New (a .id) 5 [] (omega arith) (omega arith))
 
 passed : (c : tie.After-enum-told) → let a = c .before .before .before .before .args in Passed nothing (a .id) [] (length (now (a .out))) (c .enum-told .given .0 .0)
 passed c = let a = c .before .before .before .before .args in admits nothing (a .id) (a .kind) [] (length (now (a .out))) (c .before .before .admitted .ensures) checked (c .enum-told .given .1)

@@ -14,6 +14,7 @@ use Rattle.xdr.proofs.EncodedSize.{number-size}
 use Rattle.xdr.proofs.FillingLaws.{fills-same}
 use Rattle.record.specs.KeyValue.{options}
 use Rattle.message.specs.Limits.{optionsLimit}
+use Rattle.message.specs.declared.edition.Edition.the-variants as E
 use Rattle.message_write.proofs.WritingLaws.{Passed, admits, not-admitted, body-filled, by-body}
 use Rattle.message_write.proofs.BodyLaws.{options-parts, take-behind}
 use Rattle.message_write.proofs.write.write_options.Statement.{statement}
@@ -30,7 +31,7 @@ parts c = options-parts (now (c .before .before .before .before .before .before 
 returns : tie.Need-returns
 returns c =
     let a = c .before .before .before .before .before .before .args in
-    fills-same (now (a .out)) (by-body (a .id) 7 (now (a .options)) (omega arith) (omega arith))
+    fills-same (now (a .out)) (by-body E.New (a .id) 7 (now (a .options)) (omega arith) (omega arith))
     (not-admitted (options optionsLimit) (a .id) 7 (now (a .options)) (length (now (a .out))) (c .before .before .admitted .ensures) (c .before .before .before .check-options .ensures) (now (a .out)) refl (c .enum-told .given .1))
 
 sub-used : tie.Need-sub-used
@@ -54,7 +55,7 @@ returns-2 c =
     let n = k .before .answer .given .0 .0 in
     let w = parts k in
     let used : n - 4 - 0 ≡ n - 4 = omega arith in
-    fills-same (now (a .out)) (by-body (a .id) 7 (now (a .options)) (omega arith) (omega arith))
+    fills-same (now (a .out)) (by-body E.New (a .id) 7 (now (a .options)) (omega arith) (omega arith))
     (body-filled (a .id) 7 (now (a .options)) (now (a .out)) (passed k) (omega arith) (c .before .before .before .before .header-of .ensures) refl
     (c .before .before .store-raw .ensures
     ∙ ap (λ (u : ℕ). filled (now (a .out)) (encode word head ++ take u (now (a .options)))) used

@@ -7,10 +7,11 @@ use Rattle.message_write.specs.Writing.{requestBytes}
 use Rattle.link.proofs.IssueLaws.{issue-barred, issue-written, unfull}
 use borrow.Author.Needs.{needs}
 use Rattle.link.proofs.list.Link.issue.Statement.{statement}
+use Rattle.message.specs.declared.edition.Edition.the-variants as E
 use Rattle.link.proofs.list.Link.issue.Tie as tie
 
 abbrev body : tie.Start → List ℕ
-body c = let a = c .args in requestBytes (now (a .repository)) (now (a .name)) (a .offset) (a .size) (now (a .hash))
+body c = let a = c .args in requestBytes E.New (now (a .repository)) (now (a .name)) (a .offset) (a .size) (now (a .hash))
 
 returns : tie.Need-returns
 returns c =

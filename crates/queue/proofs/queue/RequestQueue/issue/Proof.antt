@@ -7,10 +7,11 @@ use Rattle.message_write.specs.Writing.{requestBytes}
 use Rattle.queue.proofs.QueueLaws.{issue-sound, issue-unsound}
 use borrow.Author.Needs.{needs}
 use Rattle.queue.proofs.queue.RequestQueue.issue.Statement.{statement}
+use Rattle.message.specs.declared.edition.Edition.the-variants as E
 use Rattle.queue.proofs.queue.RequestQueue.issue.Tie as tie
 
 abbrev body : tie.Start → List ℕ
-body c = let a = c .args in requestBytes (now (a .repository)) (now (a .name)) (a .offset) (a .size) (now (a .hash))
+body c = let a = c .args in requestBytes E.New (now (a .repository)) (now (a .name)) (a .offset) (a .size) (now (a .hash))
 
 returns : tie.Need-returns
 returns c = let a = c .before .before .before .before .before .before .before .before .args in issue-unsound (a .self) (body (c .before .before .before .before .before .before .before .before)) (a .size) (now (a .out)) (sym (c .before .enum-told .given .1) ∙ c .before .before .before .sound-bytes .ensures) (c .refused .ensures)

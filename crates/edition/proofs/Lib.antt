@@ -1,0 +1,3 @@
+-- Laws of messages that are turned.
+pub mod SentLaws
+pub mod TurnLaws
