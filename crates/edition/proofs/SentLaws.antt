@@ -14,7 +14,7 @@ use Rattle.message.specs.Answers.{bodyAnswer, messageAnswer, messageIn}
 use Rattle.message.specs.declared.answer.Message.{Message}
 use Rattle.message.specs.declared.edition.Edition.{Edition}
 use Rattle.edition.specs.Turning.{hasRepository, inBoth, kindIn}
-use Rattle.edition.specs.Steps.{extentOf, isOptionsIn}
+use Rattle.edition.specs.Steps.{extentOf, ResponseTo, isOptionsIn}
 use Rattle.edition.specs.declared.extent.Extent.{Extent}
 use Rattle.edition.specs.declared.extent.Extent.the-variants as X
 
@@ -116,3 +116,10 @@ module _ (e : Edition) (s : List ℕ) {m : Message} (a : m ≡ messageIn e s) wh
   pub others-sent : isOptionsIn m ≡ false → (v : MessageValue e) (n : ℕ) → read (message e) s ≡ taken v n → inBoth (kindIn (v .0)) ≡ true
   others-sent f v n q =
       both-kind (inBoth (kindIn (v .0))) (sym (options-kind e (kindIn (v .0)) (v .1) (idOf (v .0)) n) ∙ ap (λ (r : Reading (MessageValue e)). isOptionsIn (messageAnswer e r)) (sym q) ∙ ap isOptionsIn (sym answered) ∙ f)
+
+-- a Response that was read by itself
+pub response-sent : (e : Edition) {s : List ℕ} {end : ℕ} → ResponseTo e s end → Sent e s false end
+response-sent e {s} {end} h = sent e s (sym (h .is)) false end refl (ap X.Same (h .ends))
+
+pub response-others : (e : Edition) {s : List ℕ} {end : ℕ} → ResponseTo e s end → isOptionsIn (messageIn e s) ≡ false
+response-others e h = ap isOptionsIn (h .is)

@@ -1,6 +1,7 @@
 -- Turning the bytes of a message that was read: its header and its other fields stay as they are.
 use Prim.Native.Nat.{ℕ}
 use mathlib.Core.List.{List, _++_}
+use mathlib.Core.Path.{_≡_}
 use mathlib.Core.Bool.{Bool, true, false}
 use lib.ListN.{take, drop}
 use Rattle.xdr.specs.Reading.{Reading, taken, refused}
@@ -8,8 +9,11 @@ use Rattle.xdr.specs.Format.{readAt}
 use Rattle.xdr.specs.Fields.{opaque}
 use Rattle.xdr.specs.Filling.{Outcome, gives, refuses}
 use Rattle.message.specs.Limits.{repositoryLimit}
+use Rattle.message.specs.Answers.{messageIn}
+use Rattle.message.specs.declared.answer.ResponseSpan.{ResponseSpan}
 use Rattle.message.specs.declared.answer.Message.{Message}
 use Rattle.message.specs.declared.answer.Message.the-variants as M
+use Rattle.message.specs.declared.edition.Edition.{Edition}
 use Rattle.message.specs.declared.edition.Edition.the-variants as E
 use Rattle.message_write.specs.Writing.{repositoryBytes}
 use Rattle.edition.specs.Turning.{repositoryGiven, onceTaken}
@@ -26,6 +30,13 @@ extentOf (M.Pong id end) = X.Same end
 extentOf (M.IndexUpdate id x) = X.Named (x .end)
 extentOf (M.Options id x) = X.Same (x .end)
 extentOf (M.Refused r) = X.Refused r
+
+-- a Response at the front of some bytes, up to a place
+pub record ResponseTo (e : Edition) (s : List ℕ) (end : ℕ) : Type 0 where
+  pub id : ℕ
+  pub span : ResponseSpan
+  pub is : messageIn e s ≡ M.Response id span
+  pub ends : span .end ≡ end
 
 -- whether it is Options
 abbrev pub isOptionsIn : Message → Bool

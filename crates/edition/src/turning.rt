@@ -2,17 +2,21 @@
 ghost use Prim.Native.Nat.{_≤_};
 ghost use lib.ListN.{length};
 ghost use Rattle.xdr.specs.Filling.{gives, Fills};
-ghost use Rattle.edition.specs.Steps.{withRepository, withoutRepository};
+ghost use Rattle.edition.specs.Steps.{ResponseTo, withRepository, withoutRepository};
 ghost use Rattle.edition.specs.Turning.{upgrading, downgrading};
 use crate::extent::Extent;
 use crate::extent::extent_of;
 use crate::extent::is_options;
+use message::DATA_LIMIT;
 use message::Edition;
 use message::REPOSITORY_LIMIT;
+use message::header::read_header;
+use message::header::type_of;
 use message_write::check_text;
 use xdr::Bytes;
 use xdr::Filling;
 use xdr::Refusal;
+use xdr::Word;
 
 // A message as it is.
 fn whole(m: &[u8], out: &mut [u8]) -> Filling
@@ -67,10 +71,33 @@ fn without_repository(m: &[u8], out: &mut [u8]) -> Filling
     Filling::Filled(n)
 }
 
+// Where a Response at the front of some bytes ends, 0 where there is none: it is the same in both editions, and long, so that its copy should be
+// all there is to do.
+fn response_end(edition: Edition, m: &[u8]) -> usize
+    ensures { λ r. ⌜ (1 ≤ r → ResponseTo edition (now (m .entry)) r) ⌝ }
+{
+    let head = read_header(edition, m);
+    let Word::Taken(h, _) = head else {
+        return 0;
+    };
+    if type_of(h) != 3 {
+        return 0;
+    }
+    let data = xdr::read_bytes(m, 4, DATA_LIMIT);
+    let Bytes::Taken(_, end) = data else {
+        return 0;
+    };
+    end
+}
+
 // An old message becomes a new one: it is read, then the Repository is checked if the message is to have one.
 pub fn upgrade(message: &[u8], repository: &[u8], out: &mut [u8]) -> Filling
     ensures { λ r. ⌜ Fills (upgrading (now (message .entry)) (now (repository .entry))) (now (out .entry)) r (now (out .exit)) ⌝ }
 {
+    let response = response_end(Edition::Old, message);
+    if response != 0 {
+        return whole(&message[0..response], out);
+    }
     let extent = extent_of(message::read(Edition::Old, message));
     match extent {
         Extent::Named(end) => with_repository(&message[0..end], repository, out),
@@ -83,6 +110,10 @@ pub fn upgrade(message: &[u8], repository: &[u8], out: &mut [u8]) -> Filling
 pub fn downgrade(message: &[u8], out: &mut [u8]) -> Filling
     ensures { λ r. ⌜ Fills (downgrading (now (message .entry))) (now (out .entry)) r (now (out .exit)) ⌝ }
 {
+    let response = response_end(Edition::New, message);
+    if response != 0 {
+        return whole(&message[0..response], out);
+    }
     let m = message::read(Edition::New, message);
     if is_options(m) {
         return xdr::refused(18);
