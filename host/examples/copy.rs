@@ -15,8 +15,8 @@ pub mod sha256;
 
 use folder::{Folder, Incoming, Report};
 use fordtrumpet::{
-    accept, merge, request_list, serve, write_index, write_pong, write_response, Message, Outcome,
-    Refusal, RequestQueue, Serving, Table, Wanted, MAX_REQUEST_LIST, MAX_TABLE,
+    accept, merge, read, request_list, serve, write_index, write_pong, write_response, Message,
+    Outcome, Refusal, RequestQueue, Serving, Table, Wanted, MAX_REQUEST_LIST, MAX_TABLE,
 };
 use std::collections::{BTreeMap, VecDeque};
 use std::io::Write;
@@ -35,23 +35,19 @@ const PATIENCE: Duration = Duration::from_secs(60);
 const UNDER_WAY: usize = 2 * RequestQueue::WINDOW as usize + 8;
 
 // README: from here on its first example in Rust, line for line.
-use fordtrumpet::{read, MAX_RESPONSE};
+use fordtrumpet::{Reader, MAX_RESPONSE};
 use std::io::{self, Read};
 
-/// Takes the next message off a stream. What has come of later ones stays in `buffer`.
-pub fn next_message(mut stream: impl Read, buffer: &mut Vec<u8>) -> io::Result<Vec<u8>> {
-    loop {
-        match read(buffer) {
-            Ok(message) => return Ok(buffer.drain(..message.used).collect()),
-            // The rest is yet to come. Nothing of use to us is longer than a Response, though.
-            Err(refusal) if refusal.is_incomplete() && buffer.len() < MAX_RESPONSE => {}
-            Err(refusal) => return Err(refusal.into()),
-        }
-        let mut bytes = [0; 16_384];
-        match stream.read(&mut bytes)? {
-            0 => return Err(io::ErrorKind::UnexpectedEof.into()),
-            count => buffer.extend_from_slice(&bytes[..count]),
-        }
+/// The messages of a stream. Nothing of use to us is longer than a Response.
+pub fn messages<R: Read>(stream: R) -> Reader<R> {
+    Reader::open(stream).limit(MAX_RESPONSE)
+}
+
+/// The next message, which has to come.
+pub fn next_message(messages: &mut Reader<impl Read>) -> io::Result<Vec<u8>> {
+    match messages.next_message()? {
+        Some(message) => Ok(message.to_vec()),
+        None => Err(io::ErrorKind::UnexpectedEof.into()),
     }
 }
 // README: to here.
@@ -71,13 +67,12 @@ pub fn exchange(folder: Folder, stream: TcpStream) -> io::Result<Report> {
         report: Report::default(),
         out: vec![0; MAX_RESPONSE],
     };
-    let (sender, messages) = sync_channel(UNDER_WAY);
-    let mut buffer = Vec::new();
-    let mut next = || next_message(&stream, &mut buffer);
+    let (sender, receiver) = sync_channel(UNDER_WAY);
+    let mut messages = messages(&stream);
     thread::scope(|scope| {
         // The first error ends the device, and that ends this.
-        scope.spawn(move || while sender.send(next()).is_ok() {});
-        let report = device.run(messages);
+        scope.spawn(move || while sender.send(next_message(&mut messages)).is_ok() {});
+        let report = device.run(receiver);
         // However it went, neither our reader nor the peer is to wait any longer.
         let _ = stream.shutdown(Shutdown::Both);
         report

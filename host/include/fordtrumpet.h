@@ -4,8 +4,8 @@
  *
  * Slices. A run of bytes is given as a pointer and a length. NULL is allowed where the length is 0;
  * this is tested, not proved, since the prover takes slices, which have an address. A lent buffer
- * (out) must not overlap any input, and an answer or a queue none of them. An answer and a queue
- * are never NULL and have the size that they are declared with.
+ * (out) must not overlap any input, and an answer, a queue or a feed none of them. An answer, a
+ * queue and a feed are never NULL and have the size that they are declared with.
  *
  * Answers. Every function returns 0 when it accepts, else the number of the refusal, and fills the
  * whole answer; an enum before the function names the answer's words. A refusal comes with a place,
@@ -92,7 +92,7 @@ enum {
     BEP_REFUSED_NOT_OLDEST = 20,
     /* another Repository than the call names */
     BEP_REFUSED_OTHER_REPOSITORY = 21,
-    /* window not 1 to 16, or the outstanding requests given aren't sound */
+    /* window not 1 to 16, or the outstanding requests or the feed given aren't sound */
     BEP_REFUSED_UNSOUND = 22,
     /* the Name begins or ends with a slash, has two slashes together, a part that is exactly . or
        .., or a zero byte (the place is that of the Name) */
@@ -126,7 +126,7 @@ static inline const char *bep_refusal_text(uint32_t number)
         return "the resulting table is above 512 records or 65,536 bytes";
     case BEP_REFUSED_NOT_OLDEST: return "the Response isn't to the oldest outstanding request";
     case BEP_REFUSED_OTHER_REPOSITORY: return "the message is for another Repository";
-    case BEP_REFUSED_UNSOUND: return "the window isn't 1 to 16, or the queue isn't sound";
+    case BEP_REFUSED_UNSOUND: return "the window isn't 1 to 16, or the queue or the feed isn't sound";
     case BEP_REFUSED_UNSAFE_NAME: return "the Name isn't a plain path below its folder";
     default: return "unknown number";
     }
@@ -237,6 +237,55 @@ enum {
  */
 BEP_CHECKED uint32_t bep_read(const uint8_t *input, size_t input_len,
                               uint64_t answer[BEP_READ_WORDS]);
+
+/*
+ * Bytes as they come. A feed reads one message that is given run by run, of whatever length or
+ * none, and keeps none of its bytes. It is opened for a message, and the caller keeps its words,
+ * which are handed back changed by each run.
+ */
+enum {
+    BEP_FEED_WORDS = 16
+};
+
+/* Opens a feed for a message, or for one of the old edition (below). Returns 0. */
+uint32_t bep_feed_open(uint32_t feed[BEP_FEED_WORDS]);
+uint32_t bep_feed_open_old(uint32_t feed[BEP_FEED_WORDS]);
+
+/* The words of a run's answer. The first is the place of a refusal, or one of these. */
+enum {
+    BEP_FED_LENGTH = 0,                 /* ended: the length of the message */
+    BEP_FED_MISSING = 0,                /* waiting: so many bytes are surely still missing, at least
+                                           1; with fewer more it will still wait */
+    BEP_FED_TAKEN = 1,                  /* how many bytes of the run were taken */
+    BEP_FED_WORDS = 2
+};
+
+/*
+ * Feeds a run. The number is that of bep_read, or bep_read_old, for all bytes so far, however they
+ * were cut: 1 while the message isn't whole, 0 where it has ended, else that of the refusal, with
+ * its place. Length and place count from the message's first byte. The run that the message ends in
+ * is taken up to there, and all others whole. After 0 or a refusal every later run gets the same
+ * number and first word, and no byte of it is taken: the next message needs a newly opened feed.
+ *
+ * Any words may be given. Where they are no sound feed, as zeros aren't, the number is 22 and the
+ * place 0, nothing is taken, and they stay as they are.
+ */
+BEP_CHECKED uint32_t bep_feed(uint32_t feed[BEP_FEED_WORDS], const uint8_t *run, size_t run_len,
+                              uint64_t answer[BEP_FED_WORDS]);
+
+/* The words of a header. */
+enum {
+    BEP_HEADER_TYPE = 0,                /* any byte: one that isn't 1 to 7 is refused by the feed */
+    BEP_HEADER_ID = 1,
+    BEP_HEADER_WORDS = 2
+};
+
+/*
+ * The type and the ID of the message that is fed, whether or not it is refused. Returns 0 once its
+ * first four bytes have come, before that 1 and zeros.
+ */
+BEP_CHECKED uint32_t bep_feed_header(const uint32_t feed[BEP_FEED_WORDS],
+                                     uint64_t answer[BEP_HEADER_WORDS]);
 
 /*
  * The writers. Each checks the ID (5 at 0), then gives what reading the message would give, then 14

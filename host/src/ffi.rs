@@ -5,6 +5,9 @@
 //! neither of them. Every call fills its whole answer and gives 0 when it accepts, else the number
 //! of the refusal.
 
+/// The words of a feed.
+pub const FEED_WORDS: usize = 16;
+
 unsafe extern "C" {
     /// Reads the message at the start of the input.
     ///
@@ -90,6 +93,30 @@ unsafe extern "C" {
     /// The words are those of `bep_read`. An Index, an IndexUpdate and a Request have no repository: its
     /// start is 4 and its length 0. Type 7 is refused with 3.
     pub fn bep_read_old(input: *const u8, input_len: usize, answer: *mut [u64; 11]) -> u32;
+
+    /// Opens a feed for a message of the new edition. Gives 0.
+    pub fn bep_feed_open(feed: *mut [u32; FEED_WORDS]) -> u32;
+
+    /// Opens a feed for a message of the old edition. Gives 0.
+    pub fn bep_feed_open_old(feed: *mut [u32; FEED_WORDS]) -> u32;
+
+    /// Feeds a run of bytes. `answer[1]` is how many of them were taken.
+    ///
+    /// Gives 1 while the message isn't whole: `answer[0]` is a number of bytes that are surely still
+    /// missing, at least 1. Gives 0 where it has ended: `answer[0]` is its length. Any other number is the
+    /// refusal of reading all bytes so far, and `answer[0]` its place. Then every later run gets the same
+    /// number and `answer[0]`, and none of its bytes are taken. Words that are no sound feed, as zeros
+    /// aren't, give 22 at 0 and stay as they are.
+    pub fn bep_feed(
+        feed: *mut [u32; FEED_WORDS],
+        run: *const u8,
+        run_len: usize,
+        answer: *mut [u64; 2],
+    ) -> u32;
+
+    /// The type and the ID of the message that is fed: gives 0 once its first four bytes have come, else 1
+    /// and zeros.
+    pub fn bep_feed_header(feed: *const [u32; FEED_WORDS], answer: *mut [u64; 2]) -> u32;
 
     /// Writes an Index of the old edition.
     pub fn bep_write_old_index(

@@ -8,6 +8,9 @@
 //! the start of a lent buffer; they are given arrays encoded, as [`FilesBuilder`] and
 //! [`OptionsBuilder`] make them. What is refused comes back as a [`Refusal`] with a number and a place.
 //!
+//! A [`Feed`] reads a message whose bytes come a few at a time, from a radio say: it is given one run of
+//! them after another and keeps none. A [`Reader`] takes messages off a stream with it.
+//!
 //! A [`Table`] is what a device has: its records, one a name. [`accept`] makes it of what the device
 //! sends. [`merge`] puts the newest records of two tables together, and whatever order tables are
 //! merged in, the result is the same.
@@ -32,7 +35,7 @@
 //! # Buffers, stack and threads
 //!
 //! No call allocates but those of the types that own bytes ([`FilesBuilder`], [`OptionsBuilder`],
-//! [`TableBuf`]). Messages and tables go into lent buffers; there is a constant for each:
+//! [`TableBuf`], [`Reader`]). Messages and tables go into lent buffers; there is a constant for each:
 //! [`MAX_REQUEST`], [`MAX_RESPONSE`], [`MAX_TABLE`], [`MAX_REQUEST_LIST`] and so on. On the stack
 //! [`request_list`] takes about 18 KB, [`accept`] about 13 KB, [`merge`] about 9 KB, all other calls
 //! under 2 KB. Calls share nothing, so any thread may call at any time.
@@ -47,8 +50,8 @@
 //! fordtrumpet = { path = "fordtrumpet/host" }
 //! ```
 //!
-//! Without the default feature `std` the crate needs `alloc` alone; what it lacks then is the way from a
-//! [`Refusal`] to a `std::io::Error`.
+//! Without the default feature `std` the crate needs `alloc` alone; what it lacks then is [`Reader`] and
+//! the way from a [`Refusal`] to a `std::io::Error`.
 //!
 //! ```
 //! use fordtrumpet::{read, write_index, FilesBuilder, Flags, Message};
@@ -89,10 +92,13 @@ struct Readme;
 mod answer;
 mod builders;
 mod edition;
+mod feed;
 mod ffi;
 mod message;
 mod queue;
 pub mod raw;
+#[cfg(feature = "std")]
+mod reader;
 mod records;
 mod refusal;
 mod serve;
@@ -107,8 +113,11 @@ pub use builders::{FilesBuilder, OptionsBuilder};
 pub use edition::{
     downgrade, read_old, upgrade, write_old_index, write_old_index_update, write_old_request,
 };
+pub use feed::{Fed, Feed, Header};
 pub use message::{read, Index, Message, Options, Ping, Pong, ReadMessage, Request, Response};
 pub use queue::{Answered, Issued, Outcome, RequestQueue};
+#[cfg(feature = "std")]
+pub use reader::Reader;
 pub use records::{
     Block, Blocks, BlocksIter, FileInfo, Files, FilesIter, Flags, KeyValue, KeyValues,
     KeyValuesIter,

@@ -9,8 +9,8 @@ use core::fmt;
 ///
 /// The fields borrow from `input`. There is no message length on the wire, so `input` may hold more
 /// than the message: [`ReadMessage::used`] says where the next one begins, and bytes after that change no
-/// answer. A message that is cut short is refused with number 1; a host that reads from a stream can
-/// wait for more bytes and read again.
+/// answer. A message that is cut short is refused with number 1; where bytes come a few at a time, a
+/// [`Feed`](crate::Feed) tells when the message is whole.
 ///
 /// # Errors
 ///

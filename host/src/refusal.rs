@@ -78,7 +78,7 @@ pub enum Refusal {
     NotOldest,
     /// 21: the message is for another Repository than the call names.
     OtherRepository,
-    /// 22: the window isn't 1 to 16, or the outstanding requests given aren't sound.
+    /// 22: the window isn't 1 to 16, or the outstanding requests or the feed given aren't sound.
     Unsound,
     /// 24: the Name isn't a plain path below its folder. It begins or ends with a slash, has two
     /// slashes together, a part that is exactly `.` or `..`, or a zero byte.
@@ -154,7 +154,11 @@ impl Refusal {
                 "the Response isn't to the oldest outstanding request",
             ),
             Refusal::OtherRepository => (21, 0, "the message is for another Repository"),
-            Refusal::Unsound => (22, 0, "the window isn't 1 to 16, or the queue isn't sound"),
+            Refusal::Unsound => (
+                22,
+                0,
+                "the window isn't 1 to 16, or the queue or the feed isn't sound",
+            ),
             Refusal::UnsafeName(place) => {
                 (24, place, "the Name isn't a plain path below its folder")
             }

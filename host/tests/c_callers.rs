@@ -330,6 +330,7 @@ fn the_header_has_the_sizes_and_the_version() {
         ("LIST_ENTRY_BYTES", list.as_bytes().len()),
         ("MAX_REQUEST_LIST", MAX_REQUEST_LIST),
         ("QUEUE_WORDS", size_of::<RequestQueue>() / 4),
+        ("FEED_WORDS", size_of::<Feed>() / 4),
         ("MODE", Flags::MODE.0 as usize),
         ("DELETED", Flags::DELETED.0 as usize),
         ("INVALID", Flags::INVALID.0 as usize),

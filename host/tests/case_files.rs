@@ -10,6 +10,7 @@ use support::case_file::{bytes, cases, number, Case};
 use support::compare::{expected, read_words};
 use support::draft::{Body, Draft};
 use support::encode::{Encoding, File};
+use support::feeding::{self, told_words};
 use support::library::{Answer as Words, LIBRARY};
 use support::queue_calls::{
     answered_words, queue_of, words_of, Wanted, Words as Queue, QUEUE_CALLS,
@@ -33,6 +34,17 @@ enum Answer {
     Refused(u32, u64),
     /// A number, with the place that it has wherever such a field stands.
     RefusedWith(u32),
+    /// What each run of bytes gets.
+    Runs(Vec<Run>),
+}
+
+/// What a run of bytes gets, and how many of its bytes are taken.
+#[derive(Debug, PartialEq, Eq)]
+enum Run {
+    Wait(u64),
+    End(u64, u64),
+    /// Refused with a number and a place.
+    No(u32, u64, u64),
 }
 
 /// In the words of the files.
@@ -52,13 +64,42 @@ impl fmt::Display for Answer {
             }
             Answer::Refused(number, place) => write!(f, "no {number} {place}"),
             Answer::RefusedWith(number) => write!(f, "no {number}"),
+            Answer::Runs(runs) => {
+                let runs: Vec<String> = runs.iter().map(Run::to_string).collect();
+                f.write_str(&runs.join(" "))
+            }
         }
     }
+}
+
+impl fmt::Display for Run {
+    fn fmt(&self, f: &mut fmt::Formatter<'_>) -> fmt::Result {
+        match self {
+            Run::Wait(taken) => write!(f, "wait:{taken}"),
+            Run::End(end, taken) => write!(f, "end:{end}:{taken}"),
+            Run::No(number, place, taken) => write!(f, "no:{number}:{place}:{taken}"),
+        }
+    }
+}
+
+/// The answer that a case asks for to a run.
+fn run_answer(word: &str) -> Result<Run, String> {
+    let parts: Vec<&str> = word.split(':').collect();
+    Ok(match *parts {
+        ["wait", taken] => Run::Wait(number(taken)?),
+        ["end", end, taken] => Run::End(number(end)?, number(taken)?),
+        ["no", refusal, place, taken] => Run::No(number(refusal)?, number(place)?, number(taken)?),
+        _ => return Err(format!("{word} is no answer to a run")),
+    })
 }
 
 /// The answer that a case asks for.
 fn answer(words: &[&str]) -> Result<Answer, String> {
     Ok(match *words {
+        [first, ..] if first.contains(':') => {
+            let runs: Result<_, _> = words.iter().map(|word| run_answer(word)).collect();
+            Answer::Runs(runs?)
+        }
         ["yes"] => Answer::Yes,
         ["no"] => Answer::No,
         ["served"] => Answer::Served,
@@ -106,6 +147,7 @@ struct Side {
     name: &'static str,
     read: fn(&[u8]) -> Words<11>,
     read_old: fn(&[u8]) -> Words<11>,
+    runs: fn(Edition, &[Vec<u8>]) -> Vec<Run>,
     write: fn(&Draft, &mut [u8]) -> Words<1>,
     /// Message, repository, buffer.
     upgrade: fn(&[u8], &[u8], &mut [u8]) -> Words<1>,
@@ -126,6 +168,12 @@ const SIDES: [Side; 2] = [
         name: "library",
         read: LIBRARY.read_safely,
         read_old: LIBRARY.read_old_safely,
+        runs: |edition, runs| {
+            let mut words = feeding::open(edition);
+            let fed = runs.iter().map(|run| feeding::feed(&mut words, run));
+            fed.map(|(number, [first, taken])| run_of(number, first, taken))
+                .collect()
+        },
         write: LIBRARY.write,
         upgrade: LIBRARY.upgrade,
         downgrade: LIBRARY.downgrade,
@@ -150,6 +198,12 @@ const SIDES: [Side; 2] = [
         name: "reference",
         read: |input| read_words(&reference::read(input)),
         read_old: |input| read_words(&reference::read_as(Edition::Old, input)),
+        runs: |edition, runs| {
+            let mut feed = reference::Runs::open(edition);
+            let told = runs.iter().map(|run| told_words(feed.feed(run)));
+            told.map(|(number, first, taken)| run_of(number, first.unwrap_or(0), taken))
+                .collect()
+        },
         write: |draft, out| expected(draft.write_with_reference(out)),
         upgrade: |message, repository, out| expected(reference::upgrade(message, repository, out)),
         downgrade: |message, out| expected(reference::downgrade(message, out)),
@@ -175,6 +229,15 @@ const SIDES: [Side; 2] = [
         },
     },
 ];
+
+/// The answer to a run by its number, its end or place, and the bytes taken.
+fn run_of(number: u32, first: u64, taken: u64) -> Run {
+    match number {
+        0 => Run::End(first, taken),
+        1 => Run::Wait(taken),
+        _ => Run::No(number, first, taken),
+    }
+}
 
 fn issue_by_reference(words: &mut Queue, wanted: &Wanted, out: &mut [u8]) -> Words<2> {
     let mut queue = queue_of(words);
@@ -202,6 +265,8 @@ impl Side {
             ["name", contents] => self.name(&bytes(contents)?),
             ["read", message] => Ok(self.read(&bytes(message)?)),
             ["read-old", message] => Ok(read_answer((self.read_old)(&bytes(message)?))),
+            ["new", ref runs @ ..] => self.runs(Edition::New, runs),
+            ["old", ref runs @ ..] => self.runs(Edition::Old, runs),
             [call, id, ref fields @ .., room] if call.starts_with("write-") => {
                 let draft = Draft::new(number(id)?, body(call, fields)?);
                 self.write(&draft, number(room)?)
@@ -294,6 +359,11 @@ impl Side {
 
     fn read(&self, message: &[u8]) -> Answer {
         read_answer((self.read)(message))
+    }
+
+    fn runs(&self, edition: Edition, runs: &[&str]) -> Result<Answer, String> {
+        let runs: Result<Vec<_>, _> = runs.iter().map(|run| bytes(run)).collect();
+        Ok(Answer::Runs((self.runs)(edition, &runs?)))
     }
 
     fn write(&self, draft: &Draft, room: usize) -> Result<Answer, String> {
@@ -581,6 +651,12 @@ fn old_edition() {
 }
 
 #[test]
+fn runs() {
+    let file = include_str!("cases/runs.txt");
+    check_file("runs.txt", file, Places::BadByte, 158);
+}
+
+#[test]
 fn in_a_file_from_before_the_bad_byte_its_string_counts() {
     // The pad byte at 15, and the lead at 13, of the string whose length word stands at 8.
     for (given, number, place) in [
@@ -640,6 +716,10 @@ fn a_line_that_is_not_understood_or_has_another_answer_is_told() {
         "old-ping 0 0 4 = yes 00000400",
         "up 00000400 4 = yes 00000400",
         "down 00000400 - 4 = yes 00000400",
+        "new = wait:0",
+        "new 00000400 = end:4",
+        "new 00000400 = wait:4:4",
+        "new 0000 0400 = wait:2 4",
         // Understood, but the answer is another.
         "text c0af = yes",
         "read 00000400 = yes 4 0 5",
@@ -665,6 +745,12 @@ fn a_line_that_is_not_understood_or_has_another_answer_is_told() {
         "up 00000100.00000000 - 12 = yes 00000100.00000000",
         "up 00010400 ff 4 = no 7 8",
         "down 00000700.00000000 0 = no 14 0",
+        "new 0000 0400 = wait:2",
+        "new 000004 00 = wait:3 end:1:1",
+        "new 00000400.00 = end:4:5",
+        "new 000008 00 = wait:3 no:3:0:0",
+        "new 00000800 00 = no:3:0:4 no:3:0:1",
+        "old 00000700 = wait:4",
     ] {
         let file = format!("text 61 = yes\n{line}\ntext - = yes\n");
         let told = run_file(&file, Places::BadByte).unwrap_err();

@@ -5,7 +5,7 @@
 mod example;
 
 use example::folder::{Folder, Report};
-use example::{copy, exchange, next_message};
+use example::{copy, exchange, messages, next_message};
 use fordtrumpet::{
     read, write_index, write_ping, write_response, Block, FilesBuilder, Flags, Message,
     MAX_TABLE_INDEX,
@@ -251,10 +251,12 @@ fn send_index(stream: &mut TcpStream, files: &FilesBuilder) {
 
 /// Answers each Request with these bytes until the second Index comes; gives the names asked for.
 fn answer_all(stream: &mut TcpStream, data: &[u8]) -> Vec<String> {
-    let (mut buffer, mut names, mut indexes) = (Vec::new(), Vec::new(), 0);
+    let (mut names, mut indexes) = (Vec::new(), 0);
+    let mut stream = &*stream;
+    let mut messages = messages(stream);
     let mut out = vec![0; 200_000];
     while indexes < 2 {
-        let message = next_message(&*stream, &mut buffer).unwrap();
+        let message = next_message(&mut messages).unwrap();
         match read(&message).unwrap().message {
             Message::Index(_) => indexes += 1,
             Message::Request(request) => {
@@ -460,8 +462,8 @@ fn a_ping_gets_its_pong_and_a_block_that_is_not_ours_no_data() {
     )
     .unwrap();
     stream.write_all(&out[..length]).unwrap();
-    let mut buffer = Vec::new();
-    let mut next = || next_message(&stream, &mut buffer).unwrap();
+    let mut messages = messages(&stream);
+    let mut next = || next_message(&mut messages).unwrap();
     assert!(matches!(read(&next()).unwrap().message, Message::Index(_)));
     assert_eq!(next(), [0, 77, 5, 0]);
     assert_eq!(next(), [0, 5, 3, 0, 0, 0, 0, 0]);
@@ -498,19 +500,14 @@ fn messages_are_the_same_however_their_bytes_come() {
     );
     let length = write_index(0, b"default", files.as_bytes(), &mut index).unwrap();
     write_ping(9, &mut ping).unwrap();
-    let messages = [&ping[..], &index[..length], &long, &ping];
+    let sent = [&ping[..], &index[..length], &long, &ping];
     for count in [1, 3, 1_000, 1_000_000] {
-        let bytes = messages.concat();
-        let (mut stream, mut buffer) = (Slow(&bytes, count), Vec::new());
-        for message in messages {
-            // One byte at a time a long message is read too often.
-            if count == 1 && message.len() > 1_000 {
-                stream.0 = &stream.0[message.len()..];
-                continue;
-            }
-            assert!(next_message(&mut stream, &mut buffer).unwrap() == message);
+        let bytes = sent.concat();
+        let mut messages = messages(Slow(&bytes, count));
+        for message in sent {
+            assert!(next_message(&mut messages).unwrap() == message);
         }
-        let end = next_message(&mut stream, &mut buffer).unwrap_err();
+        let end = next_message(&mut messages).unwrap_err();
         assert_eq!(end.kind(), io::ErrorKind::UnexpectedEof);
     }
 }
@@ -534,7 +531,7 @@ fn a_message_longer_than_any_of_use_is_refused_before_it_has_come() {
     let mut out = vec![0; 500_000];
     let length = write_index(0, b"default", files.as_bytes(), &mut out).unwrap();
     let mut stream = &out[..length];
-    next_message(&mut stream, &mut Vec::new()).unwrap_err();
+    next_message(&mut messages(&mut stream)).unwrap_err();
     assert!(stream.len() > 200_000);
 }
 

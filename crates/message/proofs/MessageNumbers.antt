@@ -1,4 +1,4 @@
--- Reading a message is never refused with 13 or 14, which belong to other calls.
+-- Reading a message is never refused with 0, which is no refusal, nor with 13 or 14, which belong to other calls.
 use Prim.Native.Nat.{ℕ}
 use mathlib.Core.List.{List}
 use mathlib.Core.Path.{_≡_, refl, subst}
@@ -17,9 +17,9 @@ use Rattle.message.specs.Message.{Kind, isIndex, isRequest, isResponse, 
 use Rattle.message.specs.declared.edition.Edition.{Edition}
 use Rattle.message.specs.declared.edition.Edition.the-variants as E
 
--- neither 13 nor 14
+-- neither 0 nor 13 nor 14
 abbrev Neither : ℕ → Type 0
-Neither k = (not (eqb k 13) && not (eqb k 14)) ≡ true
+Neither k = (not (eqb k 0) && (not (eqb k 13) && not (eqb k 14))) ≡ true
 
 text-numbers : (limit : ℕ) → NumbersIn Neither (text limit)
 text-numbers limit = (refl, (refl, tt))
@@ -49,11 +49,14 @@ body-numbers e isPong = tt
 body-numbers e isIndexUpdate = (repository-numbers e, λ r. files-numbers filesLimit)
 body-numbers e isOptions = ((refl, tt), (text-numbers 64, λ k. text-numbers 255))
 
-pub message-number : (e : Edition) (s : List ℕ) (k p : ℕ) → read (message e) s ≡ refused k p → (k ≡ 13 → ⊥) × (k ≡ 14 → ⊥)
-message-number e s k p r = (λ f. never (subst Neither f other), λ f. never (subst Neither f other))
-  where
-    other : Neither k
-    other = refused-number Neither refl refl (message e) ((refl, (refl, (refl, tt))), λ h. body-numbers e (kindOf (typeOf h))) s k p r
+refused-neither : (e : Edition) (s : List ℕ) (k p : ℕ) → read (message e) s ≡ refused k p → Neither k
+refused-neither e s k p r = refused-number Neither refl refl (message e) ((refl, (refl, (refl, tt))), λ h. body-numbers e (kindOf (typeOf h))) s k p r
 
-    never : false ≡ true → ⊥
-    never z = let y : _≡_ {A = ℕ} 0 1 = cc in omega arith
+never : false ≡ true → ⊥
+never z = let y : _≡_ {A = ℕ} 0 1 = cc in omega arith
+
+pub message-number : (e : Edition) (s : List ℕ) (k p : ℕ) → read (message e) s ≡ refused k p → (k ≡ 13 → ⊥) × (k ≡ 14 → ⊥)
+message-number e s k p r = (λ f. never (subst Neither f (refused-neither e s k p r)), λ f. never (subst Neither f (refused-neither e s k p r)))
+
+pub message-refused : (e : Edition) (s : List ℕ) (k p : ℕ) → read (message e) s ≡ refused k p → k ≡ 0 → ⊥
+message-refused e s k p r f = never (subst Neither f (refused-neither e s k p r))

@@ -9,7 +9,7 @@ use xdr::Refusal;
 use xdr::Word;
 
 // The version of a header.
-fn version_of(h: u32) -> u32
+pub fn version_of(h: u32) -> u32
     ensures { λ r. ⌜ r ≡ versionOf h ⌝ }
 {
     h >> 28
@@ -30,14 +30,14 @@ pub fn type_of(h: u32) -> u32
 }
 
 // The reserved bits of a header.
-fn reserved_of(h: u32) -> u32
+pub fn reserved_of(h: u32) -> u32
     ensures { λ r. ⌜ r ≡ reservedOf h ⌝ }
 {
     h & 255
 }
 
 // The highest type of an edition.
-fn last_type(edition: Edition) -> u32
+pub fn last_type(edition: Edition) -> u32
     ensures { λ r. ⌜ r ≡ lastType edition ⌝ }
 {
     match edition {

@@ -21,3 +21,4 @@ pub mod Arrived
 pub mod SampleArrived
 pub mod Strings
 pub mod BadByte
+pub mod Feeds

@@ -15,3 +15,4 @@ pub mod Elements
 pub mod Arrived
 pub mod Strings
 pub mod BadByte
+pub mod Feeds

@@ -3,7 +3,7 @@ pub mod SizeRule
 pub mod FlagBits
 pub mod HeadLaws
 pub mod NameSteps
-mod PathSteps
+pub mod PathSteps
 mod SmoothLaws
 pub mod NameLaws
 pub mod Answered

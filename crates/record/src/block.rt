@@ -88,7 +88,7 @@ pub fn read_block(s: &[u8]) -> Word
 }
 
 // Whether a file may have so many blocks: a deleted one has none.
-fn may_have(deleted: bool, count: u32) -> bool
+pub fn may_have(deleted: bool, count: u32) -> bool
     ensures { λ r. ⌜ r ≡ cond deleted (eqb count 0) true ⌝ }
 {
     if deleted {
@@ -147,6 +147,13 @@ fn sound_blocks(s: &[u8], first: usize, count: u32) -> u32
         i += 1;
     }
     i
+}
+
+// How many of the blocks at the front of a part are in order, where so many are there.
+pub fn sound_front(s: &[u8], count: u32) -> u32
+    ensures { λ r. ⌜ (r ≤ count) × SoundBlocks (now (s .entry)) 0 r ⌝ }
+{
+    sound_blocks(s, 0, count)
 }
 
 // The blocks at the front of a part, of a file, deleted or not.

@@ -13,10 +13,12 @@ mod string_outline;
 
 pub use array::Array;
 pub use block::is_size;
+pub use block::may_have;
 pub use block::read_block;
 pub use block::read_blocks;
 pub use block::read_hash;
 pub use block::read_size;
+pub use block::sound_front;
 pub use file::FileRead;
 pub use file::FileSpan;
 pub use file::is_deleted;

@@ -11,7 +11,7 @@ use crate::number::little_endian_at;
 const TOP_BITS: u32 = 0x80808080;
 
 // How many followers a lead byte has: 4 for a byte that can't lead.
-fn followers(b: u8) -> u8
+pub fn followers(b: u8) -> u8
     ensures { λ r. ⌜ r ≡ followersOf b ⌝ }
 {
     match b {
@@ -24,7 +24,7 @@ fn followers(b: u8) -> u8
 }
 
 // The least that the first follower of a lead byte may be.
-fn lowest(b: u8) -> u8
+pub fn lowest(b: u8) -> u8
     ensures { λ r. ⌜ r ≡ lowestOf b ⌝ }
 {
     match b {
@@ -35,7 +35,7 @@ fn lowest(b: u8) -> u8
 }
 
 // The most that it may be.
-fn highest(b: u8) -> u8
+pub fn highest(b: u8) -> u8
     ensures { λ r. ⌜ r ≡ highestOf b ⌝ }
 {
     match b {
@@ -76,7 +76,7 @@ fn past_eights(s: &[u8]) -> usize
 }
 
 // Whether a byte is of a range.
-fn is_within(b: u8, low: u8, high: u8) -> bool
+pub fn is_within(b: u8, low: u8, high: u8) -> bool
     ensures { λ r. ⌜ r ≡ isWithin low high b ⌝ }
 {
     if b < low {

@@ -18,10 +18,12 @@ const LINE: Duration = Duration::from_secs(1);
 const FEWEST_RUNS: usize = 10;
 
 pub fn heading() {
-    println!(
-        "{:<44}{:>12}{:>14}{:>8}",
-        "operation", "library ns", "reference ns", "ratio"
-    );
+    heading_of("operation", "library ns", "reference ns");
+}
+
+/// The heading of lines that have something else side by side.
+pub fn heading_of(what: &str, first: &str, second: &str) {
+    println!("{what:<44}{first:>12}{second:>14}{:>8}", "ratio");
 }
 
 /// Makes the compiler believe that an answer is used, without moving it.
@@ -36,6 +38,17 @@ pub fn compare(
     library: impl Fn(&mut [u8]),
     reference: impl Fn(&mut [u8]),
 ) {
+    compare_parts(what, 1, out, library, reference);
+}
+
+/// Times both, whose calls have so many parts each, and prints a line for one part.
+pub fn compare_parts(
+    what: &str,
+    parts: usize,
+    out: &mut [u8],
+    library: impl Fn(&mut [u8]),
+    reference: impl Fn(&mut [u8]),
+) {
     let library_calls = calls_in_a_run(out, &library);
     let reference_calls = calls_in_a_run(out, &reference);
     let (mut library_best, mut reference_best) = (f64::MAX, f64::MAX);
@@ -43,8 +56,14 @@ pub fn compare(
         library_best = library_best.min(time(library_calls, out, &library));
         reference_best = reference_best.min(time(reference_calls, out, &reference));
     }
-    let ratio = library_best / reference_best;
-    println!("{what:<44}{library_best:>12.1}{reference_best:>14.1}{ratio:>8.2}");
+    let parts = parts as f64;
+    print(what, library_best / parts, reference_best / parts);
+}
+
+/// Prints a line of two times that were taken.
+pub fn print(what: &str, first: f64, second: f64) {
+    let ratio = first / second;
+    println!("{what:<44}{first:>12.1}{second:>14.1}{ratio:>8.2}");
 }
 
 /// The runs of a line from now on.
@@ -74,9 +93,21 @@ fn time(calls: u64, out: &mut [u8], call: &impl Fn(&mut [u8])) -> f64 {
 
 /// Times one call and prints a line.
 pub fn time_alone(what: &str, out: &mut [u8], call: impl Fn(&mut [u8])) {
-    let calls = calls_in_a_run(out, &call);
-    let best = runs()
-        .map(|_| time(calls, out, &call))
-        .fold(f64::MAX, f64::min);
+    let best = best_time(out, call);
     println!("{what:<44}{best:>12.1}");
+}
+
+/// The time of one call in nanoseconds, the best of several runs.
+pub fn best_time(out: &mut [u8], call: impl Fn(&mut [u8])) -> f64 {
+    let calls = calls_in_a_run(out, &call);
+    runs()
+        .map(|_| time(calls, out, &call))
+        .fold(f64::MAX, f64::min)
+}
+
+/// The time of a single call in nanoseconds, for one that takes long.
+pub fn time_once(call: impl FnOnce()) -> f64 {
+    let start = Instant::now();
+    call();
+    start.elapsed().as_secs_f64() * 1e9
 }

@@ -103,6 +103,57 @@ static int editions(void)
     return 0;
 }
 
+/* Messages whose bytes come in runs. */
+static int feeds(void)
+{
+    /* A Response, a Ping, and an Index whose Repository has a pad byte that isn't zero. */
+    const uint8_t response[12] = {0x0F, 0xFE, 3, 0, 0, 0, 0, 3, 'a', 'b', 'c', 0};
+    const uint8_t ping[4] = {0, 3, 4, 0};
+    const uint8_t index[12] = {0, 1, 1, 0, 0, 0, 0, 1, 'r', 0, 0, 1};
+    const uint8_t options[8] = {0, 1, 7, 0};
+    uint32_t feed[BEP_FEED_WORDS];
+    uint32_t forged[BEP_FEED_WORDS];
+    uint64_t fed[BEP_FED_WORDS];
+    uint64_t header[BEP_HEADER_WORDS];
+
+    CHECK(bep_feed_open(feed) == 0);
+    CHECK(bep_feed(feed, response, 3, fed) == BEP_REFUSED_INCOMPLETE);
+    CHECK(fed[BEP_FED_MISSING] == 1 && fed[BEP_FED_TAKEN] == 3);
+    CHECK(bep_feed_header(feed, header) == BEP_REFUSED_INCOMPLETE);
+    CHECK(header[BEP_HEADER_TYPE] == 0 && header[BEP_HEADER_ID] == 0);
+    CHECK(bep_feed(feed, response + 3, 6, fed) == BEP_REFUSED_INCOMPLETE);
+    CHECK(fed[BEP_FED_MISSING] >= 1 && fed[BEP_FED_MISSING] <= 3 && fed[BEP_FED_TAKEN] == 6);
+    CHECK(bep_feed_header(feed, header) == 0);
+    CHECK(header[BEP_HEADER_TYPE] == BEP_RESPONSE && header[BEP_HEADER_ID] == 0xFFE);
+    CHECK(bep_feed(feed, response + 9, 3, fed) == 0);
+    CHECK(fed[BEP_FED_LENGTH] == 12 && fed[BEP_FED_TAKEN] == 3);
+    CHECK(bep_feed(feed, ping, 4, fed) == 0);
+    CHECK(fed[BEP_FED_LENGTH] == 12 && fed[BEP_FED_TAKEN] == 0);
+
+    CHECK(bep_feed_open(feed) == 0);
+    CHECK(bep_feed(feed, index, 11, fed) == BEP_REFUSED_INCOMPLETE);
+    CHECK(fed[BEP_FED_MISSING] == 1 && fed[BEP_FED_TAKEN] == 11);
+    CHECK(bep_feed(feed, index + 11, 1, fed) == BEP_REFUSED_PAD);
+    CHECK(fed[BEP_PLACE] == 11 && fed[BEP_FED_TAKEN] == 1);
+    CHECK(bep_feed(feed, ping, 4, fed) == BEP_REFUSED_PAD);
+    CHECK(fed[BEP_PLACE] == 11 && fed[BEP_FED_TAKEN] == 0);
+    CHECK(bep_feed_header(feed, header) == 0);
+    CHECK(header[BEP_HEADER_TYPE] == BEP_INDEX && header[BEP_HEADER_ID] == 1);
+
+    CHECK(bep_feed_open(feed) == 0 && bep_feed(feed, options, 8, fed) == 0);
+    CHECK(fed[BEP_FED_LENGTH] == 8 && fed[BEP_FED_TAKEN] == 8);
+    CHECK(bep_feed_open_old(feed) == 0 && bep_feed(feed, options, 8, fed) == BEP_REFUSED_TYPE);
+    CHECK(fed[BEP_PLACE] == 0 && fed[BEP_FED_TAKEN] == 8);
+    CHECK(bep_feed_header(feed, header) == 0 && header[BEP_HEADER_TYPE] == BEP_OPTIONS);
+
+    memset(feed, 0xA7, sizeof feed);
+    memcpy(forged, feed, sizeof feed);
+    CHECK(bep_feed(forged, ping, 4, fed) == BEP_REFUSED_UNSOUND);
+    CHECK(fed[BEP_PLACE] == 0 && fed[BEP_FED_TAKEN] == 0);
+    CHECK(memcmp(forged, feed, sizeof feed) == 0);
+    return 0;
+}
+
 /* The empty table, and tables from messages. */
 static int tables(void)
 {
@@ -292,6 +343,8 @@ static int words(void)
 {
     uint64_t answer[MOST_WORDS];
     uint32_t queue[BEP_QUEUE_WORDS + 1];
+    uint32_t feed[BEP_FEED_WORDS + 1];
+    uint32_t again[BEP_FEED_WORDS];
     uint8_t out[1];
 
     CHECK(bep_read(NULL, 0, untouched(answer)) != 0 && filled(answer, BEP_READ_WORDS));
@@ -320,6 +373,15 @@ static int words(void)
     CHECK(bep_queue_answer(queue, NULL, 0, untouched(answer)) != 0);
     CHECK(filled(answer, BEP_ANSWERED_WORDS));
     CHECK(bep_queue_totals(queue, untouched(answer)) == 0 && filled(answer, BEP_TOTALS_WORDS));
+
+    for (int i = 0; i <= BEP_FEED_WORDS; i++)
+        feed[i] = UNTOUCHED;
+    memset(again, 0, sizeof again);
+    CHECK(bep_feed_open(feed) == 0 && bep_feed_open(again) == 0);
+    CHECK(memcmp(feed, again, sizeof again) == 0 && feed[BEP_FEED_WORDS] == UNTOUCHED);
+    CHECK(bep_feed_header(feed, untouched(answer)) != 0 && filled(answer, BEP_HEADER_WORDS));
+    CHECK(bep_feed(feed, NULL, 0, untouched(answer)) != 0 && filled(answer, BEP_FED_WORDS));
+    CHECK(feed[BEP_FEED_WORDS] == UNTOUCHED);
     return 0;
 }
 
@@ -411,5 +473,5 @@ int main(void)
     CHECK(option[BEP_PLACE] == 20);
     CHECK(bep_option(options, 19, 4, option) == BEP_REFUSED_INCOMPLETE);
     CHECK(option[BEP_PLACE] == 12);
-    return editions() || tables() || queues() || requests() || words();
+    return editions() || feeds() || tables() || queues() || requests() || words();
 }

@@ -23,6 +23,7 @@ struct result {
     uint32_t number;
     uint64_t answer[BEP_READ_WORDS];
     uint32_t queue[BEP_QUEUE_WORDS];
+    uint32_t feed[BEP_FEED_WORDS];
     uint8_t out[ROOM];
 };
 
@@ -45,6 +46,7 @@ static uint8_t nowhere;
 static size_t place;
 static uint32_t id;
 static uint32_t queue[BEP_QUEUE_WORDS];
+static uint32_t opened[BEP_FEED_WORDS];
 
 #define IN(i) s[i].at, s[i].len
 
@@ -61,6 +63,14 @@ static uint32_t read(const struct slice *s, struct result *r)
 static uint32_t read_old(const struct slice *s, struct result *r)
 {
     return bep_read_old(IN(0), r->answer);
+}
+
+/* Two runs, the second of which may come after the end. */
+static uint32_t feed(const struct slice *s, struct result *r)
+{
+    uint32_t number = bep_feed(r->feed, IN(0), r->answer);
+
+    return number == BEP_REFUSED_UNSOUND ? number : bep_feed(r->feed, IN(1), r->answer);
 }
 
 static uint32_t file(const struct slice *s, struct result *r)
@@ -199,6 +209,7 @@ static void try(const char *name, call *f, int count, const struct slice *whole)
 
             memset(r, 0xA7, sizeof *r);
             memcpy(r->queue, queue, sizeof queue);
+            memcpy(r->feed, opened, sizeof opened);
             for (int i = 0; i < count; i++) {
                 s[i] = whole[i];
                 if (choice >> i & 1 || s[i].len == 0) {
@@ -278,6 +289,14 @@ static void try_all(void)
 
         TRY(read, message);
         TRY(read_old, message);
+        for (int old = 0; old < 2; old++) {
+            if ((old ? bep_feed_open_old(opened) : bep_feed_open(opened)) != 0)
+                different = 1;
+            TRY(feed, message, message);
+            TRY(feed, {message.at, 6}, {message.at + 6, message.len - 6});
+        }
+        memset(opened, 0xA7, sizeof opened);
+        TRY(feed, message, message);
         TRY(upgrade, LENT, message, REPOSITORY);
         TRY(downgrade, LENT, message);
         TRY(accept, LENT, FILES, message, REPOSITORY);

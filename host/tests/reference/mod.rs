@@ -7,6 +7,7 @@
 #![allow(dead_code, unused_imports)]
 
 pub mod by_copy;
+pub mod by_part;
 mod editions;
 mod fields;
 pub mod hashed;
@@ -14,6 +15,7 @@ mod names;
 mod queue;
 mod read;
 mod records;
+mod runs;
 mod table;
 mod text;
 mod want;
@@ -24,6 +26,7 @@ pub use names::is_plain_path;
 pub use queue::{Answered, Outcome, Queue, Request as Outstanding};
 pub use read::{read, read_as, Body, Message};
 pub use records::{file_at, file_or_missing, option_at, option_or_missing, File, KeyValue};
+pub use runs::{Runs, Told};
 pub use table::{accept, compare, is_good, merge, step, MAX_TABLE};
 pub use text::broken_at;
 pub use want::{find_local, request_list, serve, Serving};

@@ -1,6 +1,8 @@
 //! Calls of the library whose answers are words, so that they can be compared word by word.
 
 use super::draft::Draft;
+use super::feeding;
+use crate::reference::Edition;
 use fordtrumpet::{Message, ReadMessage, Refusal};
 
 #[path = "../../src/ffi.rs"]
@@ -19,6 +21,9 @@ pub struct Library {
     pub read_safely: fn(&[u8]) -> Answer<11>,
     pub read_old: fn(&[u8]) -> Answer<11>,
     pub read_old_safely: fn(&[u8]) -> Answer<11>,
+    pub open_feed: fn(Edition) -> feeding::Words,
+    pub feed: fn(&mut feeding::Words, &feeding::Given) -> Answer<2>,
+    pub feed_header: fn(&feeding::Words) -> Answer<2>,
     pub write: fn(&Draft, &mut [u8]) -> Answer<1>,
     /// Message, repository, buffer.
     pub upgrade: fn(&[u8], &[u8], &mut [u8]) -> Answer<1>,
@@ -33,6 +38,9 @@ pub const LIBRARY: Library = Library {
     read_safely: |input| safely(input, fordtrumpet::read(input)),
     read_old,
     read_old_safely: |input| safely(input, fordtrumpet::read_old(input)),
+    open_feed: feeding::open,
+    feed: |words, given| feeding::feed(words, given.run),
+    feed_header: feeding::header,
     write,
     upgrade: |message, repository, out| written(fordtrumpet::upgrade(message, repository, out)),
     downgrade: |message, out| written(fordtrumpet::downgrade(message, out)),

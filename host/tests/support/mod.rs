@@ -9,6 +9,7 @@ pub mod compare;
 pub mod damage;
 pub mod draft;
 pub mod encode;
+pub mod feeding;
 pub mod generate;
 pub mod library;
 pub mod names;

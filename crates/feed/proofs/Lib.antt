@@ -1,0 +1,19 @@
+-- Laws of reading run by run.
+pub mod OnwardLaws
+pub mod BufferLaws
+pub mod TextLaws
+pub mod PathLaws
+pub mod StringLaws
+pub mod GoalLaws
+pub mod StepLaws
+pub mod SoundLaws
+pub mod CodeLaws
+pub mod MoveLaws
+pub mod FrontLaws
+pub mod TestLaws
+pub mod ContentsLaws
+pub mod BlockMoves
+pub mod WholeMoves
+pub mod MissingLaws
+pub mod Promise
+pub mod Samples

@@ -1,0 +1,10 @@
+pub mod AtOnce
+pub mod Onward
+pub mod Rest
+pub mod Sound
+pub mod Front
+pub mod Missing
+pub mod Opened
+pub mod Feeding
+pub mod Promised
+pub mod Steps
