@@ -1,4 +1,4 @@
--- The states that come of runs, and whether a state that is given is one of them.
+-- Sound states: runs from an opened one lead to no others, and whatever comes to a sound one its places stay within the longest message.
 use Prim.Native.Nat.{ℕ, _+_, _*_, _-_, _^_, _≤_, _<_}
 use mathlib.Core.Path.{_≡_}
 use mathlib.Core.Bool.{Bool, true, cond, _&&_}
@@ -128,6 +128,6 @@ isSoundCursor st = boundedTest (st .goal) (st .place) && fitsTest (st .goal) st
 abbrev pub frontTest : (have value : ℕ) → Bool
 frontTest c v = cond (eqb c 4) true (wordTest c v)
 
--- the states that come of runs
+-- a sound state, with its first bytes
 abbrev pub isSound : Feed → Bool
 isSound st = isSoundCursor (st .cursor) && frontTest (st .front .have) (st .front .value)
