@@ -22,3 +22,6 @@ pub mod DoneLaws
 pub mod EntryLaws
 pub mod OutcomeLaws
 pub mod RequestLaws
+pub mod BlockNumberLaws
+pub mod NumberLaws
+pub mod DetailsLaws

@@ -1,9 +1,20 @@
-// The bytes of a file.
+// Tables in files.
 ghost use Prim.Native.Nat.{_≤_};
-ghost use lib.ListN.{length};
+ghost use mathlib.Core.Path.{_≡_};
+ghost use lib.ListN.{length, take};
 ghost use Rattle.xdr.specs.Buffer.{Puts};
-ghost use Rattle.wanted.specs.File.{standIn};
-use files::Opened;
+ghost use Rattle.files.specs.StandIn.{standIn};
+use crate::Opened;
+use crate::open;
+
+// How many bytes of its buffer each of five tables takes.
+pub struct Sizes {
+    pub local: usize,
+    pub peer1: usize,
+    pub peer2: usize,
+    pub peer3: usize,
+    pub peer4: usize,
+}
 
 // Puts into a buffer what stands in for a file that can't be opened, and gives how many bytes there are.
 fn stand_in(absent: bool, buf: &mut [u8]) -> usize
@@ -21,7 +32,7 @@ fn stand_in(absent: bool, buf: &mut [u8]) -> usize
 pub fn load(name: &[u8], buf: &mut [u8]) -> usize
     ensures { λ r. ⌜ r ≤ length (now (buf .exit)) ⌝ }
 {
-    let opened = files::open(name);
+    let opened = open(name);
     match opened {
         Opened::File(fd) => {
             let n = io::read_full(fd, buf);
@@ -31,4 +42,11 @@ pub fn load(name: &[u8], buf: &mut [u8]) -> usize
         Opened::Absent => stand_in(true, buf),
         Opened::Unreadable => stand_in(false, buf),
     }
+}
+
+// The first bytes of a buffer, as far as there are any.
+pub fn first(buffer: &[u8], size: usize) -> &[u8]
+    ensures { λ r. ⌜ now r ≡ take size (now (buffer .entry)) ⌝ }
+{
+    order::part(buffer, 0, size)
 }

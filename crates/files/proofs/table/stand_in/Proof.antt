@@ -1,4 +1,4 @@
--- `wanted::file::stand_in` meets its contract.
+-- `files::table::stand_in` meets its contract.
 use Prim.Native.Nat.{ℕ, _+_, _≤_}
 use mathlib.Core.Bool.{Bool, true, false, cond}
 use mathlib.Core.List.{List}
@@ -13,8 +13,8 @@ use Rattle.xdr.specs.Format.{encode}
 use Rattle.xdr.specs.Fields.{word}
 use Rattle.xdr.specs.Buffer.{putCount}
 use Rattle.xdr.proofs.BufferLaws.{put-nothing}
-use Rattle.wanted.proofs.file.stand_in.Statement.{statement}
-use Rattle.wanted.proofs.file.stand_in.Tie as tie
+use Rattle.files.proofs.table.stand_in.Statement.{statement}
+use Rattle.files.proofs.table.stand_in.Tie as tie
 
 -- no more is put than there is room for
 within : (out l : List ℕ) → putCount out 0 l ≤ length out
