@@ -36,7 +36,7 @@ pub fn why<'a>(
 }
 
 // The number of the first of five tables that is not good, or 5.
-fn bad_of(a: &[u8], b: &[u8], c: &[u8], d: &[u8], e: &[u8]) -> u32
+pub fn first_bad(a: &[u8], b: &[u8], c: &[u8], d: &[u8], e: &[u8]) -> u32
     ensures { λ r. ⌜ r ≡ firstBad 0 (now (a .entry) ∷ now (b .entry) ∷ now (c .entry) ∷ now (d .entry) ∷ now (e .entry) ∷ []) ⌝ }
 {
     if !table::is_good(a) {
@@ -55,25 +55,4 @@ fn bad_of(a: &[u8], b: &[u8], c: &[u8], d: &[u8], e: &[u8]) -> u32
         return 4;
     }
     5
-}
-
-// That of the tables in the first bytes of their buffers.
-pub fn first_bad<'a>(
-    local: &'a [u8],
-    peer1: &'a [u8],
-    peer2: &'a [u8],
-    peer3: &'a [u8],
-    peer4: &'a [u8],
-    sizes: Sizes,
-) -> u32
-    ensures { λ r. ⌜ r ≡ firstBad 0 (take (sizes .local) (now (local .entry)) ∷ take (sizes .peer1) (now (peer1 .entry))
-        ∷ take (sizes .peer2) (now (peer2 .entry)) ∷ take (sizes .peer3) (now (peer3 .entry)) ∷ take (sizes .peer4) (now (peer4 .entry)) ∷ []) ⌝ }
-{
-    bad_of(
-        first(local, sizes.local),
-        first(peer1, sizes.peer1),
-        first(peer2, sizes.peer2),
-        first(peer3, sizes.peer3),
-        first(peer4, sizes.peer4),
-    )
 }

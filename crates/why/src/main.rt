@@ -25,7 +25,12 @@ fn told(name: &[u8], block: u32) -> bool {
     let why = asked::why(&local, &peer1, &peer2, &peer3, &peer4, sizes, name, block);
     match why {
         Reason::Refused(_) => {
-            print::bad(asked::first_bad(&local, &peer1, &peer2, &peer3, &peer4, sizes))
+            let a = files::first(&local, sizes.local);
+            let b = files::first(&peer1, sizes.peer1);
+            let c = files::first(&peer2, sizes.peer2);
+            let d = files::first(&peer3, sizes.peer3);
+            let e = files::first(&peer4, sizes.peer4);
+            print::bad(asked::first_bad(a, b, c, d, e))
         }
         _ => print::reason(why),
     }
