@@ -14,6 +14,7 @@ pub mod FirstLaws
 pub mod SideLaws
 pub mod RankLaws
 pub mod FieldLaws
+pub mod PassLaws
 pub mod TurnLaws
 pub mod SameRecordLaws
 pub mod CountLaws

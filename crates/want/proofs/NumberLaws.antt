@@ -121,8 +121,8 @@ none-numbered told n = refl
 
 module _ {ts : List (List ℕ)} {ps : List ℕ} {file left : ℕ} (a : Ahead ts ps file left) {k : ℕ} {x : Outline} {past : List ℕ} (h : Headed ts ps 5 k x past) where
   -- no record is left
-  pub ahead-none : x ≡ O.Short → Numbered ts file k x
-  ahead-none e = record { small = h .small; told = λ n. ap (detailsFrom (tableAt ts k) k n) e ∙ sym (none (detailsIn (map records ts) n)) }
+  pub ahead-none : x ≡ O.Short → {m : ℕ} {y : Outline} → m < 5 → y ≡ O.Short → Numbered ts file m y
+  ahead-none e {m} s q = record { small = s; told = λ n. ap (detailsFrom (tableAt ts m) m n) q ∙ sym (none (detailsIn (map records ts) n)) }
     where
       none : (told : File → Details) → fileNumbered D.Nothing told file (mergedOf (map records ts)) ≡ D.Nothing
       none told = a .number told ∙ ap (fileNumbered D.Nothing told left) (turns-end (a .walk) (headed-lowest h) refl (h .fields-are) e) ∙ none-numbered told left
@@ -202,5 +202,5 @@ module _ {ts : List (List ℕ)} {ps : List ℕ} {file left : ℕ} (a : Ahead ts 
   ahead-here g e = go x refl
     where
       go : (y : Outline) → x ≡ y → Numbered ts file k x
-      go O.Short q = ahead-none q
+      go O.Short q = ahead-none q (h .small) q
       go (O.Whole f) q = first-numbered q (g .many) e

@@ -7,6 +7,7 @@ ghost use Rattle.want.specs.Steps.Entry.{detailsBy, Numbered};
 use crate::head::Head;
 use crate::head::next_head;
 use crate::list::all_good;
+use crate::pass::next_places;
 use record::BlockOutline;
 use record::Outline;
 use record::RecordFields;
@@ -34,18 +35,20 @@ fn numbered(tables: [&[u8]; 5], file: u32) -> Head
 {
     let mut places = [4; 5];
     let mut left = file;
-    loop {
-        let head = next_head(tables, places);
-        if left == 0 {
-            return head;
+    while left != 0 {
+        let passing = next_places(tables, places);
+        let past = passing.past;
+        if passing.ended {
+            return Head {
+                best: 0,
+                fields: Outline::Short,
+                past,
+            };
         }
-        let fields = head.fields;
-        let Outline::Whole(_) = fields else {
-            return head;
-        };
-        places = head.past;
+        places = past;
         left -= 1;
     }
+    next_head(tables, places)
 }
 
 // Block number `block` of a record of a table, by the record's fields.

@@ -5,6 +5,7 @@ pub mod fields;
 pub mod head;
 pub mod index;
 pub mod list;
+pub mod pass;
 pub mod peers;
 pub mod places;
 pub mod run;

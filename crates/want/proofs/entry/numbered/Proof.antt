@@ -1,10 +1,10 @@
 -- `want::entry::numbered` meets its contract.
-use mathlib.Core.List.{[], map}
+use mathlib.Core.List.{List, [], map}
+use mathlib.Core.Path.{refl}
 use native.Mathlib.Omega.{arith}
 use denote.Ref.{now}
 use lib.ListN.{getD}
 use Rattle.want.proofs.NumberLaws.{Ahead, ahead-starts, ahead-none, ahead-turn, ahead-here}
-use borrow.Author.Needs.{needs}
 use Rattle.want.proofs.entry.numbered.Statement.{statement}
 use Rattle.want.proofs.entry.numbered.Tie as tie
 
@@ -17,29 +17,28 @@ abbrev μ-loop : tie.MeasureT-loop
 loop-holds : tie.Need-loop-holds Inv-loop μ-loop
 loop-holds c = ahead-starts (map now (c .args .tables)) (c .args .file) (c .pre)
 
-next-head-requires : tie.Need-next-head-requires Inv-loop μ-loop
-next-head-requires c κs k s = let a = c .loop .inv in (getD (a .ls) k [], a .walk .here k s)
+next-places-requires : tie.Need-next-places-requires Inv-loop μ-loop
+next-places-requires c κs k s = let a = c .before .loop .inv in (getD (a .ls) k [], a .walk .here k s)
 
 returns : tie.Need-returns Inv-loop μ-loop
-returns c = ahead-here (c .before .before .loop .inv) (c .before .next-head .ensures) (c .before .before .before .pre) (c .if1 .taken)
-
-enum-told : tie.Need-enum-told Inv-loop μ-loop
-enum-told c = search needs
-
-enum-told-2 : tie.Need-enum-told-2 Inv-loop μ-loop
-enum-told-2 c = search needs
-
-returns-2 : tie.Need-returns-2 Inv-loop μ-loop
-returns-2 c = ahead-none (c .before .before .before .before .loop .inv) (c .before .before .before .next-head .ensures) (c .enum-told2 .given .1)
+returns c = let p = c .before .before .next-places .ensures in ahead-none (c .before .before .before .before .loop .inv) (p .headed) (p .none (c .if1 .taken)) (omega arith) refl
 
 sub-left : tie.Need-sub-left Inv-loop μ-loop
-sub-left c = omega (arith, c .before .before .before .if1 .left)
+sub-left c = omega (arith, c .before .before .before .loop-test .taken)
 
 loop-less : tie.Need-loop-less Inv-loop μ-loop
 loop-less c = omega (arith, sub-left c)
 
 loop-again : tie.Need-loop-again Inv-loop μ-loop
-loop-again c = ahead-turn (c .before .before .before .before .before .loop .inv) (c .before .before .before .before .next-head .ensures) (c .before .enum-told .given .1) (omega (arith, sub-left c))
+loop-again c =
+    let p = c .before .before .next-places .ensures in
+    ahead-turn (c .before .before .before .before .loop .inv) (p .headed) (p .some (c .if1 .left) .1) (omega (arith, sub-left c))
+
+next-head-requires : tie.Need-next-head-requires Inv-loop μ-loop
+next-head-requires c κs k s = let a = c .before .loop .inv in (getD (a .ls) k [], a .walk .here k s)
+
+returns-2 : tie.Need-returns-2 Inv-loop μ-loop
+returns-2 c = ahead-here (c .before .before .loop .inv) (c .next-head .ensures) (c .before .before .before .pre) (c .before .loop-test .left)
 
 pub numbered-spec : {M : Type 1} → statement M
 numbered-spec =
@@ -48,11 +47,10 @@ numbered-spec =
     Inv-loop
     μ-loop
     loop-holds
-    next-head-requires
+    next-places-requires
     returns
-    enum-told
-    enum-told-2
-    returns-2
     sub-left
     loop-less
-    loop-again)
+    loop-again
+    next-head-requires
+    returns-2)
