@@ -1,9 +1,10 @@
 # run: the request list of the tables in DIR      list: the records of the table in DIR      (an example's, where DIR isn't given)
+# why NAME=.. BLOCK=..: why a block of those tables isn't coming
 # show: what a sample message holds      cases: the worked cases, a line each      test: the whole gate
 # bench: library and reference side by side      soak N=..: that many generated inputs compared
 # install PREFIX=.. DESTDIR=..: header, library and pkg-config file      uninstall: takes them away
 # LIB=..: a library that is there already, instead of proving and building this one
-.PHONY: run list show cases test bench soak install uninstall
+.PHONY: run why list show cases test bench soak install uninstall
 SHELL := bash
 .SHELLFLAGS := -eu -o pipefail -c
 
@@ -21,6 +22,12 @@ target/bin/%: $(wildcard crates/*/src/*.rt)
 
 run: target/bin/wanted
 	@cd $(DIR) && $(CURDIR)/target/bin/wanted
+
+# The name reaches the program as it is, whatever a shell would make of it.
+why: export NAME = b
+why: export BLOCK = 1
+why: target/bin/why
+	@cd $(DIR) && $(CURDIR)/target/bin/why "$$NAME" "$$BLOCK"
 
 list: DIR = crates/listing/data
 list: target/bin/listing

@@ -1,7 +1,7 @@
-//! How long the library and the reference need for request lists, side by side.
+//! How long the library and the reference need for request lists and what belongs to them, side by side.
 //!
 //! The reference of a list looks held blocks up in a `HashSet`. The rows that say so are of the plain
-//! one, which searches the local table for each block, as that of `find_local` does.
+//! one, which searches the local table for each block, as those of `find_local` and `why` do.
 
 #[path = "../tests/reference/mod.rs"]
 mod reference;
@@ -13,7 +13,7 @@ use std::hint::black_box;
 use support::encode::{Block, File};
 use support::random::Random;
 use support::tables::encode;
-use timing::{compare, heading, keep};
+use timing::{compare, heading, keep, time_alone};
 
 /// Room for the largest list.
 const ROOM: usize = fordtrumpet::MAX_REQUEST_LIST;
@@ -33,6 +33,8 @@ fn main() {
     sizes();
     plain();
     finding();
+    reasons();
+    entries();
 }
 
 /// Four peers of 1,600 blocks each, all to be requested.
@@ -176,6 +178,101 @@ fn finding() {
     );
 }
 
+/// Why a block isn't coming, by five tables of 64 KB: of four large files each, and of 512 small ones.
+fn reasons() {
+    let local = files("local", 1600, 0, last_bytes);
+    let same = tables([&local, &local, &local, &local, &local]);
+    let strange = strangers(1600, last_bytes);
+    let last = Some((3, 399));
+    compare_why(
+        "why: 4 large files, held at the end",
+        &same,
+        "local 0003",
+        399,
+        last,
+    );
+    compare_why(
+        "why: 4 large files, wanted",
+        &strange,
+        "peer 4 0003",
+        399,
+        None,
+    );
+    compare_why("why: 4 large files, no such name", &strange, "z", 0, None);
+    let local = small(0, 0);
+    let same = tables([&local, &local, &local, &local, &local]);
+    let strange: Tables = std::array::from_fn(|table| encode(&small(table as u32, 0)));
+    let last = Some((511, 1));
+    compare_why(
+        "why: 512 small files, held at the end",
+        &same,
+        "file 0511 of table 0",
+        1,
+        last,
+    );
+    compare_why(
+        "why: 512 small files, wanted",
+        &strange,
+        "file 0511 of table 4",
+        1,
+        None,
+    );
+    compare_why("why: 512 small files, no such name", &strange, "z", 0, None);
+}
+
+/// What the last entry of a list stands for, and a whole list gone through with names and hashes. The
+/// local table has the records of the first peer.
+fn entries() {
+    let large: [Vec<File>; 4] =
+        [1, 2, 3, 4].map(|peer| files(&format!("peer {peer}"), 1600, PEERS * peer, last_bytes));
+    let [a, b, c, d] = &large;
+    compare_details(
+        "details: the last of 16 large files",
+        &tables([a, a, b, c, d]),
+        15,
+        399,
+    );
+    let small: [Vec<File>; 4] = [0, 1, 2, 3].map(|peer| small(peer, PEERS));
+    let [a, b, c, d] = &small;
+    compare_details(
+        "details: the first of 2,048 small files",
+        &tables([a, a, b, c, d]),
+        0,
+        0,
+    );
+    compare_details(
+        "details: the last of 2,048 small files",
+        &tables([a, a, b, c, d]),
+        2047,
+        1,
+    );
+    go_through(
+        "list: going through 16 large files",
+        &tables([&[], &large[0], &large[1], &large[2], &large[3]]),
+        6400,
+    );
+    go_through(
+        "list: going through 2,048 small files",
+        &tables([&[], a, b, c, d]),
+        4096,
+    );
+}
+
+/// 512 files of two blocks, with names of their table.
+fn small(table: u32, first: u32) -> Vec<File> {
+    (0..512)
+        .map(|number| File {
+            blocks: [0, 1]
+                .map(|block| Block {
+                    length: 131_072,
+                    hash: last_bytes(first + 1024 * table + 2 * number + block),
+                })
+                .to_vec(),
+            ..file(format!("file {number:04} of table {table}"))
+        })
+        .collect()
+}
+
 /// Hashes that differ in the last bytes.
 fn last_bytes(number: u32) -> Hash {
     let mut hash = [0xA7; 32];
@@ -298,4 +395,75 @@ fn compare_finding(what: &str, table: &[u8], hash: &Hash) {
         |_| keep(&library(black_box(table), 131_072, hash)),
         |_| keep(&reference(black_box(table), 131_072, hash)),
     );
+}
+
+type Why = fn([&[u8]; 5], &[u8], u32) -> Option<(u32, u32)>;
+
+/// The block is held here, or isn't.
+fn compare_why(what: &str, tables: &Tables, name: &str, block: u32, held: Option<(u32, u32)>) {
+    let tables = tables.each_ref().map(|table| &table[..]);
+    let name = name.as_bytes();
+    let library: Why = black_box(|[local, peers @ ..], name, block| {
+        match fordtrumpet::raw::why(local, peers, name, block) {
+            Ok(fordtrumpet::Reason::Held { record, block }) => Some((record, block)),
+            _ => None,
+        }
+    });
+    let reference: Why =
+        black_box(
+            |tables, name, block| match reference::why(tables, name, block) {
+                Ok(reference::Reason::Held { record, block }) => Some((record, block)),
+                _ => None,
+            },
+        );
+    for answer in [library, reference].map(|why| why(tables, name, block)) {
+        assert_eq!(answer, held, "{what}");
+    }
+    compare(
+        what,
+        &mut [],
+        |_| keep(&library(black_box(tables), name, block)),
+        |_| keep(&reference(black_box(tables), name, block)),
+    );
+}
+
+/// The table, the offset and the length.
+type Details = fn([&[u8]; 5], u32, u32) -> Option<(usize, u64, u32)>;
+
+fn compare_details(what: &str, tables: &Tables, file: u32, block: u32) {
+    let tables = tables.each_ref().map(|table| &table[..]);
+    let library: Details = black_box(|[local, peers @ ..], file, block| {
+        let found = fordtrumpet::raw::details(local, peers, file, block).ok()??;
+        Some((found.table, found.offset, found.length))
+    });
+    let reference: Details = black_box(|tables, file, block| {
+        let found = reference::details(tables, file, block).ok()??;
+        Some((found.table, found.offset, found.length))
+    });
+    let answer = library(tables, file, block);
+    assert!(
+        answer.is_some() && answer == reference(tables, file, block),
+        "{what}"
+    );
+    compare(
+        what,
+        &mut [],
+        |_| keep(&library(black_box(tables), file, block)),
+        |_| keep(&reference(black_box(tables), file, block)),
+    );
+}
+
+/// Goes through a list that is made already, so many blocks with names and hashes, by the library alone.
+fn go_through(what: &str, tables: &Tables, blocks: usize) {
+    let [local, peers @ ..] = tables.each_ref().map(|table| &table[..]);
+    let mut out = vec![0; ROOM];
+    let list = fordtrumpet::raw::request_list(local, peers, &mut out).unwrap();
+    assert_eq!(list.len(), blocks, "{what}");
+    time_alone(what, &mut [], |_| {
+        let bytes: usize = black_box(&list)
+            .iter()
+            .map(|wanted| wanted.name.len() + usize::from(wanted.hash[31]))
+            .sum();
+        keep(&bytes);
+    });
 }

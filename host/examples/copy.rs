@@ -79,14 +79,33 @@ pub fn exchange(folder: Folder, stream: TcpStream) -> io::Result<Report> {
     })
 }
 
+/// A block to ask for, as the request list has it.
+struct Ask {
+    name: String,
+    offset: u64,
+    length: u32,
+    hash: [u8; 32],
+}
+
+impl From<Wanted<'_>> for Ask {
+    fn from(wanted: Wanted) -> Self {
+        Ask {
+            name: wanted.name.to_string(),
+            offset: wanted.offset,
+            length: wanted.length,
+            hash: *wanted.hash,
+        }
+    }
+}
+
 struct Device<'a> {
     folder: Folder,
     stream: &'a TcpStream,
     queue: RequestQueue,
     /// The blocks to ask for. As many as the queue has, from the front, are asked for already.
-    asks: VecDeque<Wanted>,
-    /// The files that are put together, by their numbers in the merged table.
-    incoming: BTreeMap<u32, Incoming>,
+    asks: VecDeque<Ask>,
+    /// The files that are put together, by their names.
+    incoming: BTreeMap<String, Incoming>,
     /// How many Indexes came.
     indexes: u32,
     report: Report,
@@ -131,30 +150,30 @@ impl Device<'_> {
         let (ours, none) = (self.folder.ours(), Table::EMPTY);
         let (mut theirs, mut merged) = (vec![0; MAX_TABLE], vec![0; MAX_TABLE]);
         let theirs = accept(none, index, REPOSITORY, &mut theirs)?;
-        for (number, new) in merge(ours, theirs, &mut merged)? {
+        for (_, new) in merge(ours, theirs, &mut merged)? {
             let held = ours.find(new.name).is_some_and(|(_, old)| old == new);
             if held || new.flags.is_deleted() || new.flags.is_invalid() {
                 continue;
             }
             match self.folder.begin(&new) {
-                Ok(file) => drop(self.incoming.insert(number as u32, file)),
+                Ok(file) => drop(self.incoming.insert(new.name.to_string(), file)),
                 Err(why) => self.report.note(new.name, Err(why)),
             }
         }
         let mut list = vec![0; MAX_REQUEST_LIST];
         let list = request_list(ours, [theirs, none, none, none], &mut list)?;
-        let begun = |wanted: &Wanted| self.incoming.contains_key(&wanted.file);
-        self.asks = list.iter().filter(begun).collect();
+        let begun = |wanted: &Wanted| self.incoming.contains_key(wanted.name);
+        self.asks = list.iter().filter(begun).map(Ask::from).collect();
         self.indexes = 1;
         Ok(())
     }
 
     /// Asks for as much as may be outstanding; the rest waits for answers.
     fn ask(&mut self) -> io::Result<()> {
-        while let Some(wanted) = self.asks.get(self.queue.outstanding()) {
-            let (file, queue) = (&self.incoming[&wanted.file], &mut self.queue);
-            let (offset, length, hash) = (wanted.offset, wanted.length, file.hash(wanted.block));
-            match queue.issue(REPOSITORY, &file.name, offset, length, hash, &mut self.out) {
+        while let Some(ask) = self.asks.get(self.queue.outstanding()) {
+            let (name, offset, length) = (&ask.name, ask.offset, ask.length);
+            let (queue, out) = (&mut self.queue, &mut self.out);
+            match queue.issue(REPOSITORY, name, offset, length, &ask.hash, out) {
                 Ok(issued) => self.stream.write_all(&self.out[..issued.written])?,
                 Err(Refusal::WindowFull | Refusal::AllowanceFull) => break,
                 Err(refusal) => return Err(refusal.into()),
@@ -183,12 +202,12 @@ impl Device<'_> {
     /// Keeps a block that was asked for, if it is the right one.
     fn keep(&mut self, response: &[u8]) -> io::Result<()> {
         let outcome = self.queue.answer(response)?.outcome;
-        let wanted = self.asks.pop_front().expect("the queue has it too");
-        let file = self.incoming.get_mut(&wanted.file).expect("it was begun");
+        let ask = self.asks.pop_front().expect("the queue has it too");
+        let file = self.incoming.get_mut(&ask.name).expect("it was begun");
         match outcome {
-            Outcome::Data(data) if sha256::sha256(data) == *file.hash(wanted.block) => {
+            Outcome::Data(data) if sha256::sha256(data) == ask.hash => {
                 self.report.received += data.len();
-                file.write(wanted.offset, data)?;
+                file.write(ask.offset, data)?;
             }
             Outcome::Data(_) => file.fault = Some("a block isn't what its hash says"),
             Outcome::NotAvailable => file.fault = Some("a block isn't available"),

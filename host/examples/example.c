@@ -1,6 +1,6 @@
 /*
  * Takes the messages of a peer out of a buffer, merges the table that they bring with our own, and
- * prints what there is and which blocks are to be requested.
+ * prints what there is, which blocks are to be requested, and why one isn't.
  *
  *   cc example.c $(pkg-config --cflags --libs fordtrumpet) -o example
  *
@@ -115,23 +115,63 @@ static int show(const struct table *table)
     return 0;
 }
 
-/* What to request of the one peer. */
-static int want(const struct table *peer)
+/* Our table and those of four peers, of which one is there. */
+struct tables {
+    const uint8_t *at[5];
+    size_t length[5];
+};
+
+/* In calls: each table is a slice. */
+#define TABLE(t, i) (t)->at[i], (t)->length[i]
+#define FIVE(t) TABLE(t, 0), TABLE(t, 1), TABLE(t, 2), TABLE(t, 3), TABLE(t, 4)
+
+/* From an entry of the list to the Request that asks for its block. */
+static int ask(const struct tables *tables, const struct bep_wanted *wanted)
+{
+    uint8_t request[BEP_MAX_REQUEST];
+    uint64_t details[BEP_DETAILS_WORDS];
+    uint64_t written[1];
+    const uint8_t *table;
+    uint32_t number = bep_details(FIVE(tables), wanted->file, wanted->block, details);
+
+    if (number != BEP_ACCEPTED)
+        return refused(number, 0);
+    table = tables->at[details[BEP_DETAILS_TABLE]];
+    number = bep_write_request(request, sizeof request, 0, repository, sizeof repository,
+                               table + details[BEP_DETAILS_NAME_AT],
+                               (size_t)details[BEP_DETAILS_NAME_LENGTH], wanted->offset,
+                               wanted->length, table + details[BEP_DETAILS_HASH_AT],
+                               BEP_HASH_BYTES, written);
+    if (number != BEP_ACCEPTED)
+        return refused(number, written[BEP_PLACE]);
+    printf("ask peer %" PRIu32 " for %" PRIu32 " bytes of %.*s at %" PRIu64 ": %" PRIu64
+           " bytes\n", wanted->peer, wanted->length, (int)details[BEP_DETAILS_NAME_LENGTH],
+           (const char *)table + details[BEP_DETAILS_NAME_AT], wanted->offset,
+           written[BEP_WRITTEN]);
+    return 0;
+}
+
+/* What to request, and why "b" isn't coming. */
+static int want(const struct tables *tables)
 {
     static uint8_t list[BEP_MAX_REQUEST_LIST];
+    static const uint8_t name[] = {'b'};
     uint64_t written[1];
-    uint32_t number = bep_request_list(list, sizeof list, ours, sizeof ours,
-                                       peer->bytes, peer->length, empty, sizeof empty,
-                                       empty, sizeof empty, empty, sizeof empty, written);
+    uint64_t why[BEP_WHY_WORDS];
+    uint32_t number = bep_request_list(list, sizeof list, FIVE(tables), written);
 
     if (number != BEP_ACCEPTED)
         return refused(number, written[BEP_PLACE]);
     for (size_t i = 0; i < written[BEP_WRITTEN] / BEP_LIST_ENTRY_BYTES; i++) {
         struct bep_wanted wanted = bep_list_entry(list, i);
 
-        printf("ask peer %" PRIu32 " for %" PRIu32 " bytes of file %" PRIu32 " at %" PRIu64 "\n",
-               wanted.peer, wanted.length, wanted.file, wanted.offset);
+        if (ask(tables, &wanted))
+            return 1;
     }
+    number = bep_why(FIVE(tables), name, sizeof name, 0, why);
+    if (number != BEP_ACCEPTED)
+        return refused(number, 0);
+    printf("block 0 of b: %s\n", bep_reason_text(why[BEP_WHY_REASON]));
     return 0;
 }
 
@@ -140,6 +180,7 @@ int main(void)
     static struct table peer;
     static struct table merged;
     static uint8_t buffer[BEP_MAX_TABLE_INDEX];
+    struct tables tables = {{ours, peer.bytes, empty, empty, empty}, {sizeof ours, 4, 4, 4, 4}};
     uint64_t written[1];
     uint32_t number;
     size_t length;
@@ -153,5 +194,6 @@ int main(void)
     if (number != BEP_ACCEPTED)
         return refused(number, written[BEP_PLACE]);
     merged.length = (size_t)written[BEP_WRITTEN];
-    return show(&merged) || want(&peer);
+    tables.length[1] = peer.length;
+    return show(&merged) || want(&tables);
 }

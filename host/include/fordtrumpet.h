@@ -522,6 +522,84 @@ static inline struct bep_wanted bep_list_entry(const uint8_t *list, size_t numbe
     return wanted;
 }
 
+/*
+ * The words of what an entry stands for. AT is a place in the table that the first word tells:
+ * there the newest record of the file is, and the first is told where several tables have it.
+ */
+enum {
+    BEP_DETAILS_TABLE = 0,              /* 0 is the local table, 1 to 4 are the peers' */
+    BEP_DETAILS_NAME_AT = 1,
+    BEP_DETAILS_NAME_LENGTH = 2,
+    BEP_DETAILS_OFFSET = 3,
+    BEP_DETAILS_LENGTH = 4,
+    BEP_DETAILS_HASH_AT = 5,            /* BEP_HASH_BYTES; those of the file's next block begin
+                                           BEP_BLOCK_BYTES further on */
+    BEP_DETAILS_WORDS = 6
+};
+
+/*
+ * From an entry to a Request: the name, the offset, the Length and the hash, by the numbers of the
+ * entry's file and block and the tables that the list was made of. It answers for any block of the
+ * newest record of any name, listed or not. Returns 1 and all zeros where no file or no block has
+ * that number; 15 and all zeros where a table isn't good.
+ */
+BEP_CHECKED uint32_t bep_details(const uint8_t *local, size_t local_len,
+                                 const uint8_t *peer1, size_t peer1_len,
+                                 const uint8_t *peer2, size_t peer2_len,
+                                 const uint8_t *peer3, size_t peer3_len,
+                                 const uint8_t *peer4, size_t peer4_len,
+                                 uint32_t file, uint32_t block,
+                                 uint64_t answer[BEP_DETAILS_WORDS]);
+
+/* The words of why a block isn't coming. */
+enum {
+    BEP_WHY_REASON = 0,
+
+    BEP_WHY_RECORD = 1,                 /* held: the local record's number, from 0 */
+    BEP_WHY_BLOCK = 2,                  /* and that of its block, from 0 */
+
+    BEP_WHY_PEER = 1,                   /* wanted: the peer to ask, 1 to 4 */
+
+    BEP_WHY_WORDS = 3
+};
+
+/* The reasons. Each is given exactly when it is the first that is true. */
+enum {
+    BEP_REASON_NO_SUCH_NAME = 1,        /* the name is in no table */
+    BEP_REASON_DELETED = 2,             /* its newest record is deleted */
+    BEP_REASON_INVALID = 3,             /* it is invalid */
+    BEP_REASON_NO_SUCH_BLOCK = 4,       /* it has no block of that number */
+    BEP_REASON_HELD = 5,                /* a valid, undeleted local record has that length and
+                                           hash: the first such record and block are told */
+    BEP_REASON_WANTED = 6               /* the request list has the block, with that peer */
+};
+
+/* A reason in plain words. */
+static inline const char *bep_reason_text(uint64_t reason)
+{
+    switch (reason) {
+    case BEP_REASON_NO_SUCH_NAME: return "no such name";
+    case BEP_REASON_DELETED: return "deleted";
+    case BEP_REASON_INVALID: return "invalid";
+    case BEP_REASON_NO_SUCH_BLOCK: return "no such block";
+    case BEP_REASON_HELD: return "held";
+    case BEP_REASON_WANTED: return "wanted";
+    default: return "unknown reason";
+    }
+}
+
+/*
+ * Why a block isn't coming: the first reason that is true of a name and a block number, from 0. The
+ * name is held to no rule. Unused words are 0. Returns 15 and all zeros where a table isn't good.
+ */
+BEP_CHECKED uint32_t bep_why(const uint8_t *local, size_t local_len,
+                             const uint8_t *peer1, size_t peer1_len,
+                             const uint8_t *peer2, size_t peer2_len,
+                             const uint8_t *peer3, size_t peer3_len,
+                             const uint8_t *peer4, size_t peer4_len,
+                             const uint8_t *name, size_t name_len, uint32_t block,
+                             uint64_t answer[BEP_WHY_WORDS]);
+
 /* The words of a search. */
 enum {
     BEP_FIND_FOUND = 0,                 /* 1, or 0 and so are all others */

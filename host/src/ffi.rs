@@ -259,6 +259,48 @@ unsafe extern "C" {
         answer: *mut [u64; 1],
     ) -> u32;
 
+    /// Why a block of a name isn't coming, by a local table and four peers'. `answer[0]` is the reason: 1 no
+    /// such name, 2 deleted, 3 invalid, 4 no such block, 5 held, 6 wanted. Held, `[1]` is the number of the
+    /// local record and `[2]` that of its block, from 0; wanted, `[1]` is the peer, 1 to 4. Unused words are
+    /// 0, and all are where a table isn't good (15).
+    pub fn bep_why(
+        local: *const u8,
+        local_len: usize,
+        peer1: *const u8,
+        peer1_len: usize,
+        peer2: *const u8,
+        peer2_len: usize,
+        peer3: *const u8,
+        peer3_len: usize,
+        peer4: *const u8,
+        peer4_len: usize,
+        name: *const u8,
+        name_len: usize,
+        block: u32,
+        answer: *mut [u64; 3],
+    ) -> u32;
+
+    /// What an entry of a request list stands for, by its file and its block. `answer[0]` is the table that
+    /// has the file's newest record, 0 the local one or 1 to 4 the peers', the first where several have it;
+    /// `[1]` and `[2]` are start and length of the name there, `[3]` the block's offset, `[4]` its length and
+    /// `[5]` the start of its hash there. Gives 1 and zeros where no file or no block has that number; 15 and
+    /// zeros where a table isn't good.
+    pub fn bep_details(
+        local: *const u8,
+        local_len: usize,
+        peer1: *const u8,
+        peer1_len: usize,
+        peer2: *const u8,
+        peer2_len: usize,
+        peer3: *const u8,
+        peer3_len: usize,
+        peer4: *const u8,
+        peer4_len: usize,
+        file: u32,
+        block: u32,
+        answer: *mut [u64; 6],
+    ) -> u32;
+
     /// Where a table first lists a block: `answer[0]` is 1, `[1]` the record's number and `[2]` the
     /// block's, from 0; or all are 0.
     pub fn bep_find(

@@ -15,6 +15,9 @@
 //! sends. [`merge`] puts the newest records of two tables together, and whatever order tables are
 //! merged in, the result is the same.
 //!
+//! [`request_list`] tells which blocks to ask for, from whom, and with what: each [`Wanted`] has the name
+//! and the hash that go into its Request. [`why`] tells of any block why it isn't in the list.
+//!
 //! A [`RequestQueue`] keeps the requests of a link that aren't answered yet.
 //!
 //! An old edition of the protocol has no Repository in Index, IndexUpdate and Request, and no Options.
@@ -107,6 +110,7 @@ mod sizes;
 mod table;
 mod walker;
 mod want;
+mod why;
 mod write;
 
 pub use builders::{FilesBuilder, OptionsBuilder};
@@ -129,7 +133,11 @@ pub use sizes::{
     MAX_REQUEST, MAX_RESPONSE, MAX_TABLE_INDEX, PING, REPLY,
 };
 pub use table::{accept, compare, merge, Table, TableBuf, TableError, MAX_RECORDS, MAX_TABLE};
-pub use want::{find_local, request_list, RequestList, RequestListIter, Wanted, MAX_REQUEST_LIST};
+pub use want::{
+    details, find_local, request_list, Details, RequestList, RequestListIter, Wanted,
+    MAX_REQUEST_LIST,
+};
+pub use why::{why, Reason};
 pub use write::{
     write_index, write_index_update, write_options, write_ping, write_pong, write_request,
     write_response,

@@ -8,7 +8,7 @@
 //! ```
 
 use crate::answer::{size, text, word, written};
-use crate::{ffi, Refusal, RequestList, Serving};
+use crate::{ffi, Details, Reason, Refusal, RequestList, Serving};
 
 pub use crate::walker::Walker;
 
@@ -131,7 +131,7 @@ pub fn accept(
 ///
 /// ```
 /// use fordtrumpet::raw::request_list;
-/// use fordtrumpet::{Block, FilesBuilder, Flags, Wanted};
+/// use fordtrumpet::{Block, FilesBuilder, Flags};
 ///
 /// let (first, second) = ([1; 32], [2; 32]);
 /// let (mut local, mut peer) = (FilesBuilder::new(), FilesBuilder::new());
@@ -142,15 +142,15 @@ pub fn accept(
 /// let peers: [&[u8]; 4] = [b"\0\0\0\0", peer.as_bytes(), b"\0\0\0\0", b"\0\0\0\0"];
 /// let mut out = [0; 1000];
 /// let list = request_list(local.as_bytes(), peers, &mut out)?;
-/// let wanted = Wanted { file: 1, block: 1, offset: 131_072, length: 5, peer: 2 };
-/// assert!(list.iter().eq([wanted]));
+/// let wanted = list.iter().next().unwrap();
+/// assert_eq!((wanted.name, wanted.block, wanted.peer), ("b", 1, 2));
 /// # Ok::<(), fordtrumpet::Refusal>(())
 /// ```
-pub fn request_list<'a>(
-    local: &[u8],
-    peers: [&[u8]; 4],
-    out: &'a mut [u8],
-) -> Result<RequestList<'a>, Refusal> {
+pub fn request_list<'o, 't>(
+    local: &'t [u8],
+    peers: [&'t [u8]; 4],
+    out: &'o mut [u8],
+) -> Result<RequestList<'o, 't>, Refusal> {
     let [peer1, peer2, peer3, peer4] = peers;
     let mut answer = [0];
     // SAFETY: each pointer and length are those of one slice, `out` is borrowed for this call alone,
@@ -173,7 +173,147 @@ pub fn request_list<'a>(
         )
     };
     let len = written(number, answer)?;
-    Ok(RequestList::new(&out[..len]))
+    Ok(RequestList::new(&out[..len], local, peers))
+}
+
+/// What a block is to be asked for with, by the numbers of an entry of a request list and the tables
+/// that the list was made of.
+///
+/// `file` counts the names of all five tables, and `block` the blocks of the file's newest record, both
+/// from 0. There are details of every such block, listed or not, and `None` where no file or no block has
+/// that number.
+///
+/// # Errors
+///
+/// 15 if one of the five isn't a good table.
+///
+/// ```
+/// use fordtrumpet::raw::details;
+/// use fordtrumpet::{Block, FilesBuilder, Flags, Refusal};
+///
+/// let hash = [7; 32];
+/// let mut peer = FilesBuilder::new();
+/// peer.push("a", Flags(0), 0, 0, [Block { length: 9, hash: &hash }]);
+///
+/// let mut peers: [&[u8]; 4] = [b"\0\0\0\0", peer.as_bytes(), b"\0\0\0\0", b"\0\0\0\0"];
+/// let found = details(b"\0\0\0\0", peers, 0, 0)?.unwrap();
+/// assert_eq!((found.table, found.name, found.hash), (2, "a", &hash));
+/// assert_eq!(details(b"\0\0\0\0", peers, 1, 0), Ok(None));
+/// peers[3] = b"";
+/// assert_eq!(details(b"\0\0\0\0", peers, 0, 0), Err(Refusal::BadTable));
+/// # Ok::<(), Refusal>(())
+/// ```
+pub fn details<'t>(
+    local: &'t [u8],
+    peers: [&'t [u8]; 4],
+    file: u32,
+    block: u32,
+) -> Result<Option<Details<'t>>, Refusal> {
+    let found = details_at(local, peers, file, block)?;
+    Ok(found.map(|(details, _)| details))
+}
+
+/// As [`details`], with the place of the hash in its table.
+pub(crate) fn details_at<'t>(
+    local: &'t [u8],
+    peers: [&'t [u8]; 4],
+    file: u32,
+    block: u32,
+) -> Result<Option<(Details<'t>, usize)>, Refusal> {
+    let [peer1, peer2, peer3, peer4] = peers;
+    let mut answer = [0; 6];
+    // SAFETY: each pointer and length are those of one slice, and the answer has the size asked for.
+    let number = unsafe {
+        ffi::bep_details(
+            local.as_ptr(),
+            local.len(),
+            peer1.as_ptr(),
+            peer1.len(),
+            peer2.as_ptr(),
+            peer2.len(),
+            peer3.as_ptr(),
+            peer3.len(),
+            peer4.as_ptr(),
+            peer4.len(),
+            file,
+            block,
+            &mut answer,
+        )
+    };
+    let [table, name, name_len, offset, length, hash] = answer;
+    match number {
+        0 => {
+            let (table, hash_at) = (size(table), size(hash));
+            let bytes = [local, peer1, peer2, peer3, peer4][table];
+            let hash = bytes[hash_at..].first_chunk();
+            let details = Details {
+                table,
+                name: text(bytes, name, name_len),
+                offset,
+                length: word(length),
+                hash: hash.expect("a hash has 32 bytes"),
+            };
+            Ok(Some((details, hash_at)))
+        }
+        1 => Ok(None),
+        _ => Err(Refusal::new(number, 0)),
+    }
+}
+
+/// Why a block isn't coming: the first reason that is true of it.
+///
+/// `block` counts the blocks of the name's newest record over the five tables, from 0. The name is held
+/// to no rule.
+///
+/// # Errors
+///
+/// 15 if one of the five isn't a good table.
+///
+/// ```
+/// use fordtrumpet::raw::why;
+/// use fordtrumpet::{FilesBuilder, Flags, Reason, Refusal};
+///
+/// let mut peer = FilesBuilder::new();
+/// peer.push("a", Flags::DELETED, 0, 0, []);
+///
+/// let mut peers: [&[u8]; 4] = [b"\0\0\0\0", peer.as_bytes(), b"\0\0\0\0", b"\0\0\0\0"];
+/// assert_eq!(why(b"\0\0\0\0", peers, "a", 0), Ok(Reason::Deleted));
+/// assert_eq!(why(b"\0\0\0\0", peers, b"\xFF", 0), Ok(Reason::NoSuchName));
+/// peers[3] = b"";
+/// assert_eq!(why(b"\0\0\0\0", peers, "a", 0), Err(Refusal::BadTable));
+/// ```
+pub fn why(
+    local: &[u8],
+    peers: [&[u8]; 4],
+    name: impl AsRef<[u8]>,
+    block: u32,
+) -> Result<Reason, Refusal> {
+    let [peer1, peer2, peer3, peer4] = peers;
+    let name = name.as_ref();
+    let mut answer = [0; 3];
+    // SAFETY: each pointer and length are those of one slice, and the answer has the size asked for.
+    let number = unsafe {
+        ffi::bep_why(
+            local.as_ptr(),
+            local.len(),
+            peer1.as_ptr(),
+            peer1.len(),
+            peer2.as_ptr(),
+            peer2.len(),
+            peer3.as_ptr(),
+            peer3.len(),
+            peer4.as_ptr(),
+            peer4.len(),
+            name.as_ptr(),
+            name.len(),
+            block,
+            &mut answer,
+        )
+    };
+    match number {
+        0 => Ok(Reason::new(answer)),
+        _ => Err(Refusal::new(number, 0)),
+    }
 }
 
 /// The first record of a table, and its first block, with this length and hash, both from 0.

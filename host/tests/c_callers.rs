@@ -64,11 +64,49 @@ fn show_with(program: &Path, options: &[&str], message: &[u8]) -> String {
     run(Command::new(program).args(options).arg(&input))
 }
 
+/// An example in C of the README, by its number from 0.
+fn readme_example(number: usize) -> String {
+    let readme = fs::read_to_string(Path::new(MANIFEST).join("../README.md")).unwrap();
+    let mut examples = readme.split("```c\n").skip(1);
+    let example = examples.nth(number).expect("an example in C");
+    let (example, _) = example.split_once("```").unwrap();
+    example.to_string()
+}
+
+#[test]
+fn the_readme_compiles_and_writes_a_request() {
+    let example = readme_example(1);
+    let caller = "
+#include <stdio.h>
+int main(void)
+{
+    /* the peer has \"n\" with a block of 5 bytes */
+    static const uint8_t none[4] = {0}, theirs[72] = {
+        0, 0, 0, 1, 0, 0, 0, 1, 'n', 0, 0, 0, 0, 0, 1, 0xA4, 0, 0, 0, 0, 0, 0, 0, 9, 0, 0, 0, 3,
+        0, 0, 0, 1, 0, 0, 0, 5, 0, 0, 0, 32, 1, 2, 3, 4, 5, 6, 7, 8
+    };
+    uint8_t list[BEP_LIST_ENTRY_BYTES], out[BEP_MAX_REQUEST];
+    uint64_t written[1];
+    if (bep_request_list(list, sizeof list, none, 4, theirs, 72, none, 4, none, 4, none, 4, written))
+        return 1;
+    size_t length = request(bep_list_entry(list, 0), none, 4, theirs, 72, out);
+    for (size_t i = 0; i < length; i++)
+        printf(\"%02x\", out[i]);
+    return 0;
+}
+";
+    let printed = run_text("readme_request", &format!("{example}{caller}"));
+    let mut hash = [0; 32];
+    hash[..8].copy_from_slice(&[1, 2, 3, 4, 5, 6, 7, 8]);
+    let mut out = [0; MAX_REQUEST];
+    let length = write_request(0, "default", "n", 0, 5, &hash, &mut out).unwrap();
+    let hex = out[..length].iter().map(|byte| format!("{byte:02x}"));
+    assert_eq!(printed, hex.collect::<String>());
+}
+
 #[test]
 fn the_readme_compiles_and_takes_messages() {
-    let readme = fs::read_to_string(Path::new(MANIFEST).join("../README.md")).unwrap();
-    let (_, example) = readme.split_once("```c\n").expect("an example in C");
-    let (example, _) = example.split_once("```").unwrap();
+    let example = readme_example(0);
     let caller = "
 int main(void)
 {
@@ -288,6 +326,41 @@ fn the_header_has_the_refusals_and_their_sentences() {
 }
 
 #[test]
+fn the_header_has_the_reasons_and_their_words() {
+    let reasons = [
+        (Reason::NoSuchName, "NO_SUCH_NAME"),
+        (Reason::Deleted, "DELETED"),
+        (Reason::Invalid, "INVALID"),
+        (Reason::NoSuchBlock, "NO_SUCH_BLOCK"),
+        (
+            Reason::Held {
+                record: 0,
+                block: 0,
+            },
+            "HELD",
+        ),
+        (Reason::Wanted { peer: 1 }, "WANTED"),
+    ];
+    let mut text =
+        "#include <stdio.h>\n#include \"fordtrumpet.h\"\nint main(void)\n{\n".to_string();
+    let mut expected = String::new();
+    for (number, (reason, name)) in (1..).zip(reasons) {
+        let name = format!("BEP_REASON_{name}");
+        text += &format!("    printf(\"%d %s\\n\", {name}, bep_reason_text({name}));\n");
+        // In Rust the numbers that come with a reason are told too.
+        let words = reason.to_string();
+        let words = words
+            .split([' '])
+            .take_while(|&word| word != "by" && word != "from");
+        let words: Vec<&str> = words.collect();
+        expected += &format!("{number} {}\n", words.join(" "));
+    }
+    text += "    puts(bep_reason_text(0));\n    puts(bep_reason_text(7));\n    return 0;\n}\n";
+    expected += "unknown reason\nunknown reason\n";
+    assert_eq!(run_text("reasons", &text), expected);
+}
+
+#[test]
 fn the_header_has_the_sizes_and_the_version() {
     let hash = [7; 32];
     let block = Block {
@@ -445,7 +518,8 @@ fn the_example_needs_only_what_is_installed() {
              2 bytes wait for more\n\
              a: version 2, 1 blocks\n\
              b: version 0, deleted\n\
-             ask peer 1 for 5 bytes of file 0 at 0\n"
+             ask peer 1 for 5 bytes of a at 0: 72 bytes\n\
+             block 0 of b: deleted\n"
         );
         assert_eq!(run(&mut Command::new(elsewhere.join("example"))), expected);
     }

@@ -3,7 +3,7 @@
 mod reference;
 mod support;
 
-use reference::Edition;
+use reference::{Edition, Reason};
 use std::fmt;
 use std::io::Write;
 use support::case_file::{bytes, cases, number, Case};
@@ -16,6 +16,7 @@ use support::queue_calls::{
     answered_words, queue_of, words_of, Wanted, Words as Queue, QUEUE_CALLS,
 };
 use support::table_calls::TABLE_CALLS;
+use support::why_calls::{self, details_words};
 
 /// What a call answers.
 #[derive(Debug, PartialEq, Eq)]
@@ -36,6 +37,10 @@ enum Answer {
     RefusedWith(u32),
     /// What each run of bytes gets.
     Runs(Vec<Run>),
+    /// Why a block isn't coming.
+    Why(Reason),
+    /// The entries of a request list: file, block, offset, length, peer.
+    Entries(Vec<[u64; 5]>),
 }
 
 /// What a run of bytes gets, and how many of its bytes are taken.
@@ -68,6 +73,19 @@ impl fmt::Display for Answer {
                 let runs: Vec<String> = runs.iter().map(Run::to_string).collect();
                 f.write_str(&runs.join(" "))
             }
+            Answer::Why(Reason::NoSuchName) => f.write_str("no-name"),
+            Answer::Why(Reason::Deleted) => f.write_str("deleted"),
+            Answer::Why(Reason::Invalid) => f.write_str("invalid"),
+            Answer::Why(Reason::NoSuchBlock) => f.write_str("no-block"),
+            Answer::Why(Reason::Held { record, block }) => write!(f, "held {record} {block}"),
+            Answer::Why(Reason::Wanted { peer }) => write!(f, "wanted {peer}"),
+            Answer::Entries(entries) => {
+                f.write_str("yes")?;
+                entries.iter().try_for_each(|entry| {
+                    let words = entry.map(|word| word.to_string());
+                    write!(f, " {}", words.join(","))
+                })
+            }
         }
     }
 }
@@ -93,9 +111,30 @@ fn run_answer(word: &str) -> Result<Run, String> {
     })
 }
 
+/// The entry of a request list that a case asks for.
+fn list_entry(word: &str) -> Result<[u64; 5], String> {
+    let words: Result<Vec<u64>, _> = word.split(',').map(number).collect();
+    <[u64; 5]>::try_from(words?).map_err(|_| format!("{word} is no entry of a list"))
+}
+
 /// The answer that a case asks for.
 fn answer(words: &[&str]) -> Result<Answer, String> {
     Ok(match *words {
+        ["yes", ref entries @ ..] if entries.iter().any(|word| word.contains(',')) => {
+            let entries: Result<_, _> = entries.iter().map(|word| list_entry(word)).collect();
+            Answer::Entries(entries?)
+        }
+        ["no-name"] => Answer::Why(Reason::NoSuchName),
+        ["deleted"] => Answer::Why(Reason::Deleted),
+        ["invalid"] => Answer::Why(Reason::Invalid),
+        ["no-block"] => Answer::Why(Reason::NoSuchBlock),
+        ["held", record, block] => {
+            let (record, block) = (number(record)?, number(block)?);
+            Answer::Why(Reason::Held { record, block })
+        }
+        ["wanted", peer] => Answer::Why(Reason::Wanted {
+            peer: number(peer)?,
+        }),
         [first, ..] if first.contains(':') => {
             let runs: Result<_, _> = words.iter().map(|word| run_answer(word)).collect();
             Answer::Runs(runs?)
@@ -142,6 +181,9 @@ impl Places {
 /// A call that is given three slices and a buffer.
 type OfThree = fn(&[u8], &[u8], &[u8], &mut [u8]) -> Words<1>;
 
+/// The reason for a block: tables, name, block. An error is the number of the refusal.
+type Why = fn([&[u8]; 5], &[u8], u32) -> Result<Reason, u32>;
+
 /// The calls of one side. One that fills a buffer gives the number of bytes, or number and place.
 struct Side {
     name: &'static str,
@@ -157,6 +199,9 @@ struct Side {
     /// Old table, message, repository, buffer.
     accept: OfThree,
     list: fn([&[u8]; 5], &mut [u8]) -> Words<1>,
+    why: Why,
+    /// Tables, file, block.
+    details: fn([&[u8]; 5], u32, u32) -> Words<6>,
     /// Table, repository, message, buffer. Where the Request is served it fills none.
     serve: OfThree,
     issue: fn(&mut Queue, &Wanted, &mut [u8]) -> Words<2>,
@@ -184,6 +229,8 @@ const SIDES: [Side; 2] = [
             Ok(list) => (0, [list.as_bytes().len() as u64]),
             Err(refusal) => (refusal.number(), [refusal.place() as u64]),
         },
+        why: why_calls::by_reason,
+        details: why_calls::details,
         serve: |table, repository, message, out| match fordtrumpet::raw::serve(
             table, repository, message, out,
         ) {
@@ -213,6 +260,10 @@ const SIDES: [Side; 2] = [
             expected(reference::accept(old, message, repository, out))
         },
         list: |tables, out| expected(reference::request_list(tables, out)),
+        why: |tables, name, block| {
+            reference::why(tables, name, block).map_err(|refusal| refusal.number)
+        },
+        details: |tables, file, block| details_words(reference::details(tables, file, block)),
         serve: |table, repository, message, out| {
             let ruling = reference::serve(table, repository, message, out);
             expected(ruling.map(|ruling| match ruling {
@@ -300,11 +351,14 @@ impl Side {
                     (self.accept)(&old, &message, &repository, out)
                 })
             }
-            ["list", ref tables @ .., room] if tables.len() == 5 => {
-                let tables: Result<Vec<_>, _> = tables.iter().map(|table| bytes(table)).collect();
-                let tables = tables?;
-                let tables = std::array::from_fn(|number| &tables[number][..]);
+            ["list", a, b, c, d, e, room] => {
+                let tables = five([a, b, c, d, e])?;
+                let tables = tables.each_ref().map(|table| &table[..]);
                 fill(number(room)?, |out| (self.list)(tables, out))
+            }
+            ["list", a, b, c, d, e] => self.entries(&five([a, b, c, d, e])?),
+            ["why", a, b, c, d, e, name, block] => {
+                self.why(&five([a, b, c, d, e])?, &bytes(name)?, number(block)?)
             }
             ["serve", table, repository, message, room] => {
                 let (table, repository) = (bytes(table)?, bytes(repository)?);
@@ -384,6 +438,32 @@ impl Side {
         })
     }
 
+    /// The entries of a request list that has room. One without entries is only a yes.
+    fn entries(&self, tables: &[Vec<u8>; 5]) -> Result<Answer, String> {
+        let tables = tables.each_ref().map(|table| &table[..]);
+        let room = fordtrumpet::MAX_REQUEST_LIST;
+        Ok(match fill(room, |out| (self.list)(tables, out))? {
+            Answer::Filled(list) if list.is_empty() => Answer::Yes,
+            Answer::Filled(list) => {
+                let entries = list.as_chunks().0.iter();
+                Answer::Entries(entries.map(entry_words).collect())
+            }
+            answer => answer,
+        })
+    }
+
+    fn why(&self, tables: &[Vec<u8>; 5], name: &[u8], block: u64) -> Result<Answer, String> {
+        // A block of a greater number can't be asked about.
+        let Ok(block) = u32::try_from(block) else {
+            return Ok(Answer::No);
+        };
+        let tables = tables.each_ref().map(|table| &table[..]);
+        Ok(match (self.why)(tables, name, block) {
+            Ok(reason) => Answer::Why(reason),
+            Err(number) => Answer::Refused(number, 0),
+        })
+    }
+
     /// Issues at a queue just opened. Where that is refused, the queue must stay as it was.
     fn issue(&self, request: Body, room: usize) -> Result<Answer, String> {
         let Body::Request {
@@ -456,6 +536,15 @@ impl Side {
             let mut tables = [EMPTY; 5];
             tables[number] = table;
             answers.push(fill(room, |out| (self.list)(tables, out))?);
+            answers.push(match (self.why)(tables, b"n", 0) {
+                Ok(reason) => Answer::Why(reason),
+                Err(number) => Answer::Refused(number, 0),
+            });
+            // 1 is no refusal: there is no such block.
+            answers.push(match (self.details)(tables, 0, 0) {
+                (0 | 1, _) => Answer::Yes,
+                (number, [place, ..]) => Answer::Refused(number, place),
+            });
         }
         let refused = |answer: &&Answer| **answer == Answer::Refused(15, 0);
         match (
@@ -463,10 +552,24 @@ impl Side {
             answers.iter().filter(refused).count(),
         ) {
             (true, 0) => Ok(Answer::Yes),
-            (false, 9) => Ok(Answer::No),
-            (good, refused) => Err(format!("{good}, and {refused} of 9 calls give 15")),
+            (false, 19) => Ok(Answer::No),
+            (good, refused) => Err(format!("{good}, and {refused} of 19 calls give 15")),
         }
     }
+}
+
+/// The tables that five words stand for.
+fn five(words: [&str; 5]) -> Result<[Vec<u8>; 5], String> {
+    let [a, b, c, d, e] = words.map(bytes);
+    Ok([a?, b?, c?, d?, e?])
+}
+
+/// An entry of a request list: file, block, offset, length, peer.
+fn entry_words(entry: &[u8; 24]) -> [u64; 5] {
+    let word = |at: usize| u32::from_be_bytes(*entry[at..].first_chunk().unwrap());
+    let offset = u64::from(word(8)) << 32 | u64::from(word(12));
+    let [file, block, length, peer] = [0, 4, 16, 20].map(|at| u64::from(word(at)));
+    [file, block, offset, length, peer]
 }
 
 /// What a reading answered.
@@ -582,8 +685,9 @@ fn fill(room: usize, call: impl FnOnce(&mut [u8]) -> Words<1>) -> Result<Answer,
 fn run(case: &Case, places: Places) -> Result<bool, String> {
     let told = |why: String| format!("{}\n{why}", case.line);
     let expected = answer(&case.answer).map_err(told)?;
+    let given: Vec<&str> = case.given.iter().map(|word| &word[..]).collect();
     for side in SIDES {
-        let answer = side.run(&case.given).map_err(told)?;
+        let answer = side.run(&given).map_err(told)?;
         if !places.agree(&answer, &expected) {
             return match case.open {
                 true => Ok(false),
@@ -657,6 +761,12 @@ fn runs() {
 }
 
 #[test]
+fn why() {
+    let file = include_str!("cases/why.txt");
+    check_file("why.txt", file, Places::BadByte, 153);
+}
+
+#[test]
 fn in_a_file_from_before_the_bad_byte_its_string_counts() {
     // The pad byte at 15, and the lead at 13, of the string whose length word stands at 8.
     for (given, number, place) in [
@@ -720,6 +830,20 @@ fn a_line_that_is_not_understood_or_has_another_answer_is_told() {
         "new 00000400 = end:4",
         "new 00000400 = wait:4:4",
         "new 0000 0400 = wait:2 4",
+        "list 00000000 00000000 00000000 00000000 = yes",
+        "list 00000000 00000000 00000000 00000000 00000000 = yes 0,0,0,5",
+        "list 00000000 00000000 00000000 00000000 00000000 = yes 0,0,0,5,x",
+        "why 00000000 00000000 00000000 00000000 00000000 61 = no-name",
+        "why 00000000 00000000 00000000 00000000 00000000 61 x = no-name",
+        "why 00000000 00000000 00000000 00000000 00000000 61 0 = held 0",
+        "let A",
+        "let a 61",
+        "let A 61 61",
+        "let A 6",
+        "let A B",
+        "let A B*2.61",
+        "text A = yes",
+        "text 61.A*2 = yes",
         // Understood, but the answer is another.
         "text c0af = yes",
         "read 00000400 = yes 4 0 5",
@@ -751,6 +875,11 @@ fn a_line_that_is_not_understood_or_has_another_answer_is_told() {
         "new 000008 00 = wait:3 no:3:0:0",
         "new 00000800 00 = no:3:0:4 no:3:0:1",
         "old 00000700 = wait:4",
+        "list 00000000 00000000 00000000 00000000 00000000 = yes 0,0,0,5,1",
+        "list 00000000 00000000 00000000 00000000 - = yes",
+        "why 00000000 00000000 00000000 00000000 00000000 61 0 = no-block",
+        "why 00000000 00000000 00000000 00000000 - 61 0 = no-name",
+        "why 00000000 00000000 00000000 00000000 00000000 61 4294967296 = no-name",
     ] {
         let file = format!("text 61 = yes\n{line}\ntext - = yes\n");
         let told = run_file(&file, Places::BadByte).unwrap_err();
@@ -760,6 +889,28 @@ fn a_line_that_is_not_understood_or_has_another_answer_is_told() {
     let open = "text c0af = yes # open\n";
     assert_eq!(run_file(open, Places::BadByte), Ok((1, 1)));
     assert!(run_file("text c0af = yes # opened\n", Places::BadByte).is_err());
+}
+
+#[test]
+fn names_stand_for_bytes() {
+    let run = |file: &str| run_file(file, Places::BadByte);
+    let let_two = "let A 61*3.c3 # an a with two dots\nlet Bb a4.A.a4\nlet None -\n";
+    assert_eq!(run(let_two), Ok((0, 0)));
+    for (word, hex) in [
+        ("A.a4", "616161c3a4"),
+        ("Bb.None", "a4616161c3a4"),
+        ("None", "-"),
+        ("A*2.a4", "616161c3.616161c3.a4"),
+        ("62.A*0", "62"),
+    ] {
+        let file = format!("{let_two}up 00000100.00000000 {word} 40 = no 7 0 # open\n");
+        let cases: Result<Vec<_>, _> = cases(&file).collect();
+        let given = &cases.unwrap()[0].given[2];
+        assert_eq!(bytes(given), bytes(hex), "{word}");
+    }
+    assert!(run("let A 61\nlet A 62\n").is_err());
+    assert!(run("text A = yes\nlet A 61\n").is_err());
+    assert_eq!(run("let A 61\ntext A = yes\n"), Ok((1, 0)));
 }
 
 #[test]

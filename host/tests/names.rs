@@ -469,6 +469,8 @@ fn calls_with(table: &[u8]) -> (usize, usize) {
         tables[number] = table;
         let [local, peers @ ..] = tables;
         lend(&|out| raw::request_list(local, peers, out).map(|_| ()));
+        lend(&|_| raw::details(local, peers, 0, 0).map(|_| ()));
+        lend(&|_| raw::why(local, peers, "n", 0).map(|_| ()));
     }
     let bad = answers
         .iter()
@@ -492,8 +494,8 @@ fn a_table_with_a_name_that_is_no_plain_path_is_refused_by_every_call() {
         let files: Vec<File> = names.iter().map(|name| file(name)).collect();
         let table = encode(&files);
         assert_eq!(reference::is_good(&table), good, "{table:02x?}");
-        let refused = if good { 0 } else { 13 };
-        assert_eq!(calls_with(&table), (13, refused), "{table:02x?}");
+        let refused = if good { 0 } else { 23 };
+        assert_eq!(calls_with(&table), (23, refused), "{table:02x?}");
     }
 }
 

@@ -2,6 +2,7 @@
 mod FillingLaws
 mod TableLaws
 mod StepLaws
+mod DetailsLaws
 pub mod PackLaws
 mod RequestLaws
 pub mod Unchanged

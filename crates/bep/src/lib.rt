@@ -7,6 +7,7 @@ mod filling;
 pub mod outline;
 pub mod outstanding;
 pub mod read;
+pub mod reasons;
 pub mod requests;
 pub mod ruling;
 pub mod tables;

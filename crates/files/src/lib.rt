@@ -1,5 +1,10 @@
 // Files to read. One that is no regular file is not opened: a pipe would be waited for without end.
 mod status;
+mod table;
+
+pub use table::Sizes;
+pub use table::first;
+pub use table::load;
 
 // What opening gives: a descriptor; that there is no such file; or that there is one, which can't be read.
 pub enum Opened {

@@ -14,35 +14,34 @@ use Rattle.order.proofs.OrderLaws.{same-equal}
 use Rattle.order.proofs.SameLaws.{is-same}
 use Rattle.record.proofs.RisingLaws.{both-true}
 use Rattle.want.specs.Listing.{isSame, listed, hasBlock, isHeld}
+use Rattle.promises.specs.Why.{NoneSame}
 
 pub differ : true ≡ false → ⊥
 differ e = let z : _≡_ {A = ℕ} 0 1 = cc in omega arith
 
-neither : (a b : Bool) → (a || b) ≡ false → (a ≡ false) × (b ≡ false)
+pub neither : (a b : Bool) → (a || b) ≡ false → (a ≡ false) × (b ≡ false)
 neither true b e = absurd (differ e)
 neither false b e = (refl, e)
 
 -- the same Length and hash
 
-alike : (b c : Block) → b .size ≡ c .size → b .hash ≡ c .hash → isSame b c ≡ true
+pub alike : (b c : Block) → b .size ≡ c .size → b .hash ≡ c .hash → isSame b c ≡ true
 alike b c p q = rw (eq-eqb (b .size) (c .size) p, ap (compareLists (b .hash)) (sym q) ∙ same-equal (b .hash)) refl
 
-alike-parts : (b c : Block) → isSame b c ≡ true → (b .size ≡ c .size) × (b .hash ≡ c .hash)
+pub alike-parts : (b c : Block) → isSame b c ≡ true → (b .size ≡ c .size) × (b .hash ≡ c .hash)
 alike-parts b c e =
     let t = both-true (eqb (b .size) (c .size)) (isEqual (compareLists (b .hash) (c .hash))) e in
     (eqb-true (b .size) (c .size) (t .0), is-same (b .hash) (c .hash) (t .1))
 
 -- no block of some has them
-abbrev NoneOf : List Block → Block → Type 0
-NoneOf l b = (c : Block) → List·Memᴰ c l → c .size ≡ b .size → c .hash ≡ b .hash → ⊥
 
-has-none : (l : List Block) (b : Block) → hasBlock l b ≡ false → NoneOf l b
+pub has-none : (l : List Block) (b : Block) → hasBlock l b ≡ false → NoneSame l b
 has-none [] b e c m p q = List·Memᴰ·not-nil m
 has-none (d ∷ l) b e c m p q =
     let n = neither (isSame d b) (hasBlock l b) e in
     ⊎-elim (λ k. differ (sym (subst (λ (x : Block). isSame x b ≡ true) k (alike c b p q)) ∙ n .0)) (λ k. has-none l b (n .1) c k p q) (List·Memᴰ·cases-cons m)
 
-none-has : (l : List Block) (b : Block) → NoneOf l b → hasBlock l b ≡ false
+pub none-has : (l : List Block) (b : Block) → NoneSame l b → hasBlock l b ≡ false
 none-has [] b h = refl
 none-has (d ∷ l) b h = go (isSame d b) refl (none-has l b (λ c m. h c (List·Memᴰ·tail m)))
   where
@@ -52,12 +51,12 @@ none-has (d ∷ l) b h = go (isSame d b) refl (none-has l b (λ c m. h c (List·
 
 -- no record of some lists one that has them
 
-pub unheld-words : (fs : List File) (b : Block) → isHeld fs b ≡ false → (f : File) → List·Memᴰ f fs → NoneOf (listed f) b
+pub unheld-words : (fs : List File) (b : Block) → isHeld fs b ≡ false → (f : File) → List·Memᴰ f fs → NoneSame (listed f) b
 unheld-words [] b e f m = absurd (List·Memᴰ·not-nil m)
 unheld-words (g ∷ fs) b e f m =
     let n = neither (hasBlock (listed g) b) (isHeld fs b) e in
-    ⊎-elim (λ k. subst (λ (x : File). NoneOf (listed x) b) (sym k) (has-none (listed g) b (n .0))) (λ k. unheld-words fs b (n .1) f k) (List·Memᴰ·cases-cons m)
+    ⊎-elim (λ k. subst (λ (x : File). NoneSame (listed x) b) (sym k) (has-none (listed g) b (n .0))) (λ k. unheld-words fs b (n .1) f k) (List·Memᴰ·cases-cons m)
 
-pub words-unheld : (fs : List File) (b : Block) → ((f : File) → List·Memᴰ f fs → NoneOf (listed f) b) → isHeld fs b ≡ false
+pub words-unheld : (fs : List File) (b : Block) → ((f : File) → List·Memᴰ f fs → NoneSame (listed f) b) → isHeld fs b ≡ false
 words-unheld [] b h = refl
 words-unheld (g ∷ fs) b h = rw (none-has (listed g) b (h g (List·Memᴰ·head refl))) (words-unheld fs b (λ f m. h f (List·Memᴰ·tail m)))

@@ -7,6 +7,10 @@ pub mod SampleMerges
 pub mod Requests
 mod HeldLaws
 pub mod RequestList
+mod FirstHeldLaws
+mod ListedLaws
+pub mod Why
+pub mod Details
 pub mod Spans
 pub mod Serving
 pub mod Following

@@ -6,6 +6,7 @@ use mathlib.Core.Bool.{true, false}
 use native.Mathlib.Omega.{arith}
 use lib.ListN.{length, getD}
 use Rattle.xdr.specs.Number.{IsBytes}
+use Rattle.xdr.specs.Filling.{gives}
 use Rattle.record.specs.Block.{Block, totalSize}
 use Rattle.record.specs.File.{File}
 use Rattle.table.specs.Table.{isGood, allGood, records}
@@ -14,18 +15,18 @@ use Rattle.table.proofs.TableLaws.{good-table}
 use Rattle.merge.specs.Merged.{mergedOf}
 use Rattle.merge.proofs.HighestLaws.{merged-highest}
 use Rattle.want.specs.Listing.{listsThere}
-use Rattle.want.specs.Wanted.{peerFrom, requestList, requestOutcome}
+use Rattle.want.specs.Wanted.{peerFrom, requestList, listBytes, requestOutcome}
 use Rattle.want.specs.declared.list.Wanted.{Wanted}
 use Rattle.want.proofs.RequestLaws.{Asked, Lowest, request-of, request-in, request-order, request-peer}
 use Rattle.promises.proofs.HeldLaws.{unheld-words, words-unheld}
-use Rattle.promises.specs.RequestList.{Missing, Asks, Exact, Requested}
+use Rattle.promises.specs.RequestList.{Missing, Asks, Exact, ExactList, Requested}
 
 module _ (local : List File) (peers : List (List File)) (rises : (k : ℕ) → k < length peers → Rising (getD peers k [])) where
-  abbrev highs : List File
+  abbrev pub highs : List File
   highs = mergedOf (local ∷ peers)
 
   -- the block of an entry, and an entry of a block
-  abbrev missing : (w : Wanted) → Asked local peers 0 highs w → Missing highs local
+  abbrev pub missing : (w : Wanted) → Asked local peers 0 highs w → Missing highs local
   missing w a =
       record {
         before = a .before;
@@ -65,6 +66,9 @@ module _ (local : List File) (peers : List (List File)) (rises : (k : ℕ) → k
         lowest = none-lower l;
       }
 
+  pub asks-for : (w : Wanted) (a : Asked local peers 0 highs w) → Asks peers (missing w a) w
+  asks-for w a = let e = a .entry in asks (missing w a) w (e .file-is) (e .block-is) (e .offset-is) (e .size-is) (request-peer local peers rises w a)
+
   abbrev entry : Missing highs local → Wanted
   entry m =
       record {
@@ -96,14 +100,13 @@ module _ (local : List File) (peers : List (List File)) (rises : (k : ℕ) → k
         };
       }
 
-  exact-list : Exact highs local peers (requestList local peers)
+  pub exact-list : Exact highs local peers (requestList local peers)
   unfolding asked
   exact-list =
       record {
         only = λ w i.
             let a = request-of local peers w i in
-            let e = a .entry in
-            (missing w a, asks (missing w a) w (e .file-is) (e .block-is) (e .offset-is) (e .size-is) (request-peer local peers rises w a));
+            (missing w a, asks-for w a);
         all = λ m.
             let w = entry m in
             let e = asked m .entry in
@@ -111,21 +114,26 @@ module _ (local : List File) (peers : List (List File)) (rises : (k : ℕ) → k
         ordered = request-order local peers;
       }
 
-rising-records : (ts : List (List ℕ)) → ((k : ℕ) → IsBytes (getD ts k [])) → allGood ts ≡ true → (k : ℕ) → k < length (map records ts) → Rising (getD (map records ts) k [])
+pub rising-records : (ts : List (List ℕ)) → ((k : ℕ) → IsBytes (getD ts k [])) → allGood ts ≡ true → (k : ℕ) → k < length (map records ts) → Rising (getD (map records ts) k [])
 rising-records [] b g k h = absurd (omega arith)
 rising-records (t ∷ ts) b g zero h = good-table t (b 0) (both-true (isGood t) (allGood ts) g .0) .rising
 rising-records (t ∷ ts) b g (suc k) h = rising-records ts (λ i. b (suc i)) (both-true (isGood t) (allGood ts) g .1) k (omega arith)
 
+pub filled-with : (local : List ℕ) (peers : List (List ℕ)) → allGood (local ∷ peers) ≡ true → requestOutcome local peers ≡ gives (listBytes (requestList (records local) (map records peers)))
+unfolding requestOutcome
+filled-with local peers g = rw g refl
+
+-- the list of good tables
+abbrev pub exactly : (local : List ℕ) (peers : List (List ℕ)) → ((k : ℕ) → IsBytes (getD peers k [])) → allGood (local ∷ peers) ≡ true → ExactList local peers
+exactly local peers b g =
+    record {
+      highs = mergedOf (map records (local ∷ peers));
+      highest = merged-highest (map records (local ∷ peers));
+      list = requestList (records local) (map records peers);
+      exact = exact-list (records local) (map records peers) (rising-records peers b (both-true (isGood local) (allGood peers) g .1));
+      filled = filled-with local peers g;
+    }
+
 pub requested : (local : List ℕ) (peers : List (List ℕ)) → ((k : ℕ) → IsBytes (getD peers k [])) → Requested local peers
 unfolding requestOutcome
-requested local peers b =
-    record {
-      refused = λ g. rw g refl;
-      given = λ g. record {
-        highs = mergedOf (map records (local ∷ peers));
-        highest = merged-highest (map records (local ∷ peers));
-        list = requestList (records local) (map records peers);
-        exact = exact-list (records local) (map records peers) (rising-records peers b (both-true (isGood local) (allGood peers) g .1));
-        filled = rw g refl;
-      };
-    }
+requested local peers b = record { refused = λ g. rw g refl; given = exactly local peers b }

@@ -4,6 +4,8 @@ pub mod Memory
 pub mod Merges
 pub mod History
 pub mod RequestList
+pub mod Why
+pub mod Details
 pub mod Spans
 pub mod Serving
 pub mod Following

@@ -96,6 +96,9 @@ within {t} w = subst (λ (x : RecordFields). Within t x) (sym (w .fields-are)) g
     go : Within t (fieldsOf (w .place) (w .head))
     go = let h = standing (w .here) .next .inside in record { named = omega arith; named-inside = omega arith; listed = omega arith; inside = h; rested = refl; sized = refl }
 
+pub whole-there : (t : List ℕ) (at : ℕ) → Stood t (fieldsAt t at) → outlineOf t at ≡ O.Whole (fieldsAt t at)
+whole-there t at w = sym (outline-whole t at refl (within w .inside))
+
 -- in tables that are lent as others
 
 pub stands-in : {s t : List ℕ} (at : ℕ) → Stands t at → s ≡ t → Stands s at

@@ -14,6 +14,7 @@ pub mod FirstLaws
 pub mod SideLaws
 pub mod RankLaws
 pub mod FieldLaws
+pub mod PassLaws
 pub mod TurnLaws
 pub mod SameRecordLaws
 pub mod CountLaws
@@ -22,3 +23,6 @@ pub mod DoneLaws
 pub mod EntryLaws
 pub mod OutcomeLaws
 pub mod RequestLaws
+pub mod BlockNumberLaws
+pub mod NumberLaws
+pub mod DetailsLaws

@@ -22,35 +22,33 @@ use Rattle.merge.specs.Steps.Next.{higherStep, higherOf, nextBy, nextOf}
 use Rattle.want.specs.Steps.Places.{isFirst, tableAt, placeAt, lowerOf, lowestFrom, pastBy, pastName, placesAfter}
 use Rattle.want.proofs.PlaceLaws.{five, Lowest, lowest-starts, lowest-turn, lowest-ends}
 use Rattle.want.proofs.HeadLaws.{above-test, same-test}
-use Rattle.want.specs.Steps.Head.{nameAt, rankIn, rankBy, rankOf, pastOf, Passed, Behind, Headed}
+use Rattle.want.specs.Steps.Head.{nameAt, rankIn, rankBy, rankOf, pastOf, Passed, Behind, Headed, nameIn, orderIn}
 use Rattle.want.specs.declared.head.Rank.{Rank}
 use Rattle.want.specs.declared.head.Rank.the-variants.{Before, Same, Newer, After}
 
 -- by a rank, how the names compare
 
-in-before : (n o : Order) → rankIn n o ≡ Before → n ≡ Less
-in-before Less o e = refl
-in-before Greater o e = let z : _≡_ {A = ℕ} 0 1 = cc in absurd (omega arith)
-in-before Equal Less e = let z : _≡_ {A = ℕ} 0 1 = cc in absurd (omega arith)
-in-before Equal Equal e = let z : _≡_ {A = ℕ} 0 1 = cc in absurd (omega arith)
-in-before Equal Greater e = let z : _≡_ {A = ℕ} 0 1 = cc in absurd (omega arith)
+abbrev pub orderOf : Rank → Order
+orderOf Before = Less
+orderOf Same = Equal
+orderOf Newer = Equal
+orderOf After = Greater
 
-in-after : (n o : Order) → rankIn n o ≡ After → n ≡ Greater
-in-after Less o e = let z : _≡_ {A = ℕ} 0 1 = cc in absurd (omega arith)
-in-after Greater o e = refl
-in-after Equal Less e = let z : _≡_ {A = ℕ} 0 1 = cc in absurd (omega arith)
-in-after Equal Equal e = let z : _≡_ {A = ℕ} 0 1 = cc in absurd (omega arith)
-in-after Equal Greater e = let z : _≡_ {A = ℕ} 0 1 = cc in absurd (omega arith)
+order-in : (n o : Order) → orderOf (rankIn n o) ≡ n
+order-in Less o = refl
+order-in Greater o = refl
+order-in Equal Less = refl
+order-in Equal Equal = refl
+order-in Equal Greater = refl
 
-in-same : (n o : Order) → rankIn n o ≡ Same → n ≡ Equal
-in-same Less o e = let z : _≡_ {A = ℕ} 0 1 = cc in absurd (omega arith)
-in-same Greater o e = let z : _≡_ {A = ℕ} 0 1 = cc in absurd (omega arith)
-in-same Equal o e = refl
+pub names-are : (a : List ℕ) (f : RecordFields) (b : List ℕ) (g : RecordFields) {r : Rank} → rankBy a f b g ≡ r → compareLists (nameAt a f) (nameAt b g) ≡ orderOf r
+names-are a f b g e = sym (order-in (compareLists (nameAt a f) (nameAt b g)) (compareAt a f b g)) ∙ ap orderOf e
 
-in-newer : (n o : Order) → rankIn n o ≡ Newer → n ≡ Equal
-in-newer Less o e = let z : _≡_ {A = ℕ} 0 1 = cc in absurd (omega arith)
-in-newer Greater o e = let z : _≡_ {A = ℕ} 0 1 = cc in absurd (omega arith)
-in-newer Equal o e = refl
+pub order-rank : (a : List ℕ) (f : Outline) (b : List ℕ) (g : Outline) → orderOf (rankOf a f b g) ≡ orderIn (nameIn a f) (nameIn b g)
+order-rank a O.Short b O.Short = refl
+order-rank a O.Short b (O.Whole y) = refl
+order-rank a (O.Whole x) b O.Short = refl
+order-rank a (O.Whole x) b (O.Whole y) = order-in (compareLists (nameAt a x) (nameAt b y)) (compareAt a x b y)
 
 -- the first goes first
 
@@ -139,14 +137,14 @@ module _ (best : List ℕ) (t : List ℕ) (at : ℕ) where
   behind-before O.Short O.Short e r = (sym e, refl)
   behind-before O.Short (O.Whole y) e r = let z : _≡_ {A = ℕ} 0 1 = cc in absurd (omega arith)
   behind-before (O.Whole x) O.Short e r = passed-short (nameAt best x) t at (sym e)
-  behind-before (O.Whole x) (O.Whole y) e r = passed-above (nameAt best x) t at y (sym e) (in-before (compareLists (nameAt best x) (nameAt t y)) (compareAt best x t y) r)
+  behind-before (O.Whole x) (O.Whole y) e r = passed-above (nameAt best x) t at y (sym e) (names-are best x t y r)
 
   behind-same : (f g : Outline) → g ≡ outlineOf t at → rankOf best f t g ≡ Same → Behind best f t at (pastOf g at)
   behind-same O.Short O.Short e r = let z : _≡_ {A = ℕ} 0 1 = cc in absurd (omega arith)
   behind-same O.Short (O.Whole y) e r = let z : _≡_ {A = ℕ} 0 1 = cc in absurd (omega arith)
   behind-same (O.Whole x) O.Short e r = let z : _≡_ {A = ℕ} 0 1 = cc in absurd (omega arith)
   behind-same (O.Whole x) (O.Whole y) e r =
-      passed-equal (nameAt best x) t at y (sym e) (equal-same (nameAt best x) (nameAt t y) (in-same (compareLists (nameAt best x) (nameAt t y)) (compareAt best x t y) r))
+      passed-equal (nameAt best x) t at y (sym e) (equal-same (nameAt best x) (nameAt t y) (names-are best x t y r))
 
   module _ (s : List ℕ) (i v : ℕ) where
     behind-newer : (f g : Outline) → rankOf best f t g ≡ Newer → Behind best f s i v → Behind t g s i v
@@ -154,7 +152,7 @@ module _ (best : List ℕ) (t : List ℕ) (at : ℕ) where
     behind-newer O.Short (O.Whole y) r w = let z : _≡_ {A = ℕ} 0 1 = cc in absurd (omega arith)
     behind-newer (O.Whole x) O.Short r w = let z : _≡_ {A = ℕ} 0 1 = cc in absurd (omega arith)
     behind-newer (O.Whole x) (O.Whole y) r w =
-        subst (λ (l : List ℕ). Passed l s i v) (equal-same (nameAt best x) (nameAt t y) (in-newer (compareLists (nameAt best x) (nameAt t y)) (compareAt best x t y) r)) w
+        subst (λ (l : List ℕ). Passed l s i v) (equal-same (nameAt best x) (nameAt t y) (names-are best x t y r)) w
 
     behind-after : (f g : Outline) → rankOf best f t g ≡ After → Behind best f s i v → Behind t g s i i
     behind-after O.Short O.Short r w = let z : _≡_ {A = ℕ} 0 1 = cc in absurd (omega arith)
@@ -162,7 +160,7 @@ module _ (best : List ℕ) (t : List ℕ) (at : ℕ) where
     behind-after (O.Whole x) O.Short r w = let z : _≡_ {A = ℕ} 0 1 = cc in absurd (omega arith)
     behind-after (O.Whole x) (O.Whole y) r w =
         passed-lower (nameAt best x) (nameAt t y) s i w
-        (greater-above (nameAt best x) (nameAt t y) (in-after (compareLists (nameAt best x) (nameAt t y)) (compareAt best x t y) r))
+        (greater-above (nameAt best x) (nameAt t y) (names-are best x t y r))
 
 -- the loop
 
@@ -284,8 +282,8 @@ rank-records g h = ap (rankIn Equal) (sym g ∙ h)
 pub rank-equal : (a : List ℕ) (f : RecordFields) (b : List ℕ) {g h : RecordFields} {x m : Order} {r : Rank} → x ≡ Equal → x ≡ m → r ≡ rankIn Equal (compareAt a f b g) → g ≡ h → r ≡ rankIn m (compareAt a f b h)
 rank-equal a f b {g} {h} e n q k = q ∙ ap (λ (y : RecordFields). rankIn Equal (compareAt a f b y)) k ∙ ap (λ (o : Order). rankIn o (compareAt a f b h)) (sym e ∙ n)
 
-pub names-by : {x l : List ℕ} (b : List ℕ) (from : ℕ) {y : List ℕ} {to end : ℕ} {o : Order} → x ≡ l → y ≡ part b from to → to ≡ end → o ≡ compareLists x y → o ≡ compareLists l (part b from end)
-names-by {x} {l} b from {y} p q e c = c ∙ ap (λ (z : List ℕ). compareLists z y) p ∙ ap (compareLists l) (q ∙ ap (part b from) e)
+pub names-by : {x y l m : List ℕ} {o : Order} → x ≡ l → y ≡ m → o ≡ compareLists x y → o ≡ compareLists l m
+names-by {x} {y} {l} p q c = c ∙ ap (λ (z : List ℕ). compareLists z y) p ∙ ap (compareLists l) q
 
 module _ (a b : List ℕ) {f g : Outline} {y : RecordFields} (k : g ≡ O.Whole y) where
   pub stands-after : f ≡ O.Short → After ≡ rankOf a f b g

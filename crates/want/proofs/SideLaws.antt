@@ -72,12 +72,12 @@ module _ (ps qs : List ℕ) (n : ℕ) (h : (k : ℕ) → k < 5 → placeAt ps k 
       (λ z g. omega (arith, h 1 (omega arith), h 2 (omega arith), h 4 (omega arith)))
       (λ z g. omega (arith, h 1 (omega arith), h 2 (omega arith), h 3 (omega arith)))
 
-place-after : (ts : List (List ℕ)) (ps name : List ℕ) (k : ℕ) → k < 5 → placeAt (placesAfter ts ps name) k ≡ pastName name (tableAt ts k) (placeAt ps k)
+pub place-after : (ts : List (List ℕ)) (ps name : List ℕ) (k : ℕ) → k < 5 → placeAt (placesAfter ts ps name) k ≡ pastName name (tableAt ts k) (placeAt ps k)
 place-after ts ps name = by-five (λ k. placeAt (placesAfter ts ps name) k ≡ pastName name (tableAt ts k) (placeAt ps k)) refl refl refl refl refl
 
 -- one table
 
-above-next : (m n : List ℕ) (l : List File) → Below m n → Above n l → Above m l
+pub above-next : (m n : List ℕ) (l : List File) → Below m n → Above n l → Above m l
 above-next m n [] h a = tt
 above-next m n (f ∷ fs) h a = below-trans m n (f .name) h a
 
@@ -94,7 +94,7 @@ lists-left w (f ∷ fs) n h offset b (inr q) =
     rw (ap isEqual below) (ap (λ (l : List File). listsThere l n offset b) (sym (tail-left w f fs (q .0))))
 
 module _ {t : List ℕ} {at : ℕ} where
-  past-is : {f : File} {fs : List File} (name : List ℕ) → At t at (f ∷ fs) → pastName name t at ≡ cond (isEqual (compareLists (f .name) name)) (fieldsOf at f .past) at
+  pub past-is : {f : File} {fs : List File} (name : List ℕ) → At t at (f ∷ fs) → pastName name t at ≡ cond (isEqual (compareLists (f .name) name)) (fieldsOf at f .past) at
   past-is {f} name u =
       sym (past-by name t at refl (standing u .outline-is) refl refl refl {v = isEqual (compareLists (f .name) name)} (ap (λ (l : List ℕ). isEqual (compareLists l name)) (standing u .name-is)))
 
@@ -148,7 +148,7 @@ records-of ts k = ap (getD (map records ts) k) (sym no-records) ∙ List·getD-m
 
 -- before the first turn
 
-at-four : (k : ℕ) → k < 5 → placeAt starts k ≡ 4
+pub at-four : (k : ℕ) → k < 5 → placeAt starts k ≡ 4
 at-four = by-five (λ k. placeAt starts k ≡ 4) refl refl refl refl refl
 
 pub walk-starts : (ts : List (List ℕ)) → Five ts → Walk ts starts (map records ts)

@@ -1,5 +1,5 @@
 -- Which blocks a record lists, and whether records list a block: anywhere, or at an offset under a name.
-use Prim.Native.Nat.{ℕ, _+_}
+use Prim.Native.Nat.{ℕ, zero, suc, _+_}
 use mathlib.Core.List.{List, [], _∷_}
 use mathlib.Core.Bool.{Bool, false, not, cond, _&&_, _||_}
 use lib.Dec.{eqb}
@@ -18,6 +18,12 @@ listed f = cond (isCurrent (f .flags)) (f .blocks) []
 -- the block with a Length and a hash
 abbrev pub blockWith : (size : ℕ) → (hash : List ℕ) → Block
 blockWith size hash = record { size = size; hash = hash }
+
+-- block number n of some, the first of which stands at an offset: what is told of its offset and of itself, or `none`
+abbrev pub blockNumbered : {A : Type 0} → (none : A) → (told : (offset : ℕ) → Block → A) → (n offset : ℕ) → List Block → A
+blockNumbered none told n offset [] = none
+blockNumbered none told zero offset (b ∷ l) = told offset b
+blockNumbered none told (suc n) offset (b ∷ l) = blockNumbered none told n (offset + b .size) l
 
 -- the same Length and hash
 abbrev pub isSame : Block → Block → Bool

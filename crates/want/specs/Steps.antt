@@ -5,3 +5,4 @@ pub mod Runs
 pub mod Index
 pub mod Head
 pub mod Turn
+pub mod Entry

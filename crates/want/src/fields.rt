@@ -4,7 +4,7 @@ ghost use Prim.Native.Nat.{_+_, _≤_};
 ghost use lib.ListN.{length, drop};
 ghost use Rattle.xdr.specs.Number.{bigEndian};
 ghost use Rattle.record.specs.Outline.{wordAt, outlineOf};
-ghost use Rattle.want.specs.Steps.Head.{fieldsAt, Stands};
+ghost use Rattle.want.specs.Steps.Head.{nameAt, fieldsAt, Stands};
 use record::Outline;
 use record::RecordFields;
 use xdr::Hyper;
@@ -34,12 +34,14 @@ fn eight_at(s: &[u8], p: usize) -> u64
     n
 }
 
-// Where the name of the record at a place ends.
-pub(crate) fn name_stop(t: &[u8], at: usize) -> usize
+// The name of the record at a place.
+pub(crate) fn name_at(t: &[u8], at: usize) -> &[u8]
     requires { ⌜ fieldsAt (now t) at .past ≤ length (now t) ⌝ }
-    ensures { λ r. ⌜ r ≡ fieldsAt (now (t .entry)) at .stop ⌝ }
+    ensures { λ r. ⌜ now r ≡ nameAt (now (t .entry)) (fieldsAt (now (t .entry)) at) ⌝ }
 {
-    at + 4 + (word_at(t, at) as usize)
+    let from = at + 4;
+    let to = from + (word_at(t, at) as usize);
+    &t[from..to]
 }
 
 // The fields of the record at a place.

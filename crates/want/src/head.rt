@@ -10,7 +10,7 @@ ghost use Rattle.order.specs.Order.{part};
 ghost use Rattle.table.specs.Newest.{compareAt};
 ghost use Rattle.want.specs.Steps.Head.{fieldsAt, Stands, Stood, Kept, AlikeFields, rankIn, rankBy, rankOf, pastOf, AllStand, Headed};
 use crate::fields::fields_at;
-use crate::fields::name_stop;
+use crate::fields::name_at;
 use crate::fields::record_at;
 use order::Order;
 use record::Outline;
@@ -93,8 +93,7 @@ fn ranked(a: &[u8], f: RecordFields, b: &[u8], at: usize) -> Rank
     requires { ⌜ Stood (now b) (fieldsAt (now b) at) ⌝ }
     ensures { λ r. ⌜ r ≡ rankBy (now (a .entry)) f (now (b .entry)) (fieldsAt (now (b .entry)) at) ⌝ }
 {
-    let stop = name_stop(b, at);
-    match order::compare_names(between(a, f.name, f.stop), between(b, at + 4, stop)) {
+    match order::compare_names(between(a, f.name, f.stop), name_at(b, at)) {
         Order::Less => Rank::Before,
         Order::Greater => Rank::After,
         Order::Equal => by_records(a, f, b, fields_at(b, at)),
@@ -117,7 +116,7 @@ fn standing(a: &[u8], f: Outline, b: &[u8], at: usize) -> Rank
 }
 
 // Where a table goes on after its record, or where it is.
-fn past_of(f: Outline, at: usize) -> usize
+pub(crate) fn past_of(f: Outline, at: usize) -> usize
     ensures { λ r. ⌜ r ≡ pastOf f at ⌝ }
 {
     match f {

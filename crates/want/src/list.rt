@@ -316,7 +316,7 @@ fn fits(tables: [&[u8]; 5], index: &[u16], start: Start, room: usize) -> bool
 }
 
 // Whether five tables are good.
-fn all_good(a: &[u8], b: &[u8], c: &[u8], d: &[u8], e: &[u8]) -> bool
+pub fn all_good(a: &[u8], b: &[u8], c: &[u8], d: &[u8], e: &[u8]) -> bool
     ensures { λ r. ⌜ r ≡ allGood (now (a .entry) ∷ now (b .entry) ∷ now (c .entry) ∷ now (d .entry) ∷ now (e .entry) ∷ []) ⌝ }
 {
     if !table::is_good(a) {

@@ -25,6 +25,12 @@ pub fn old(out: &mut [u8], name: &[u8]) {
     put_file(out, 4, name, 0, 0, 0);
 }
 
+// A table of one deleted record: 32 bytes.
+pub fn gone(out: &mut [u8], name: &[u8]) {
+    xdr::put_word(out, 0, 1);
+    put_file(out, 4, name, 4096, 1, 0);
+}
+
 // A table of one record of one block: 72 bytes.
 pub fn one(out: &mut [u8], name: &[u8], flags: u32, size: u32, hash: u32) {
     xdr::put_word(out, 0, 1);

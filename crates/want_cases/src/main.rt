@@ -3,6 +3,7 @@ mod arrived;
 mod build;
 mod finds;
 mod lists;
+mod reasons;
 mod serving;
 
 fn main() {
@@ -13,6 +14,7 @@ fn main() {
     lists::full();
     arrived::run();
     finds::run();
+    reasons::run();
     serving::ours();
     serving::others();
     serving::replies();

@@ -1,11 +1,10 @@
 // Prints which blocks to request and from whom, by the tables in the files `local` and `peer1` to `peer4`: a line a block and a closing
 // line, or only `refused` and the number.
 mod entry;
-mod file;
 mod print;
 mod request;
 
-use request::Sizes;
+use files::Sizes;
 use xdr::Filling;
 
 fn main() {
@@ -16,11 +15,11 @@ fn main() {
     let mut peer3 = [0u8; 65537];
     let mut peer4 = [0u8; 65537];
     let sizes = Sizes {
-        local: file::load(b"local", &mut local),
-        peer1: file::load(b"peer1", &mut peer1),
-        peer2: file::load(b"peer2", &mut peer2),
-        peer3: file::load(b"peer3", &mut peer3),
-        peer4: file::load(b"peer4", &mut peer4),
+        local: files::load(b"local", &mut local),
+        peer1: files::load(b"peer1", &mut peer1),
+        peer2: files::load(b"peer2", &mut peer2),
+        peer3: files::load(b"peer3", &mut peer3),
+        peer4: files::load(b"peer4", &mut peer4),
     };
     let mut out = [0u8; 65536];
     let answer = request::list(&local, &peer1, &peer2, &peer3, &peer4, sizes, &mut out);

@@ -1,26 +1,11 @@
 // The request list of what the files hold.
-ghost use mathlib.Core.Path.{_≡_};
 ghost use mathlib.Core.List.{[], _∷_};
 ghost use lib.ListN.{take};
 ghost use Rattle.xdr.specs.Filling.{Fills};
 ghost use Rattle.want.specs.Wanted.{requestOutcome};
+use files::Sizes;
+use files::first;
 use xdr::Filling;
-
-// How many bytes of its buffer each file takes.
-pub struct Sizes {
-    pub local: usize,
-    pub peer1: usize,
-    pub peer2: usize,
-    pub peer3: usize,
-    pub peer4: usize,
-}
-
-// The first bytes of a buffer, as far as there are any.
-fn first(buffer: &[u8], size: usize) -> &[u8]
-    ensures { λ r. ⌜ now r ≡ take size (now (buffer .entry)) ⌝ }
-{
-    order::part(buffer, 0, size)
-}
 
 // The list of the tables in the first bytes of their buffers.
 pub fn list<'a>(

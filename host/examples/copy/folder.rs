@@ -130,7 +130,6 @@ impl Folder {
         let file = Incoming {
             name: new.name.to_string(),
             fault: None,
-            hashes: new.blocks.iter().map(|block| *block.hash).collect(),
             temporary,
             modified,
             // Without the owner's right to read, the next scan would fail.
@@ -214,7 +213,6 @@ pub struct Incoming {
     pub name: String,
     /// Why it won't be whole.
     pub fault: Option<&'static str>,
-    hashes: Vec<[u8; 32]>,
     temporary: PathBuf,
     modified: SystemTime,
     mode: u32,
@@ -223,11 +221,6 @@ pub struct Incoming {
 }
 
 impl Incoming {
-    /// The hash of a block, by its number.
-    pub fn hash(&self, block: u32) -> &[u8; 32] {
-        &self.hashes[block as usize]
-    }
-
     /// Writes a block in its place.
     pub fn write(&self, offset: u64, data: &[u8]) -> io::Result<()> {
         let file = OpenOptions::new().write(true).open(&self.temporary)?;

@@ -263,6 +263,8 @@ static int requests(void)
     uint64_t length[1];
     uint64_t found[BEP_FIND_WORDS];
     uint64_t served[BEP_SERVE_WORDS];
+    uint64_t details[BEP_DETAILS_WORDS];
+    uint64_t why[BEP_WHY_WORDS];
 
     /* A peer has a file of one block that we don't have. */
     CHECK(bep_request_list(list, 23, empty, 4, empty, 4, files, 72, empty, 4, empty, 4, length)
@@ -286,6 +288,41 @@ static int requests(void)
     CHECK(wanted.file == 0x18191A1B && wanted.block == 0x1C1D1E1F);
     CHECK(wanted.offset == 0x2021222324252627);
     CHECK(wanted.length == 0x28292A2B && wanted.peer == 0x2C2D2E2F);
+
+    /* "a", "b" and "n" over two peers: the second block of "b" is 40 bytes after the first. */
+    for (uint32_t block = 0; block < 2; block++) {
+        CHECK(bep_details(empty, 4, files, 72, empty, 4, two_files, 140, empty, 4, 1, block,
+                          details) == 0);
+        CHECK(details[BEP_DETAILS_TABLE] == 3);
+        CHECK(details[BEP_DETAILS_NAME_AT] == 36 && details[BEP_DETAILS_NAME_LENGTH] == 1);
+        CHECK(details[BEP_DETAILS_OFFSET] == block && details[BEP_DETAILS_LENGTH] == block + 1);
+        CHECK(details[BEP_DETAILS_HASH_AT] == 68 + block * BEP_BLOCK_BYTES);
+    }
+    CHECK(bep_details(files, 72, files, 72, empty, 4, two_files, 140, empty, 4, 2, 0, details)
+          == 0);
+    CHECK(details[BEP_DETAILS_TABLE] == 0 && details[BEP_DETAILS_HASH_AT] == 40);
+    CHECK(bep_details(files, 72, files, 72, empty, 4, two_files, 140, empty, 4, 2, 1, details)
+          == 1);
+    CHECK(details[BEP_DETAILS_TABLE] == 0 && details[BEP_DETAILS_HASH_AT] == 0);
+    CHECK(bep_details(files, 72, files, 72, empty, 4, two_files, 140, empty, 4, 3, 0, details)
+          == 1);
+    CHECK(bep_details(files, 72, files, 72, empty, 4, two_files, 139, empty, 4, 2, 0, details)
+          == BEP_REFUSED_BAD_TABLE);
+
+    CHECK(bep_why(empty, 4, empty, 4, files, 72, empty, 4, empty, 4, files + 8, 1, 0, why) == 0);
+    CHECK(why[BEP_WHY_REASON] == BEP_REASON_WANTED && why[BEP_WHY_PEER] == 2);
+    CHECK(why[2] == 0);
+    CHECK(bep_why(two_files, 140, empty, 4, two_files, 140, empty, 4, empty, 4, two_files + 36, 1,
+                  1, why) == 0);
+    CHECK(why[BEP_WHY_REASON] == BEP_REASON_HELD);
+    CHECK(why[BEP_WHY_RECORD] == 1 && why[BEP_WHY_BLOCK] == 1);
+    CHECK(bep_why(empty, 4, empty, 4, files, 72, empty, 4, empty, 4, files + 8, 1, 1, why) == 0);
+    CHECK(why[BEP_WHY_REASON] == BEP_REASON_NO_SUCH_BLOCK && why[1] == 0 && why[2] == 0);
+    CHECK(bep_why(empty, 4, empty, 4, files, 72, empty, 4, empty, 4, files + 8, 2, 0, why) == 0);
+    CHECK(why[BEP_WHY_REASON] == BEP_REASON_NO_SUCH_NAME);
+    CHECK(bep_why(empty, 4, empty, 4, files, 72, empty, 4, empty, 3, files + 8, 1, 0, why)
+          == BEP_REFUSED_BAD_TABLE);
+    CHECK(why[BEP_WHY_REASON] == 0);
 
     uint32_t size = bep_word(files + 32);
     CHECK(bep_find(files, 72, size, files + 40, 32, found) == 0);
@@ -361,6 +398,10 @@ static int words(void)
     CHECK(filled(answer, 1));
     CHECK(bep_find(NULL, 0, 0, NULL, 0, untouched(answer)) != 0);
     CHECK(filled(answer, BEP_FIND_WORDS));
+    CHECK(bep_details(NULL, 0, NULL, 0, NULL, 0, NULL, 0, NULL, 0, 0, 0, untouched(answer)) != 0);
+    CHECK(filled(answer, BEP_DETAILS_WORDS));
+    CHECK(bep_why(NULL, 0, NULL, 0, NULL, 0, NULL, 0, NULL, 0, NULL, 0, 0, untouched(answer)) != 0);
+    CHECK(filled(answer, BEP_WHY_WORDS));
     CHECK(bep_serve(out, 1, NULL, 0, NULL, 0, NULL, 0, untouched(answer)) != 0);
     CHECK(filled(answer, BEP_SERVE_WORDS));
 

@@ -104,6 +104,16 @@ static uint32_t find(const struct slice *s, struct result *r)
     return bep_find(IN(0), 5, IN(1), r->answer);
 }
 
+static uint32_t details(const struct slice *s, struct result *r)
+{
+    return bep_details(IN(0), IN(1), IN(2), IN(3), IN(4), 0, 0, r->answer);
+}
+
+static uint32_t why(const struct slice *s, struct result *r)
+{
+    return bep_why(IN(0), IN(1), IN(2), IN(3), IN(4), IN(5), 0, r->answer);
+}
+
 static uint32_t queue_answer(const struct slice *s, struct result *r)
 {
     return bep_queue_answer(r->queue, IN(0), r->answer);
@@ -284,6 +294,10 @@ static void try_all(void)
     TRY(request_list, LENT, EMPTY, FILES, EMPTY, FILES, EMPTY);
     TRY(request_list, LENT, FILES, FILES, EMPTY, EMPTY, EMPTY);
     TRY(request_list, LENT, EMPTY, EMPTY, EMPTY, EMPTY, EMPTY);
+    TRY(details, EMPTY, FILES, EMPTY, FILES, EMPTY);
+    TRY(details, EMPTY, EMPTY, EMPTY, EMPTY, EMPTY);
+    TRY(why, EMPTY, FILES, EMPTY, FILES, EMPTY, NAME);
+    TRY(why, FILES, FILES, EMPTY, EMPTY, EMPTY, NAME);
     for (size_t i = 0; i < 8; i++) {
         const struct slice message = {messages[i], (size_t)lengths[i][BEP_WRITTEN]};
 

@@ -19,6 +19,7 @@ mod runs;
 mod table;
 mod text;
 mod want;
+mod why;
 mod write;
 
 pub use editions::{downgrade, upgrade, Edition};
@@ -30,6 +31,7 @@ pub use runs::{Runs, Told};
 pub use table::{accept, compare, is_good, merge, step, MAX_TABLE};
 pub use text::broken_at;
 pub use want::{find_local, request_list, serve, Serving};
+pub use why::{details, why, Details, Reason};
 pub use write::{
     write_index, write_index_update, write_old_index, write_old_index_update, write_old_request,
     write_options, write_ping, write_pong, write_request, write_response,

@@ -50,7 +50,7 @@ pub fn find_local(table: &[u8], length: u32, hash: &[u8]) -> Result<Option<(u32,
 }
 
 /// Whether a record is valid, undeleted and has this block at this offset.
-fn lists(array: &[u8], file: &File, offset: u64, wanted: &[u8; BLOCK_LEN]) -> bool {
+pub(super) fn lists(array: &[u8], file: &File, offset: u64, wanted: &[u8; BLOCK_LEN]) -> bool {
     if !is_there(file) {
         return false;
     }

@@ -19,3 +19,4 @@ pub mod table_calls;
 pub mod tables;
 pub mod text;
 pub mod turning;
+pub mod why_calls;

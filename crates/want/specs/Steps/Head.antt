@@ -1,7 +1,8 @@
 -- For the steps of the list: the next name over several tables, with a place in each: the table with its highest record, and where each goes on after it.
 use Prim.Native.Nat.{ℕ, _+_, _-_, _≤_, _<_}
-use mathlib.Core.List.{List, _∷_}
+use mathlib.Core.List.{List, [], _∷_}
 use mathlib.Core.Path.{_≡_}
+use mathlib.Core.Bool.{Bool, true, false}
 use lib.ListN.{length}
 use Rattle.record.specs.File.{File}
 use Rattle.record.specs.Outline.{wordAt, pastString, fieldsFrom, outlineOf, fieldsOf}
@@ -93,3 +94,22 @@ pub record Headed (ts : List (List ℕ)) (ps : List ℕ) (k best : ℕ) (fields 
 -- in each table, records stand from its place on
 abbrev pub AllStand : List (List ℕ) → List ℕ → Type 0
 AllStand ts ps = (k : ℕ) → k < 5 → Stands (tableAt ts k) (placeAt ps k)
+
+-- the name of a record, where there is one
+abbrev pub nameIn : List ℕ → Outline → List (List ℕ)
+nameIn t O.Short = []
+nameIn t (O.Whole f) = nameAt t f ∷ []
+
+-- two of these: where there is none, it comes last
+abbrev pub orderIn : (m n : List (List ℕ)) → Order
+orderIn m [] = Less
+orderIn [] (y ∷ n) = Greater
+orderIn (x ∷ m) (y ∷ n) = compareLists x y
+
+-- the tables go on at `past` after the next name, whichever table has its highest record; or they have ended
+pub record Passes (ts : List (List ℕ)) (ps past : List ℕ) (ended : Bool) : Type 0 where
+  pub best : ℕ
+  pub fields : Outline
+  pub headed : Headed ts ps 5 best fields past
+  pub none : ended ≡ true → fields ≡ O.Short
+  pub some : ended ≡ false → (f : RecordFields) × (fields ≡ O.Whole f)

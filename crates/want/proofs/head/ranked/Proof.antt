@@ -1,7 +1,5 @@
 -- `want::head::ranked` meets its contract.
-use Prim.Native.Nat.{_+_}
 use mathlib.Core.Path.{_≡_, sym, subst}
-use native.Mathlib.Omega.{arith}
 use denote.Ref.{now}
 use Rattle.record.specs.declared.outline.RecordFields.{RecordFields}
 use Rattle.order.specs.Order.{compareLists}
@@ -13,25 +11,17 @@ use borrow.Author.Needs.{needs}
 use Rattle.want.proofs.head.ranked.Statement.{statement}
 use Rattle.want.proofs.head.ranked.Tie as tie
 
-name-stop-requires : tie.Need-name-stop-requires
-name-stop-requires c κs = within (c .before .before .pre .1) .inside
-
 between-requires : tie.Need-between-requires
-between-requires c κs = let w = within (c .before .before .before .pre .0) in (w .named, w .named-inside)
+between-requires c κs = let w = within (c .before .before .pre .0) in (w .named, w .named-inside)
 
-add-between : tie.Need-add-between
-add-between c = let w = within (c .before .before .before .before .pre .1) in omega (arith, w .named, w .named-inside)
-
-between-requires-2 : tie.Need-between-requires-2
-between-requires-2 c κs =
-    let w = within (c .before .before .before .before .pre .1) in
-    (omega (arith, c .before .name-stop .ensures, w .named), omega (arith, c .before .name-stop .ensures, w .named-inside))
+name-at-requires : tie.Need-name-at-requires
+name-at-requires c κs = within (c .before .before .before .pre .1) .inside
 
 abbrev start : tie.After-compare-names → tie.Start
-start c = c .before .before .before .before .before .before
+start c = c .before .before .before .before .before
 
 compared : (c : tie.After-compare-names) → let s = start c .args in c .compare-names .result ≡ compareLists (nameAt (now (s .a)) (s .f)) (nameAt (now (s .b)) (fieldsAt (now (s .b)) (s .at)))
-compared c = names-by (now (start c .args .b)) (start c .args .at + 4) (c .before .before .between .ensures) (c .before .between2 .ensures) (c .before .before .before .name-stop .ensures) (c .compare-names .ensures)
+compared c = names-by (c .before .before .between .ensures) (c .before .name-at .ensures) (c .compare-names .ensures)
 
 fields-at-requires : tie.Need-fields-at-requires
 fields-at-requires c κs = within (start (c .before .before) .pre .1) .inside
@@ -61,10 +51,8 @@ pub ranked-spec : {M : Type 1} → statement M
 ranked-spec =
     tie.close
     (tie.spec
-    name-stop-requires
     between-requires
-    add-between
-    between-requires-2
+    name-at-requires
     (λ c κs. search needs)
     (λ c. search needs)
     (λ c. search needs)

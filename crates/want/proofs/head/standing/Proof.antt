@@ -1,10 +1,10 @@
 -- `want::head::standing` meets its contract.
-use mathlib.Core.Path.{_≡_, refl, sym, ap}
+use mathlib.Core.Path.{_≡_, ap}
 use denote.Ref.{now}
 use Rattle.record.specs.Outline.{outlineOf}
 use Rattle.record.specs.declared.outline.Outline.the-variants as O
 use Rattle.want.specs.Steps.Head.{fieldsAt, Stood, rankOf}
-use Rattle.want.proofs.FieldLaws.{outline-none, outline-whole, stands-there, kept-stood, within}
+use Rattle.want.proofs.FieldLaws.{outline-none, stands-there, kept-stood, whole-there}
 use Rattle.want.proofs.RankLaws.{stands-after, stands-by}
 use borrow.Author.Needs.{needs}
 use Rattle.want.proofs.head.standing.Statement.{statement}
@@ -18,7 +18,7 @@ stood : (c : tie.Else1) → let s = start c .args in Stood (now (s .b)) (fieldsA
 stood c = let s = start c in stands-there (now (s .args .b)) (s .args .at) (s .pre .1) (c .if1 .left)
 
 whole : (c : tie.Else1) → let s = start c .args in outlineOf (now (s .b)) (s .at) ≡ O.Whole (fieldsAt (now (s .b)) (s .at))
-whole c = let s = start c in sym (outline-whole (now (s .args .b)) (s .args .at) refl (within (stood c) .inside))
+whole c = let s = start c .args in whole-there (now (s .b)) (s .at) (stood c)
 
 returns : tie.Need-returns
 returns c = let s = c .before .before .before .args in ap (rankOf (now (s .a)) (s .f) (now (s .b))) (outline-none (now (s .b)) (s .at) (c .if1 .taken))
