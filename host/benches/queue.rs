@@ -32,7 +32,8 @@ fn compare_pairs(what: &str, others: usize) {
             response.bytes
         })
         .collect();
-    let library = RefCell::new((RequestQueue::open(), 0));
+    // As in a bulk copy. Without a stated window there would be room for 3 others.
+    let library = RefCell::new((RequestQueue::open_with(16).unwrap(), 0));
     let reference = RefCell::new((Queue::open(16).0, 0));
     let mut out = vec![0; 400];
     for _ in 0..others {

@@ -32,7 +32,7 @@ const PATIENCE: Duration = Duration::from_secs(60);
 
 /// What an honest peer has under way to us at most: a window of Requests, one of Responses, and a few
 /// others. With room for these we always read on, so two that write don't wait for each other.
-const UNDER_WAY: usize = 2 * RequestQueue::WINDOW as usize + 8;
+const UNDER_WAY: usize = 2 * RequestQueue::MAX_WINDOW as usize + 8;
 
 // README: from here on its first example in Rust, line for line.
 use fordtrumpet::{Reader, MAX_RESPONSE};
@@ -60,7 +60,7 @@ pub fn exchange(folder: Folder, stream: TcpStream) -> io::Result<Report> {
     let device = Device {
         folder,
         stream: &stream,
-        queue: RequestQueue::open(),
+        queue: RequestQueue::open_with(RequestQueue::MAX_WINDOW)?, // a bulk copy states its window
         asks: VecDeque::new(),
         incoming: BTreeMap::new(),
         indexes: 0,

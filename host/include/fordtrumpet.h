@@ -161,7 +161,7 @@ enum {
     BEP_MAX_BLOCKS = 1024,              /* the count of a file */
     BEP_MAX_FILES = 512,                /* the count of a message */
     BEP_MAX_RECORDS = 512,              /* the count of a table */
-    BEP_MAX_WINDOW = 16                 /* the count of outstanding requests */
+    BEP_MAX_WINDOW = 16                 /* the count of outstanding requests; 4 unless stated */
 };
 
 /* How long things can be, in bytes: a buffer of that size has room for any. */
@@ -661,12 +661,16 @@ enum {
 };
 
 /*
- * Opens an empty queue with this window. Another window than 1 to 16 returns 22 and leaves an empty
+ * Opens an empty queue with this window: BEP_MAX_WINDOW for a link whose other side is known to
+ * take as many, and for a bulk copy. Another window than 1 to 16 returns 22 and leaves an empty
  * queue of window 0, which every call but the totals refuses.
  */
 BEP_CHECKED uint32_t bep_queue_open(uint32_t queue[BEP_QUEUE_WORDS], uint32_t window);
 
-/* Opens an empty queue with the default window, which is 16. Returns 0. */
+/*
+ * Opens an empty queue with the default window, which is 4: some devices stall with more requests
+ * open. The queue doesn't know whether its window was stated. Returns 0.
+ */
 uint32_t bep_queue_open_default(uint32_t queue[BEP_QUEUE_WORDS]);
 
 /* The words of an issue. Refused, all but the place are 0. */

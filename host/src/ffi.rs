@@ -331,7 +331,7 @@ unsafe extern "C" {
     /// and the ID and the length of each of 16 entries. Refused (22), the window is 0.
     pub fn bep_queue_open(queue: *mut [u32; 35], window: u32) -> u32;
 
-    /// Opens an empty queue with the default window.
+    /// Opens an empty queue with the default window, which is 4.
     pub fn bep_queue_open_default(queue: *mut [u32; 35]) -> u32;
 
     /// Writes a Request with the next ID and appends it. `answer[0]` is the number of bytes written and

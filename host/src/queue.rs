@@ -6,8 +6,8 @@ use core::fmt;
 
 /// The requests of one link that were issued and not answered yet, oldest first.
 ///
-/// There is a window of at most 16 requests and an allowance of 524,288 bytes. Requests are answered
-/// in the order of their issue.
+/// There is a window of at most 16 requests, of 4 unless it is stated, and an allowance of 524,288
+/// bytes. Requests are answered in the order of their issue.
 ///
 /// ```
 /// use fordtrumpet::{write_response, Outcome, RequestQueue};
@@ -92,22 +92,32 @@ pub enum Outcome<'a> {
 }
 
 impl RequestQueue {
-    /// The largest window.
+    /// The largest window: for a link whose other side is known to take as many, and for a bulk copy.
     ///
     /// ```
     /// use fordtrumpet::RequestQueue;
     ///
-    /// assert!(RequestQueue::open_with(RequestQueue::WINDOW).is_ok());
-    /// assert!(RequestQueue::open_with(RequestQueue::WINDOW + 1).is_err());
+    /// assert!(RequestQueue::open_with(RequestQueue::MAX_WINDOW).is_ok());
+    /// assert!(RequestQueue::open_with(RequestQueue::MAX_WINDOW + 1).is_err());
     /// ```
-    pub const WINDOW: u32 = 16;
+    pub const MAX_WINDOW: u32 = 16;
 
-    /// An empty queue with the default window.
+    /// An empty queue with the default window, which is 4: some devices stall with more requests open.
+    ///
+    /// The queue doesn't know whether its window was stated.
     ///
     /// ```
-    /// use fordtrumpet::RequestQueue;
+    /// use fordtrumpet::{Refusal, RequestQueue};
     ///
-    /// assert_eq!(RequestQueue::open().outstanding(), 0);
+    /// let mut queue = RequestQueue::open();
+    /// assert_eq!(queue, RequestQueue::open_with(4)?);
+    /// let mut out = [0; 100];
+    /// for _ in 0..4 {
+    ///     queue.issue("default", "a", 0, 131_072, &[0xA7; 32], &mut out)?;
+    /// }
+    /// let fifth = queue.issue("default", "a", 0, 131_072, &[0xA7; 32], &mut out);
+    /// assert_eq!(fifth, Err(Refusal::WindowFull));
+    /// # Ok::<(), fordtrumpet::Refusal>(())
     /// ```
     pub fn open() -> Self {
         let mut words = [0; 35];
@@ -124,10 +134,18 @@ impl RequestQueue {
     /// 22 if the window isn't 1 to 16.
     ///
     /// ```
-    /// use fordtrumpet::RequestQueue;
+    /// use fordtrumpet::{Refusal, RequestQueue};
     ///
-    /// assert!(RequestQueue::open_with(4).is_ok());
+    /// let mut queue = RequestQueue::open_with(16)?;
+    /// let mut out = [0; 100];
+    /// for _ in 0..4 {
+    ///     queue.issue("default", "a", 0, 131_072, &[0xA7; 32], &mut out)?;
+    /// }
+    /// let fifth = queue.issue("default", "a", 0, 131_072, &[0xA7; 32], &mut out);
+    /// assert_eq!(fifth, Err(Refusal::AllowanceFull));
+    ///
     /// assert_eq!(RequestQueue::open_with(17).unwrap_err().number(), 22);
+    /// # Ok::<(), fordtrumpet::Refusal>(())
     /// ```
     pub fn open_with(window: u32) -> Result<Self, Refusal> {
         let mut words = [0; 35];
@@ -293,7 +311,7 @@ fn accepted(number: u32, place: u64) -> Result<(), Refusal> {
     }
 }
 
-/// With the default window.
+/// With the default window, as [`RequestQueue::open`].
 ///
 /// ```
 /// use fordtrumpet::RequestQueue;

@@ -386,7 +386,7 @@ fn the_header_has_the_sizes_and_the_version() {
         ("MAX_BLOCKS", MAX_BLOCKS),
         ("MAX_FILES", MAX_FILES),
         ("MAX_RECORDS", MAX_RECORDS),
-        ("MAX_WINDOW", RequestQueue::WINDOW as usize),
+        ("MAX_WINDOW", RequestQueue::MAX_WINDOW as usize),
         ("MAX_TABLE", MAX_TABLE),
         ("MAX_INDEX", MAX_INDEX),
         ("MAX_TABLE_INDEX", MAX_TABLE_INDEX),

@@ -41,6 +41,8 @@ enum Answer {
     Why(Reason),
     /// The entries of a request list: file, block, offset, length, peer.
     Entries(Vec<[u64; 5]>),
+    /// What each call at a queue gets, and the queue that the last one hands back.
+    Calls(Vec<Called>, Queue),
 }
 
 /// What a run of bytes gets, and how many of its bytes are taken.
@@ -50,6 +52,20 @@ enum Run {
     End(u64, u64),
     /// Refused with a number and a place.
     No(u32, u64, u64),
+}
+
+/// What a call at a queue gets.
+#[derive(Debug, PartialEq, Eq)]
+enum Called {
+    /// Of an opening or a drop.
+    Ok,
+    /// Issued with this ID.
+    Id(u64),
+    Data,
+    NotAvailable,
+    WrongSize,
+    /// Refused with a number and a place.
+    No(u32, u64),
 }
 
 /// In the words of the files.
@@ -86,6 +102,27 @@ impl fmt::Display for Answer {
                     write!(f, " {}", words.join(","))
                 })
             }
+            Answer::Calls(calls, queue) => {
+                calls.iter().try_for_each(|called| write!(f, "{called} "))?;
+                write!(f, "desk:{}:{}", queue[0], queue[1])?;
+                let requests = queue[3..].chunks(2).take(queue[2] as usize);
+                requests
+                    .into_iter()
+                    .try_for_each(|request| write!(f, ":{},{}", request[0], request[1]))
+            }
+        }
+    }
+}
+
+impl fmt::Display for Called {
+    fn fmt(&self, f: &mut fmt::Formatter<'_>) -> fmt::Result {
+        match self {
+            Called::Ok => f.write_str("ok"),
+            Called::Id(id) => write!(f, "id:{id}"),
+            Called::Data => f.write_str("data"),
+            Called::NotAvailable => f.write_str("none"),
+            Called::WrongSize => f.write_str("size"),
+            Called::No(number, place) => write!(f, "no:{number}:{place}"),
         }
     }
 }
@@ -117,12 +154,50 @@ fn list_entry(word: &str) -> Result<[u64; 5], String> {
     <[u64; 5]>::try_from(words?).map_err(|_| format!("{word} is no entry of a list"))
 }
 
+/// The answer that a case asks for to a call at a queue.
+fn called(word: &str) -> Result<Called, String> {
+    let parts: Vec<&str> = word.split(':').collect();
+    Ok(match *parts {
+        ["ok"] => Called::Ok,
+        ["id", id] => Called::Id(number(id)?),
+        ["data"] => Called::Data,
+        ["none"] => Called::NotAvailable,
+        ["size"] => Called::WrongSize,
+        ["no", refusal, place] => Called::No(number(refusal)?, number(place)?),
+        _ => return Err(format!("{word} is no answer to a call at a desk")),
+    })
+}
+
+/// The queue that `desk:WINDOW:NEXT:ID,LENGTH:..` stands for. Entries that aren't used are zeros.
+fn desk(word: &str) -> Result<Queue, String> {
+    let parts: Vec<&str> = word.split(':').collect();
+    let ["desk", window, next, requests @ ..] = &parts[..] else {
+        return Err(format!("{word} is no desk"));
+    };
+    let mut queue = [0; 35];
+    queue[..3].copy_from_slice(&[number(window)?, number(next)?, requests.len() as u32]);
+    let mut entries = queue[3..].chunks_mut(2);
+    for request in requests {
+        match (request.split_once(','), entries.next()) {
+            (Some((id, length)), Some(entry)) => {
+                entry.copy_from_slice(&[number(id)?, number(length)?]);
+            }
+            _ => return Err(format!("{word} is no desk")),
+        }
+    }
+    Ok(queue)
+}
+
 /// The answer that a case asks for.
 fn answer(words: &[&str]) -> Result<Answer, String> {
     Ok(match *words {
         ["yes", ref entries @ ..] if entries.iter().any(|word| word.contains(',')) => {
             let entries: Result<_, _> = entries.iter().map(|word| list_entry(word)).collect();
             Answer::Entries(entries?)
+        }
+        [ref calls @ .., last] if last.starts_with("desk:") => {
+            let calls: Result<_, _> = calls.iter().map(|word| called(word)).collect();
+            Answer::Calls(calls?, desk(last)?)
         }
         ["no-name"] => Answer::Why(Reason::NoSuchName),
         ["deleted"] => Answer::Why(Reason::Deleted),
@@ -204,8 +279,11 @@ struct Side {
     details: fn([&[u8]; 5], u32, u32) -> Words<6>,
     /// Table, repository, message, buffer. Where the Request is served it fills none.
     serve: OfThree,
+    /// Queue, and the window if one is stated.
+    open: fn(&mut Queue, Option<u32>) -> u32,
     issue: fn(&mut Queue, &Wanted, &mut [u8]) -> Words<2>,
     answer: fn(&mut Queue, &[u8]) -> Words<5>,
+    drop_link: fn(&mut Queue) -> u32,
 }
 
 const SIDES: [Side; 2] = [
@@ -238,8 +316,13 @@ const SIDES: [Side; 2] = [
             Ok(fordtrumpet::Serving::Replied(len)) => (0, [len as u64]),
             Err(refusal) => (refusal.number(), [refusal.place() as u64]),
         },
+        open: |words, window| match window {
+            None => (QUEUE_CALLS.open_default)(words),
+            Some(window) => (QUEUE_CALLS.open)(words, window),
+        },
         issue: QUEUE_CALLS.issue,
         answer: QUEUE_CALLS.answer,
+        drop_link: QUEUE_CALLS.drop_link,
     },
     Side {
         name: "reference",
@@ -271,12 +354,26 @@ const SIDES: [Side; 2] = [
                 reference::Serving::Replied(len) => len,
             }))
         },
+        open: |words, window| {
+            let (queue, opened) = match window {
+                None => reference::Queue::open_default(),
+                Some(window) => reference::Queue::open(window),
+            };
+            *words = words_of(&queue);
+            opened.map_or_else(|refusal| refusal.number, |()| 0)
+        },
         issue: issue_by_reference,
         answer: |words, message| {
             let mut queue = queue_of(words);
             let answered = answered_words(queue.answer(message));
             *words = words_of(&queue);
             answered
+        },
+        drop_link: |words| {
+            let mut queue = queue_of(words);
+            let dropped = queue.drop_link();
+            *words = words_of(&queue);
+            dropped.map_or_else(|refusal| refusal.number, |()| 0)
         },
     },
 ];
@@ -368,6 +465,9 @@ impl Side {
                 self.issue(body("write-request", fields)?, number(room)?)
             }
             ["answer", message] => self.answer(&bytes(message)?),
+            [first, ref calls @ ..] if ["open", "desk"].contains(&before_colon(first)) => {
+                self.calls(first, calls)
+            }
             _ => Err("no call that is known".to_string()),
         }
     }
@@ -464,6 +564,89 @@ impl Side {
         })
     }
 
+    /// A queue just opened, without a stated window.
+    fn opened(&self) -> Queue {
+        let mut queue = [0xD7; 35];
+        assert_eq!((self.open)(&mut queue, None), 0);
+        queue
+    }
+
+    /// Calls at one queue, which is opened or handed in first. One that is refused must leave it as it was.
+    fn calls(&self, first: &str, calls: &[&str]) -> Result<Answer, String> {
+        let mut queue = [0xD7; 35];
+        let mut answers = Vec::new();
+        match first.split_once(':') {
+            None => answers.push(verdict((self.open)(&mut queue, None))),
+            Some(("open", window)) => {
+                let window = number(window)?;
+                answers.push(verdict((self.open)(&mut queue, Some(window))));
+            }
+            Some(_) => queue = desk(first)?,
+        }
+        for call in calls {
+            let before = queue;
+            let parts: Vec<&str> = call.split(':').collect();
+            let answer = match *parts {
+                ["issue", length] => self.issue_at(&mut queue, number(length)?, 68)?,
+                ["issue", length, room] => {
+                    self.issue_at(&mut queue, number(length)?, number(room)?)?
+                }
+                ["answer", id, size] => {
+                    let data = vec![0; number(size)?];
+                    let response = Draft::new(number(id)?, Body::Response { data });
+                    self.answer_at(&mut queue, &response.encode().bytes)
+                }
+                ["drop"] => verdict((self.drop_link)(&mut queue)),
+                _ => return Err(format!("{call} is no call at a desk")),
+            };
+            if matches!(answer, Called::No(..)) && queue != before {
+                return Err(format!("{answer}, but the queue is {queue:?}"));
+            }
+            answers.push(answer);
+        }
+        Ok(Answer::Calls(answers, queue))
+    }
+
+    /// Issues a Request of this Length, as the file has them. What is written must be that Request.
+    fn issue_at(&self, queue: &mut Queue, length: u32, room: usize) -> Result<Called, String> {
+        let wanted = Wanted {
+            repository: b"r".to_vec(),
+            name: b"n".to_vec(),
+            offset: 0,
+            length,
+            hash: vec![0x11; 32],
+        };
+        let mut id = 0;
+        let answer = fill(room, |out| {
+            let (number, [first, second]) = (self.issue)(queue, &wanted, out);
+            id = second;
+            (number, [first])
+        })?;
+        let body = Body::Request {
+            repository: wanted.repository,
+            name: wanted.name,
+            offset: 0,
+            length,
+            hash: wanted.hash,
+        };
+        match answer {
+            Answer::Refused(number, place) => Ok(Called::No(number, place)),
+            Answer::Filled(message) if message == Draft::new(id as u32, body).encode().bytes => {
+                Ok(Called::Id(id))
+            }
+            answer => Err(format!("{answer} is not the Request {id}")),
+        }
+    }
+
+    fn answer_at(&self, queue: &mut Queue, message: &[u8]) -> Called {
+        match (self.answer)(queue, message) {
+            (0, [0, ..]) => Called::Data,
+            (0, [1, ..]) => Called::NotAvailable,
+            (0, [..]) => Called::WrongSize,
+            (number, [place, ..]) => Called::No(number, place),
+        }
+    }
+
     /// Issues at a queue just opened. Where that is refused, the queue must stay as it was.
     fn issue(&self, request: Body, room: usize) -> Result<Answer, String> {
         let Body::Request {
@@ -483,7 +666,7 @@ impl Side {
             length,
             hash,
         };
-        let opened = words_of(&reference::Queue::open(16).0);
+        let opened = self.opened();
         let mut queue = opened;
         let answer = fill(room, |out| {
             let (number, [first, _]) = (self.issue)(&mut queue, &wanted, out);
@@ -498,15 +681,15 @@ impl Side {
     /// Answers at a queue with one request, of ID 0 and Length 5. It is released, or where the answer is
     /// refused the queue must stay as it was.
     fn answer(&self, message: &[u8]) -> Result<Answer, String> {
-        let mut before = words_of(&reference::Queue::open(16).0);
+        let mut before = self.opened();
         // The next ID, the number of requests, and the first one's ID and Length.
         before[1..5].copy_from_slice(&[1, 1, 0, 5]);
         let mut queue = before;
-        let answer = match (self.answer)(&mut queue, message) {
-            (0, [0, ..]) => Answer::Data,
-            (0, [1, ..]) => Answer::NotAvailable,
-            (0, [..]) => Answer::WrongSize,
-            (number, [place, ..]) => Answer::Refused(number, place),
+        let answer = match self.answer_at(&mut queue, message) {
+            Called::No(number, place) => Answer::Refused(number, place),
+            Called::NotAvailable => Answer::NotAvailable,
+            Called::WrongSize => Answer::WrongSize,
+            _ => Answer::Data,
         };
         let left = match answer {
             Answer::Refused(..) => 1,
@@ -555,6 +738,18 @@ impl Side {
             (false, 19) => Ok(Answer::No),
             (good, refused) => Err(format!("{good}, and {refused} of 19 calls give 15")),
         }
+    }
+}
+
+fn before_colon(word: &str) -> &str {
+    word.split(':').next().unwrap_or(word)
+}
+
+/// What an opening or a drop answers by its number, whose place is 0.
+fn verdict(number: u32) -> Called {
+    match number {
+        0 => Called::Ok,
+        _ => Called::No(number, 0),
     }
 }
 
@@ -767,6 +962,12 @@ fn why() {
 }
 
 #[test]
+fn default_window() {
+    let file = include_str!("cases/default_window.txt");
+    check_file("default_window.txt", file, Places::BadByte, 124);
+}
+
+#[test]
 fn in_a_file_from_before_the_bad_byte_its_string_counts() {
     // The pad byte at 15, and the lead at 13, of the string whose length word stands at 8.
     for (given, number, place) in [
@@ -836,6 +1037,19 @@ fn a_line_that_is_not_understood_or_has_another_answer_is_told() {
         "why 00000000 00000000 00000000 00000000 00000000 61 = no-name",
         "why 00000000 00000000 00000000 00000000 00000000 61 x = no-name",
         "why 00000000 00000000 00000000 00000000 00000000 61 0 = held 0",
+        "open = ok",
+        "open = desk",
+        "open = yes desk:4:0",
+        "open = ok desk:4:0:0",
+        "open = ok desk:4",
+        "open:x = ok desk:4:0",
+        "open:4:4 = ok desk:4:0",
+        "open open = ok ok desk:4:0",
+        "open issue = ok id:0 desk:4:1:0,1",
+        "open answer:0 = ok no:20:0 desk:4:0",
+        "desk:4:0 open = ok desk:4:0",
+        "desk:4 drop = ok desk:4:0",
+        "drop = ok desk:4:0",
         "let A",
         "let a 61",
         "let A 61 61",
@@ -877,6 +1091,17 @@ fn a_line_that_is_not_understood_or_has_another_answer_is_told() {
         "old 00000700 = wait:4",
         "list 00000000 00000000 00000000 00000000 00000000 = yes 0,0,0,5,1",
         "list 00000000 00000000 00000000 00000000 - = yes",
+        "open = ok desk:16:0",
+        "open = ok ok desk:4:0",
+        "open = no:22:0 desk:4:0",
+        "open:5 = ok desk:4:0",
+        "open:17 = no:22:0 desk:17:0",
+        "open issue:1 = ok id:1 desk:4:1:0,1",
+        "open issue:1 = ok id:0 desk:4:1:0,2",
+        "open issue:1 = ok id:0 desk:4:1",
+        "open issue:1:67 = ok no:16:0 desk:4:0",
+        "open issue:5 answer:0:5 = ok id:0 size desk:4:1",
+        "desk:4:1:0,5 drop = ok desk:4:0",
         "why 00000000 00000000 00000000 00000000 00000000 61 0 = no-block",
         "why 00000000 00000000 00000000 00000000 - 61 0 = no-name",
         "why 00000000 00000000 00000000 00000000 00000000 61 4294967296 = no-name",

@@ -5,6 +5,7 @@
 mod reference;
 mod support;
 
+use fordtrumpet::RequestQueue;
 use reference::Queue;
 use std::collections::BTreeMap;
 use std::env;
@@ -20,6 +21,9 @@ use support::random::Random;
 const LISTS: u64 = 20_000;
 const CALLS: usize = 40;
 const SEED: u64 = 0x0E5E_0000_0000_0000;
+
+/// Stands for no window, where one is picked.
+const NOT_STATED: u32 = u32::MAX - 1;
 
 type Seen = BTreeMap<(&'static str, u32), u64>;
 
@@ -106,7 +110,10 @@ fn list_of_calls(calls: QueueCalls, number: u64, seen: &mut Seen) -> Result<u64,
 
 fn one_call(comparison: &mut QueueComparison, large: bool, random: &mut Random) -> Compared {
     match random.below(60) {
-        0 => comparison.open(random.pick(&[0, 1, 4, 16, 17, u32::MAX])),
+        0 => match random.pick(&[0, 1, 4, 16, 17, u32::MAX, NOT_STATED]) {
+            NOT_STATED => comparison.open_default(),
+            window => comparison.open(window),
+        },
         1 => comparison.drop_link(),
         2 => {
             // A word that may leave the queue sound.
@@ -163,6 +170,7 @@ fn generated_lists_of_calls_get_the_same_answers() {
     if lists >= LISTS {
         for (call, numbers) in [
             ("open", &[0, 22][..]),
+            ("open without a window", &[0]),
             ("issue", &[0, 5, 7, 8, 9, 10, 14, 16, 17, 22, 24]),
             ("answer", &[0, 100, 200, 1, 2, 3, 4, 5, 6, 18, 20, 22]),
             ("drop", &[0, 22]),
@@ -267,6 +275,17 @@ fn a_difference_is_found() {
         },
         ..QUEUE_CALLS
     }));
+    for open_default in [
+        // Another window where none is stated: the largest, one more, none.
+        |queue: &mut _| (QUEUE_CALLS.open)(queue, 16),
+        |queue: &mut _| (QUEUE_CALLS.open)(queue, 5),
+        |queue: &mut _| (QUEUE_CALLS.open)(queue, 0),
+    ] {
+        assert!(is_found(QueueCalls {
+            open_default,
+            ..QUEUE_CALLS
+        }));
+    }
     assert!(is_found(QueueCalls {
         // Requests above the window count.
         totals: |queue| {
@@ -281,9 +300,14 @@ fn a_difference_is_found() {
 #[test]
 fn the_safe_queue_goes_the_same_way() {
     let mut random = Random::new(SEED);
-    for window in [1, 3, 16] {
-        let mut safe = fordtrumpet::RequestQueue::open_with(window).unwrap();
-        let mut queue = Queue::open(window).0;
+    for window in [1, 3, NOT_STATED, 16] {
+        let (mut safe, mut queue) = match window {
+            NOT_STATED => (RequestQueue::open(), Queue::open_default().0),
+            _ => (
+                RequestQueue::open_with(window).unwrap(),
+                Queue::open(window).0,
+            ),
+        };
         for _ in 0..10_000 {
             match random.below(20) {
                 0 => {

@@ -24,7 +24,7 @@ allowance = 524288
 
 -- the window of a queue that is opened without a stated one
 abbrev pub defaultWindow : ℕ
-defaultWindow = 16
+defaultWindow = 4
 
 -- a sound queue (document 01: a sound desk): its link is in order, and its bytes are within the allowance
 unfoldable pub isSound : RequestQueue → Bool

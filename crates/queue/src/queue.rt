@@ -23,8 +23,8 @@ pub struct RequestQueue {
 }
 
 impl RequestQueue {
-    // The default window.
-    pub const WINDOW: u32 = 16;
+    // The window of a queue that is opened without a stated one.
+    pub const DEFAULT_WINDOW: u32 = 4;
 
     // The byte allowance.
     pub const ALLOWANCE: u32 = 524288;
@@ -49,11 +49,11 @@ impl RequestQueue {
         }
     }
 
-    // An empty queue with the default window.
+    // An empty queue with the default window: none is stated.
     pub fn open() -> Emptied
         ensures { λ r. ⌜ r ≡ opening defaultWindow ⌝ }
     {
-        RequestQueue::open_with(RequestQueue::WINDOW)
+        RequestQueue::open_with(RequestQueue::DEFAULT_WINDOW)
     }
 
     // The bytes outstanding of a sound queue, or that it is none.

@@ -27,6 +27,17 @@ fn refused(number: u32, place: usize) {
     lines::number(place as u64);
 }
 
+// No window is stated.
+pub fn open() -> RequestQueue {
+    lines::text(b"open: ");
+    let d = RequestQueue::open();
+    let o = d.verdict;
+    verdict(o);
+    let q = d.queue;
+    outstanding(q);
+    q
+}
+
 pub fn open_with(window: u32) -> RequestQueue {
     lines::text(b"open with window ");
     lines::number(window as u64);

@@ -7,8 +7,12 @@ use link::Request;
 use queue::RequestQueue;
 
 fn main() {
-    allowance(16, b"window 16\n");
-    allowance(4, b"window 4\n");
+    lines::text(b"no window stated\n");
+    allowance(calls::open());
+    lines::text(b"window 16\n");
+    allowance(calls::open_with(16));
+    lines::text(b"window 4\n");
+    allowance(calls::open_with(4));
     ids();
     outcomes();
     drops();
@@ -22,10 +26,10 @@ fn twice(q: RequestQueue, size: u32) -> RequestQueue {
     calls::issue(q, size, 68)
 }
 
-// Four requests of 131,072 bytes and a fifth of one.
-fn allowance(window: u32, label: &[u8]) {
-    lines::text(label);
-    let q = twice(twice(calls::open_with(window), 131072), 131072);
+// Four requests of 131,072 bytes, and a fifth of as many and of one.
+fn allowance(q: RequestQueue) {
+    let q = twice(twice(q, 131072), 131072);
+    let q = calls::issue(q, 131072, 68);
     let q = calls::issue(q, 1, 68);
     again(q, 0, 0, 1);
 }

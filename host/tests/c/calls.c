@@ -195,6 +195,20 @@ static int tables(void)
     return 0;
 }
 
+/* Issues five requests of the largest Length, of which the first four pass; what the fifth gives. */
+static uint32_t five_blocks(uint32_t queue[BEP_QUEUE_WORDS])
+{
+    const uint8_t name[1] = {'a'};
+    const uint8_t hash[32] = {9};
+    uint8_t out[68];
+    uint64_t issued[BEP_ISSUED_WORDS];
+    for (uint32_t i = 0; i < 4; i++)
+        if (bep_queue_issue(out, 68, queue, name, 1, name, 1, 0, BEP_MAX_BLOCK, hash, 32, issued) != 0
+            || issued[BEP_ISSUED_ID] != i)
+            return BEP_ACCEPTED;
+    return bep_queue_issue(out, 68, queue, name, 1, name, 1, 0, BEP_MAX_BLOCK, hash, 32, issued);
+}
+
 /* Requests of a link, by its window of two. */
 static int queues(void)
 {
@@ -210,7 +224,11 @@ static int queues(void)
 
     CHECK(bep_queue_open(queue, 17) == BEP_REFUSED_UNSOUND && queue[BEP_QUEUE_WINDOW] == 0);
     CHECK(bep_queue_drop(queue) == BEP_REFUSED_UNSOUND);
-    CHECK(bep_queue_open_default(queue) == 0 && queue[BEP_QUEUE_WINDOW] == BEP_MAX_WINDOW);
+    /* No window stated: after four requests the fifth gives 16, and with 16 stated it gives 17. */
+    CHECK(bep_queue_open_default(queue) == 0 && queue[BEP_QUEUE_WINDOW] == 4);
+    CHECK(five_blocks(queue) == BEP_REFUSED_WINDOW_FULL);
+    CHECK(bep_queue_open(queue, BEP_MAX_WINDOW) == 0 && queue[BEP_QUEUE_WINDOW] == 16);
+    CHECK(five_blocks(queue) == BEP_REFUSED_ALLOWANCE_FULL);
     CHECK(bep_queue_open(queue, 2) == 0 && queue[BEP_QUEUE_WINDOW] == 2);
     CHECK(bep_queue_issue(out, 67, queue, data, 1, data, 1, 0, 5, hash, 32, issued)
           == BEP_REFUSED_NO_ROOM);

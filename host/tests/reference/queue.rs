@@ -3,6 +3,8 @@
 use super::{read, write_request, Body, Refusal, Span, MAX_ID, MAX_LENGTH};
 
 pub const WINDOW: u32 = 16;
+/// The window of a peer for whom none is stated.
+pub const DEFAULT_WINDOW: u32 = 4;
 pub const ALLOWANCE: u32 = 524_288;
 
 /// A request that was issued.
@@ -49,6 +51,11 @@ impl Queue {
             true => (queue(window), Ok(())),
             false => (queue(0), Err(Refusal::new(22, 0))),
         }
+    }
+
+    /// An empty queue for which no window is stated.
+    pub fn open_default() -> (Queue, Result<(), Refusal>) {
+        Queue::open(DEFAULT_WINDOW)
     }
 
     /// The requests that count, as far as there are entries.

@@ -23,6 +23,7 @@ pub struct Wanted {
 #[derive(Clone, Copy)]
 pub struct QueueCalls {
     pub open: fn(&mut Words, u32) -> u32,
+    pub open_default: fn(&mut Words) -> u32,
     pub issue: fn(&mut Words, &Wanted, &mut [u8]) -> Answer<2>,
     pub answer: fn(&mut Words, &[u8]) -> Answer<5>,
     pub drop_link: fn(&mut Words) -> u32,
@@ -32,6 +33,7 @@ pub struct QueueCalls {
 /// The library as it is.
 pub const QUEUE_CALLS: QueueCalls = QueueCalls {
     open,
+    open_default,
     issue,
     answer,
     drop_link,
@@ -42,6 +44,11 @@ fn open(queue: &mut Words, window: u32) -> u32 {
     // SAFETY: the queue has the size asked for. In all calls so has the answer, and each pointer and
     // length are those of one slice.
     unsafe { ffi::bep_queue_open(queue, window) }
+}
+
+fn open_default(queue: &mut Words) -> u32 {
+    // SAFETY: as in `open`.
+    unsafe { ffi::bep_queue_open_default(queue) }
 }
 
 fn issue(queue: &mut Words, wanted: &Wanted, out: &mut [u8]) -> Answer<2> {
@@ -178,6 +185,15 @@ impl<'a> QueueComparison<'a> {
         let given = (self.calls.open)(&mut self.words, window);
         same("open", &given, &number(&answer))?;
         self.met("open", given)
+    }
+
+    /// Opens without a stated window.
+    pub fn open_default(&mut self) -> Compared {
+        let (queue, answer) = Queue::open_default();
+        self.queue = queue;
+        let given = (self.calls.open_default)(&mut self.words);
+        same("open without a window", &given, &number(&answer))?;
+        self.met("open without a window", given)
     }
 
     /// Issues into a buffer of `room` bytes, which lies between bytes that must stay as they are.
