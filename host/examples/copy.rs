@@ -4,14 +4,13 @@
 //! without folders it makes two and shows what is copied. Nothing is deleted. The two talk over
 //! 127.0.0.1; between machines a TLS stream would stand in place of the TCP stream.
 //!
-//! Each device sends an Index of what it has, asks for the blocks it lacks, and answers Requests. The
-//! protocol has no message for the end, but after a change a device sends its Index again. So one that
-//! has nothing more to ask sends a second Index, changed or not, and is done once it has got one too.
+//! Each device sends an Index of what it has, asks for the blocks it lacks, and answers Requests. A block
+//! that comes with the wrong content is asked for again. The protocol has no message for the end, but
+//! after a change a device sends its Index again. So one that has nothing more to ask sends a second
+//! Index, changed or not, and is done once it has got one too.
 
 #[path = "copy/folder.rs"]
 pub mod folder;
-#[path = "copy/sha256.rs"]
-pub mod sha256;
 
 use folder::{Folder, Incoming, Report};
 use fordtrumpet::{
@@ -29,6 +28,10 @@ const REPOSITORY: &str = "default";
 
 /// A peer that neither sends nor takes anything for so long is given up.
 const PATIENCE: Duration = Duration::from_secs(60);
+
+/// So often a block is asked for that comes with the wrong content: a disk that reads badly once may do
+/// better the next time.
+pub const TRIES: u32 = 3;
 
 /// What an honest peer has under way to us at most: a window of Requests, one of Responses, and a few
 /// others. With room for these we always read on, so two that write don't wait for each other.
@@ -85,6 +88,8 @@ struct Ask {
     offset: u64,
     length: u32,
     hash: [u8; 32],
+    /// How often it came with the wrong content.
+    wrong: u32,
 }
 
 impl From<Wanted<'_>> for Ask {
@@ -94,6 +99,7 @@ impl From<Wanted<'_>> for Ask {
             offset: wanted.offset,
             length: wanted.length,
             hash: *wanted.hash,
+            wrong: 0,
         }
     }
 }
@@ -199,19 +205,25 @@ impl Device<'_> {
         }
     }
 
-    /// Keeps a block that was asked for, if it is the right one.
+    /// Keeps a block that was asked for, if it is the right one; the queue has seen to its hash.
     fn keep(&mut self, response: &[u8]) -> io::Result<()> {
         let outcome = self.queue.answer(response)?.outcome;
-        let ask = self.asks.pop_front().expect("the queue has it too");
+        let mut ask = self.asks.pop_front().expect("the queue has it too");
         let file = self.incoming.get_mut(&ask.name).expect("it was begun");
         match outcome {
-            Outcome::Data(data) if sha256::sha256(data) == ask.hash => {
+            Outcome::Data(data) => {
                 self.report.received += data.len();
                 file.write(ask.offset, data)?;
             }
-            Outcome::Data(_) => file.fault = Some("a block isn't what its hash says"),
             Outcome::NotAvailable => file.fault = Some("a block isn't available"),
             Outcome::WrongSize => file.fault = Some("a block has another length"),
+            Outcome::WrongContent => {
+                ask.wrong += 1;
+                match ask.wrong < TRIES {
+                    true => self.asks.push_back(ask),
+                    false => file.fault = Some("a block isn't what its hash says"),
+                }
+            }
         }
         Ok(())
     }

@@ -1,6 +1,6 @@
 /*
  * Takes the messages of a peer out of a buffer, merges the table that they bring with our own, and
- * prints what there is, which blocks are to be requested, and why one isn't.
+ * prints what there is, which blocks are requested and what comes, and why one isn't.
  *
  *   cc example.c $(pkg-config --cflags --libs fordtrumpet) -o example
  *
@@ -17,17 +17,21 @@ static const uint8_t ours[] = {
     0, 0, 0, 1, 'a', 0, 0, 0, 0, 0, 1, 0xA4, 0, 0, 0, 0, 0, 0, 0, 9, 0, 0, 0, 1, 0, 0, 0, 0
 };
 
-/* What the peer has: "a", version 2, with a block of 5 bytes, and "b", which is deleted. */
+/* What the peer has: "a", version 2, with one block, "hello", and "b", which is deleted. */
 static const uint8_t theirs[] = {
     0, 0, 0, 2,
     0, 0, 0, 1, 'a', 0, 0, 0, 0, 0, 1, 0xA4, 0, 0, 0, 0, 0, 0, 0, 9, 0, 0, 0, 2, 0, 0, 0, 1,
-    0, 0, 0, 5, 0, 0, 0, 32, 1, 2, 3, 4, 5, 6, 7, 8, 9, 10, 11, 12, 13, 14, 15, 16,
-    17, 18, 19, 20, 21, 22, 23, 24, 25, 26, 27, 28, 29, 30, 31, 32,
+    0, 0, 0, 5, 0, 0, 0, 32, 0x2c, 0xf2, 0x4d, 0xba, 0x5f, 0xb0, 0xa3, 0x0e, 0x26, 0xe8, 0x3b,
+    0x2a, 0xc5, 0xb9, 0xe2, 0x9e, 0x1b, 0x16, 0x1e, 0x5c, 0x1f, 0xa7, 0x42, 0x5e, 0x73, 0x04, 0x33,
+    0x62, 0x93, 0x8b, 0x98, 0x24,
     0, 0, 0, 1, 'b', 0, 0, 0, 0, 0, 0x10, 0, 0, 0, 0, 0, 0, 0, 0, 9, 0, 0, 0, 0, 0, 0, 0, 0
 };
 
 static const uint8_t repository[] = {'d', 'e', 'f', 'a', 'u', 'l', 't'};
 static const uint8_t empty[] = {0, 0, 0, 0};
+
+/* A block that comes with the wrong content is asked for so often. */
+enum { TRIES = 3 };
 
 /* A table that changes. */
 struct table {
@@ -125,29 +129,88 @@ struct tables {
 #define TABLE(t, i) (t)->at[i], (t)->length[i]
 #define FIVE(t) TABLE(t, 0), TABLE(t, 1), TABLE(t, 2), TABLE(t, 3), TABLE(t, 4)
 
+/* The requests of one peer that aren't answered yet. */
+struct queue {
+    uint32_t words[BEP_QUEUE_WORDS];
+    uint8_t hashes[BEP_QUEUE_HASHES];
+};
+
 /* From an entry of the list to the Request that asks for its block. */
-static int ask(const struct tables *tables, const struct bep_wanted *wanted)
+static int ask(struct queue *queue, const struct tables *tables,
+               const struct bep_wanted *wanted, uint64_t *id)
 {
     uint8_t request[BEP_MAX_REQUEST];
     uint64_t details[BEP_DETAILS_WORDS];
-    uint64_t written[1];
+    uint64_t issued[BEP_ISSUED_WORDS];
     const uint8_t *table;
     uint32_t number = bep_details(FIVE(tables), wanted->file, wanted->block, details);
 
     if (number != BEP_ACCEPTED)
         return refused(number, 0);
     table = tables->at[details[BEP_DETAILS_TABLE]];
-    number = bep_write_request(request, sizeof request, 0, repository, sizeof repository,
-                               table + details[BEP_DETAILS_NAME_AT],
-                               (size_t)details[BEP_DETAILS_NAME_LENGTH], wanted->offset,
-                               wanted->length, table + details[BEP_DETAILS_HASH_AT],
-                               BEP_HASH_BYTES, written);
+    number = bep_queue_issue(request, sizeof request, queue->words, queue->hashes,
+                             repository, sizeof repository, table + details[BEP_DETAILS_NAME_AT],
+                             (size_t)details[BEP_DETAILS_NAME_LENGTH], wanted->offset,
+                             wanted->length, table + details[BEP_DETAILS_HASH_AT],
+                             BEP_HASH_BYTES, issued);
     if (number != BEP_ACCEPTED)
-        return refused(number, written[BEP_PLACE]);
+        return refused(number, issued[BEP_PLACE]);
+    *id = issued[BEP_ISSUED_ID];
     printf("ask peer %" PRIu32 " for %" PRIu32 " bytes of %.*s at %" PRIu64 ": %" PRIu64
            " bytes\n", wanted->peer, wanted->length, (int)details[BEP_DETAILS_NAME_LENGTH],
            (const char *)table + details[BEP_DETAILS_NAME_AT], wanted->offset,
-           written[BEP_WRITTEN]);
+           issued[BEP_ISSUED_WRITTEN]);
+    return 0;
+}
+
+/* Stands for the Response that arrives: the first time the peer's card reads badly. */
+static int respond(uint64_t id, int tries, uint8_t *out, size_t room, size_t *length)
+{
+    static const uint8_t right[] = {'h', 'e', 'l', 'l', 'o'}, wrong[] = {'h', 'u', 'l', 'l', 'o'};
+    uint64_t written[1];
+    uint32_t number = bep_write_response(out, room, (uint32_t)id, tries == 0 ? wrong : right,
+                                         sizeof right, written);
+
+    if (number != BEP_ACCEPTED)
+        return refused(number, written[BEP_PLACE]);
+    *length = (size_t)written[BEP_WRITTEN];
+    return 0;
+}
+
+/* Asks for a block, and again as long as what comes isn't what its hash says. */
+static int fetch(struct queue *queue, const struct tables *tables,
+                 const struct bep_wanted *wanted)
+{
+    for (int tries = 0; tries < TRIES; tries++) {
+        uint8_t response[100];
+        uint64_t answered[BEP_ANSWERED_WORDS];
+        uint64_t id;
+        uint32_t number;
+        size_t length;
+
+        if (ask(queue, tables, wanted, &id)
+            || respond(id, tries, response, sizeof response, &length))
+            return 1;
+        number = bep_queue_answer(queue->words, queue->hashes, response, length, answered);
+        if (number != BEP_ACCEPTED)
+            return refused(number, answered[BEP_PLACE]);
+        switch (answered[BEP_ANSWERED_OUTCOME]) {
+        case BEP_OUTCOME_DATA:
+            printf("write %.*s\n", (int)answered[BEP_ANSWERED_DATA_LENGTH],
+                   (const char *)response + answered[BEP_ANSWERED_DATA_AT]);
+            return 0;
+        case BEP_OUTCOME_NOT_AVAILABLE:
+            printf("not available\n");
+            return 0;
+        case BEP_OUTCOME_WRONG_SIZE:
+            printf("another length than asked for\n");
+            return 0;
+        case BEP_OUTCOME_WRONG_CONTENT:
+            printf("not what the hash says\n");
+            break;
+        }
+    }
+    printf("given up\n");
     return 0;
 }
 
@@ -156,16 +219,18 @@ static int want(const struct tables *tables)
 {
     static uint8_t list[BEP_MAX_REQUEST_LIST];
     static const uint8_t name[] = {'b'};
+    struct queue queue;
     uint64_t written[1];
     uint64_t why[BEP_WHY_WORDS];
     uint32_t number = bep_request_list(list, sizeof list, FIVE(tables), written);
 
     if (number != BEP_ACCEPTED)
         return refused(number, written[BEP_PLACE]);
+    bep_queue_open_default(queue.words, queue.hashes);  /* each peer has one; here there is one */
     for (size_t i = 0; i < written[BEP_WRITTEN] / BEP_LIST_ENTRY_BYTES; i++) {
         struct bep_wanted wanted = bep_list_entry(list, i);
 
-        if (ask(tables, &wanted))
+        if (fetch(&queue, tables, &wanted))
             return 1;
     }
     number = bep_why(FIVE(tables), name, sizeof name, 0, why);

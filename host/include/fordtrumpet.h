@@ -1,11 +1,12 @@
 /*
- * Messages, tables and outstanding requests of the Block Exchange Protocol v1.0, as exported by
- * libbep.a.
+ * Messages, tables, hashes and outstanding requests of the Block Exchange Protocol v1.0, as
+ * exported by libbep.a.
  *
  * Slices. A run of bytes is given as a pointer and a length. NULL is allowed where the length is 0;
  * this is tested, not proved, since the prover takes slices, which have an address. A lent buffer
- * (out) must not overlap any input, and an answer, a queue or a feed none of them. An answer, a
- * queue and a feed are never NULL and have the size that they are declared with.
+ * (out) must not overlap any input, and an answer, a feed, a digest, an array of a queue or one of
+ * SHA-256 in pieces nothing else that is given. These are never NULL and have the size that they are
+ * declared with.
  *
  * Answers. Every function returns 0 when it accepts, else the number of the refusal, and fills the
  * whole answer; an enum before the function names the answer's words. A refusal comes with a place,
@@ -644,12 +645,14 @@ BEP_CHECKED uint32_t bep_serve(uint8_t *out, size_t out_len,
 
 /*
  * Outstanding requests of one link, within a window of 1 to 16 requests and an allowance of 524,288
- * bytes. The caller keeps the queue, whose words these are.
+ * bytes. The caller keeps the queue. Both arrays are the queue, its words and its hashes, and they
+ * go together.
  *
- * Each call but the totals returns 22 first, where the queue isn't sound: a window of 1 to 16, no
- * more requests than that, Lengths of 1 to 131,072 and together within the allowance, IDs that rise
- * by one (0 after 4095) up to the next ID. The words of unused entries don't count. The place of 22
- * is 0. A refused call leaves the queue as it was.
+ * Each call but the openings and the totals returns 22 first, where the queue isn't sound: a window
+ * of 1 to 16, no more requests than that, Lengths of 1 to 131,072 and together within the allowance,
+ * IDs that rise by one (0 after 4095) up to the next ID. Of a hash nothing is asked, and unused
+ * entries don't count. The place of 22 is 0. A refused call but an opening leaves both arrays as
+ * they were.
  */
 enum {
     BEP_QUEUE_WINDOW = 0,
@@ -657,7 +660,9 @@ enum {
     BEP_QUEUE_COUNT = 2,                /* how many requests are outstanding */
     BEP_QUEUE_ENTRIES = 3,              /* ID and Length of the oldest; those of the others follow,
                                            16 in all, the unused ones 0 */
-    BEP_QUEUE_WORDS = 35
+    BEP_QUEUE_WORDS = 35,
+    BEP_QUEUE_HASHES = 512              /* bytes: the hash that the oldest asks for, and those of
+                                           the others, 32 bytes each; the unused ones 0 */
 };
 
 /*
@@ -665,13 +670,15 @@ enum {
  * take as many, and for a bulk copy. Another window than 1 to 16 returns 22 and leaves an empty
  * queue of window 0, which every call but the totals refuses.
  */
-BEP_CHECKED uint32_t bep_queue_open(uint32_t queue[BEP_QUEUE_WORDS], uint32_t window);
+BEP_CHECKED uint32_t bep_queue_open(uint32_t queue[BEP_QUEUE_WORDS],
+                                    uint8_t hashes[BEP_QUEUE_HASHES], uint32_t window);
 
 /*
  * Opens an empty queue with the default window, which is 4: some devices stall with more requests
  * open. The queue doesn't know whether its window was stated. Returns 0.
  */
-uint32_t bep_queue_open_default(uint32_t queue[BEP_QUEUE_WORDS]);
+uint32_t bep_queue_open_default(uint32_t queue[BEP_QUEUE_WORDS],
+                                uint8_t hashes[BEP_QUEUE_HASHES]);
 
 /* The words of an issue. Refused, all but the place are 0. */
 enum {
@@ -681,11 +688,12 @@ enum {
 };
 
 /*
- * Writes a Request with the next ID and appends it to the queue. Refused with what the fields give,
- * 16, 17 or 14, in this order.
+ * Writes a Request with the next ID and appends it to the queue, with its hash. Refused with what
+ * the fields give, 16, 17 or 14, in this order.
  */
 BEP_CHECKED uint32_t bep_queue_issue(uint8_t *out, size_t out_len,
                                      uint32_t queue[BEP_QUEUE_WORDS],
+                                     uint8_t hashes[BEP_QUEUE_HASHES],
                                      const uint8_t *repository, size_t repository_len,
                                      const uint8_t *name, size_t name_len,
                                      uint64_t offset, uint32_t length,
@@ -702,23 +710,27 @@ enum {
     BEP_ANSWERED_WORDS = 5
 };
 
-/* What came: the data, as long as asked; nothing; data of another length than asked. */
+/* What came. The request is released, whatever it is, so that the block may be asked for again. */
 enum {
-    BEP_OUTCOME_DATA = 0,
-    BEP_OUTCOME_NOT_AVAILABLE = 1,
-    BEP_OUTCOME_WRONG_SIZE = 2
+    BEP_OUTCOME_DATA = 0,               /* as long as asked, and with the hash asked for */
+    BEP_OUTCOME_NOT_AVAILABLE = 1,      /* nothing */
+    BEP_OUTCOME_WRONG_SIZE = 2,         /* data of another length than asked */
+    BEP_OUTCOME_WRONG_CONTENT = 3       /* data of that length, but with another SHA-256 */
 };
 
 /*
- * Releases the oldest request by the Response to it. Refused with what reading the message gives,
- * 18 or 20, in this order; all words but the place are 0 then.
+ * Releases the oldest request by the Response to it. Data as long as asked are hashed, all others
+ * aren't looked at. Refused with what reading the message gives, 18 or 20, in this order; all words
+ * but the place are 0 then.
  */
 BEP_CHECKED uint32_t bep_queue_answer(uint32_t queue[BEP_QUEUE_WORDS],
+                                      uint8_t hashes[BEP_QUEUE_HASHES],
                                       const uint8_t *message, size_t message_len,
                                       uint64_t answer[BEP_ANSWERED_WORDS]);
 
 /* Releases all requests: the link is gone. The next ID goes on. */
-BEP_CHECKED uint32_t bep_queue_drop(uint32_t queue[BEP_QUEUE_WORDS]);
+BEP_CHECKED uint32_t bep_queue_drop(uint32_t queue[BEP_QUEUE_WORDS],
+                                    uint8_t hashes[BEP_QUEUE_HASHES]);
 
 /* The words of the totals. */
 enum {
@@ -727,9 +739,36 @@ enum {
     BEP_TOTALS_WORDS = 2
 };
 
-/* Totals the entries that count, whether the queue is sound or not. Returns 0. */
+/* Totals the entries that count, by the words alone, whether they are sound or not. Returns 0. */
 uint32_t bep_queue_totals(const uint32_t queue[BEP_QUEUE_WORDS],
                           uint64_t answer[BEP_TOTALS_WORDS]);
+
+/* SHA-256 by FIPS 180-4, which the hash of a block is. Fills the digest. Returns 0. */
+uint32_t bep_sha256(const uint8_t *message, size_t message_len, uint8_t digest[BEP_HASH_BYTES]);
+
+/*
+ * The same of a message that is given run by run, of whatever length or none. The caller keeps
+ * words and tail, which are handed back changed by each run. Any may be given: of the tail only as
+ * many bytes matter as came after the last whole block, the number of bytes so far modulo 64.
+ */
+enum {
+    BEP_SHA256_VALUE = 0,               /* eight words, the hash value so far */
+    BEP_SHA256_COUNT = 8,               /* two words, the number of bytes so far, high word first */
+    BEP_SHA256_WORDS = 10,
+    BEP_SHA256_TAIL_BYTES = 64          /* the bytes after the last whole block, and then zeros */
+};
+
+/* Begins, with no bytes so far. Returns 0. */
+uint32_t bep_sha256_begin(uint32_t words[BEP_SHA256_WORDS], uint8_t tail[BEP_SHA256_TAIL_BYTES]);
+
+/* Goes on with the next run. Returns 0. */
+uint32_t bep_sha256_update(uint32_t words[BEP_SHA256_WORDS], uint8_t tail[BEP_SHA256_TAIL_BYTES],
+                           const uint8_t *bytes, size_t bytes_len);
+
+/* Fills the digest by all bytes so far. Words and tail stay, so that more may come. Returns 0. */
+uint32_t bep_sha256_finish(const uint32_t words[BEP_SHA256_WORDS],
+                           const uint8_t tail[BEP_SHA256_TAIL_BYTES],
+                           uint8_t digest[BEP_HASH_BYTES]);
 
 #ifdef __cplusplus
 }

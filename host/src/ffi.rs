@@ -8,6 +8,18 @@
 /// The words of a feed.
 pub const FEED_WORDS: usize = 16;
 
+/// The words of a queue.
+pub const QUEUE_WORDS: usize = 35;
+
+/// The bytes of its hashes.
+pub const QUEUE_HASHES: usize = 512;
+
+/// The words of a SHA-256 that is worked out run by run.
+pub const SHA256_WORDS: usize = 10;
+
+/// The bytes of one of its blocks, and so of its tail.
+pub const SHA256_TAIL: usize = 64;
+
 unsafe extern "C" {
     /// Reads the message at the start of the input.
     ///
@@ -327,19 +339,28 @@ unsafe extern "C" {
         answer: *mut [u64; 5],
     ) -> u32;
 
-    /// Opens an empty queue of outstanding requests: its words are the window, the next ID, the count,
-    /// and the ID and the length of each of 16 entries. Refused (22), the window is 0.
-    pub fn bep_queue_open(queue: *mut [u32; 35], window: u32) -> u32;
+    /// Opens an empty queue of outstanding requests. Both arrays are the queue and go together: its words
+    /// are the window, the next ID, the count, and the ID and the length of each of 16 entries; its hashes
+    /// are those of the entries, 32 bytes each. Refused (22), all of them are 0.
+    pub fn bep_queue_open(
+        queue: *mut [u32; QUEUE_WORDS],
+        hashes: *mut [u8; QUEUE_HASHES],
+        window: u32,
+    ) -> u32;
 
     /// Opens an empty queue with the default window, which is 4.
-    pub fn bep_queue_open_default(queue: *mut [u32; 35]) -> u32;
+    pub fn bep_queue_open_default(
+        queue: *mut [u32; QUEUE_WORDS],
+        hashes: *mut [u8; QUEUE_HASHES],
+    ) -> u32;
 
     /// Writes a Request with the next ID and appends it. `answer[0]` is the number of bytes written and
     /// `[1]` the ID; refused, they are the place and 0.
     pub fn bep_queue_issue(
         out: *mut u8,
         out_len: usize,
-        queue: *mut [u32; 35],
+        queue: *mut [u32; QUEUE_WORDS],
+        hashes: *mut [u8; QUEUE_HASHES],
         repository: *const u8,
         repository_len: usize,
         name: *const u8,
@@ -352,20 +373,47 @@ unsafe extern "C" {
     ) -> u32;
 
     /// Releases the oldest request by the Response to it. `answer[0]` is 0 where it brought the data, 1
-    /// where they aren't available, 2 where their size is wrong; `[1]` and `[2]` the request's ID and
-    /// length; `[3]` and `[4]` start and length of the data in the message, zeros where there are none
-    /// to use. Refused, `[0]` is the place and the rest is 0.
+    /// where they aren't available, 2 where their size is wrong, 3 where their content is: the size is
+    /// right and their SHA-256 isn't the hash asked for; `[1]` and `[2]` the request's ID and length;
+    /// `[3]` and `[4]` start and length of the data in the message, zeros where there are none to use.
+    /// Refused, `[0]` is the place and the rest is 0.
     pub fn bep_queue_answer(
-        queue: *mut [u32; 35],
+        queue: *mut [u32; QUEUE_WORDS],
+        hashes: *mut [u8; QUEUE_HASHES],
         message: *const u8,
         message_len: usize,
         answer: *mut [u64; 5],
     ) -> u32;
 
     /// Releases all requests.
-    pub fn bep_queue_drop(queue: *mut [u32; 35]) -> u32;
+    pub fn bep_queue_drop(queue: *mut [u32; QUEUE_WORDS], hashes: *mut [u8; QUEUE_HASHES]) -> u32;
 
     /// `answer[0]` is how many requests are outstanding and `[1]` the sum of their lengths, of any
-    /// queue. Gives 0.
-    pub fn bep_queue_totals(queue: *const [u32; 35], answer: *mut [u64; 2]) -> u32;
+    /// queue, by its words. Gives 0.
+    pub fn bep_queue_totals(queue: *const [u32; QUEUE_WORDS], answer: *mut [u64; 2]) -> u32;
+
+    /// Fills the digest with the SHA-256 of the message. Gives 0.
+    pub fn bep_sha256(message: *const u8, message_len: usize, digest: *mut [u8; 32]) -> u32;
+
+    /// Begins the SHA-256 of a message that is given run by run: of no bytes so far. The words are the
+    /// eight of the hash value so far and the number of bytes so far, as two words, high first; the tail
+    /// has the bytes after the last whole block of 64, and then zeros. Gives 0.
+    pub fn bep_sha256_begin(words: *mut [u32; SHA256_WORDS], tail: *mut [u8; SHA256_TAIL]) -> u32;
+
+    /// Goes on with a run of bytes. Any words and any tail will do: of the tail only as many bytes
+    /// matter as came after the last whole block. Gives 0.
+    pub fn bep_sha256_update(
+        words: *mut [u32; SHA256_WORDS],
+        tail: *mut [u8; SHA256_TAIL],
+        bytes: *const u8,
+        bytes_len: usize,
+    ) -> u32;
+
+    /// Fills the digest with the SHA-256 of all bytes so far, of words and a tail as above, which stay as
+    /// they are. Gives 0.
+    pub fn bep_sha256_finish(
+        words: *const [u32; SHA256_WORDS],
+        tail: *const [u8; SHA256_TAIL],
+        digest: *mut [u8; 32],
+    ) -> u32;
 }

@@ -1,4 +1,4 @@
-//! Messages, tables and outstanding requests of the Block Exchange Protocol v1.0.
+//! Messages, tables, hashes and outstanding requests of the Block Exchange Protocol v1.0.
 //!
 //! The reading and the writing are done by a verified static library, `libbep.a`; this crate gives
 //! them in Rust's own terms. What the library asks of its callers, such as pointers that aren't null
@@ -18,7 +18,9 @@
 //! [`request_list`] tells which blocks to ask for, from whom, and with what: each [`Wanted`] has the name
 //! and the hash that go into its Request. [`why`] tells of any block why it isn't in the list.
 //!
-//! A [`RequestQueue`] keeps the requests of a link that aren't answered yet.
+//! A [`RequestQueue`] keeps the requests of a link that aren't answered yet, with the hash that each asks
+//! for, and gives out no data that have another one. [`sha256`] works out such a hash, and a [`Sha256`] that
+//! of bytes that come in runs.
 //!
 //! An old edition of the protocol has no Repository in Index, IndexUpdate and Request, and no Options.
 //! [`read_old`], [`write_old_index`], [`write_old_index_update`] and [`write_old_request`] are for links
@@ -53,8 +55,8 @@
 //! fordtrumpet = { path = "fordtrumpet/host" }
 //! ```
 //!
-//! Without the default feature `std` the crate needs `alloc` alone; what it lacks then is [`Reader`] and
-//! the way from a [`Refusal`] to a `std::io::Error`.
+//! Without the default feature `std` the crate needs `alloc` alone; what it lacks then is [`Reader`], writing
+//! into a [`Sha256`] as a `std::io::Write` and the way from a [`Refusal`] to a `std::io::Error`.
 //!
 //! ```
 //! use fordtrumpet::{read, write_index, FilesBuilder, Flags, Message};
@@ -105,6 +107,7 @@ mod reader;
 mod records;
 mod refusal;
 mod serve;
+mod sha256;
 mod show;
 mod sizes;
 mod table;
@@ -128,6 +131,7 @@ pub use records::{
 };
 pub use refusal::Refusal;
 pub use serve::{serve, Serving};
+pub use sha256::{sha256, Sha256};
 pub use sizes::{
     MAX_BLOCK, MAX_BLOCKS, MAX_FILES, MAX_INDEX, MAX_NAME, MAX_OPTIONS, MAX_REPOSITORY,
     MAX_REQUEST, MAX_RESPONSE, MAX_TABLE_INDEX, PING, REPLY,

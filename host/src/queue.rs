@@ -7,14 +7,16 @@ use core::fmt;
 /// The requests of one link that were issued and not answered yet, oldest first.
 ///
 /// There is a window of at most 16 requests, of 4 unless it is stated, and an allowance of 524,288
-/// bytes. Requests are answered in the order of their issue.
+/// bytes. Requests are answered in the order of their issue. The hash of each is kept, and what comes is
+/// held against it: data are given out only if they are those that were asked for.
 ///
 /// ```
-/// use fordtrumpet::{write_response, Outcome, RequestQueue};
+/// use fordtrumpet::{sha256, write_response, Outcome, RequestQueue};
 ///
 /// let mut queue = RequestQueue::open();
 /// let mut out = [0; 100];
-/// let issued = queue.issue("default", "notes.txt", 0, 3, &[0xA7; 32], &mut out)?;
+/// // Its hash stands in the peer's Index; an entry of the request list has it.
+/// let issued = queue.issue("default", "notes.txt", 0, 3, &sha256(b"abc"), &mut out)?;
 /// // Send `out[..issued.written]`, and there comes the answer:
 /// let length = write_response(issued.id, b"abc", &mut out)?;
 /// let answered = queue.answer(&out[..length])?;
@@ -24,7 +26,8 @@ use core::fmt;
 /// ```
 #[derive(Clone, PartialEq, Eq)]
 pub struct RequestQueue {
-    words: [u32; 35],
+    words: [u32; ffi::QUEUE_WORDS],
+    hashes: [u8; ffi::QUEUE_HASHES],
 }
 
 /// A request that was issued.
@@ -75,20 +78,23 @@ pub struct Answered<'a> {
 /// let mut queue = RequestQueue::open();
 /// let _ = queue.issue("default", "a", 0, 5, &[7; 32], &mut [0; 100])?;
 /// match queue.answer(&[0, 0, 3, 0, 0, 0, 0, 1, b'x', 0, 0, 0])?.outcome {
-///     Outcome::Data(data) => println!("{} bytes", data.len()),
+///     Outcome::Data(data) => println!("{} bytes to be written", data.len()),
 ///     Outcome::NotAvailable => println!("ask another peer"),
 ///     Outcome::WrongSize => println!("one byte for five"),
+///     Outcome::WrongContent => println!("ask again: five bytes, but not those"),
 /// }
 /// # Ok::<(), fordtrumpet::Refusal>(())
 /// ```
 #[derive(Clone, Copy, Debug, PartialEq, Eq)]
 pub enum Outcome<'a> {
-    /// Data, as long as asked for.
+    /// The data: as long as asked for, and with the hash asked for.
     Data(&'a [u8]),
     /// None: the block isn't available.
     NotAvailable,
     /// Data of another length than asked for.
     WrongSize,
+    /// Data of the length asked for, but with another SHA-256.
+    WrongContent,
 }
 
 impl RequestQueue {
@@ -120,11 +126,11 @@ impl RequestQueue {
     /// # Ok::<(), fordtrumpet::Refusal>(())
     /// ```
     pub fn open() -> Self {
-        let mut words = [0; 35];
-        // SAFETY: the queue has the size asked for.
-        let number = unsafe { ffi::bep_queue_open_default(&mut words) };
+        let (mut words, mut hashes) = ([0; ffi::QUEUE_WORDS], [0; ffi::QUEUE_HASHES]);
+        // SAFETY: words and hashes have the sizes asked for.
+        let number = unsafe { ffi::bep_queue_open_default(&mut words, &mut hashes) };
         assert_eq!(number, 0, "the default window is one of those there are");
-        RequestQueue { words }
+        RequestQueue { words, hashes }
     }
 
     /// An empty queue with this window.
@@ -148,10 +154,10 @@ impl RequestQueue {
     /// # Ok::<(), fordtrumpet::Refusal>(())
     /// ```
     pub fn open_with(window: u32) -> Result<Self, Refusal> {
-        let mut words = [0; 35];
-        // SAFETY: the queue has the size asked for.
-        let number = unsafe { ffi::bep_queue_open(&mut words, window) };
-        accepted(number, 0).map(|()| RequestQueue { words })
+        let (mut words, mut hashes) = ([0; ffi::QUEUE_WORDS], [0; ffi::QUEUE_HASHES]);
+        // SAFETY: words and hashes have the sizes asked for.
+        let number = unsafe { ffi::bep_queue_open(&mut words, &mut hashes, window) };
+        accepted(number, 0).map(|()| RequestQueue { words, hashes })
     }
 
     /// Writes a Request with the next ID into `out` and appends it to the queue.
@@ -186,12 +192,13 @@ impl RequestQueue {
         let (repository, name) = (repository.as_ref(), name.as_ref());
         let mut answer = [0; 2];
         // SAFETY: each pointer and length are those of one slice, `out` and the queue are borrowed for
-        // this call alone, and queue and answer have the sizes asked for.
+        // this call alone, and words, hashes and answer have the sizes asked for.
         let number = unsafe {
             ffi::bep_queue_issue(
                 out.as_mut_ptr(),
                 out.len(),
                 &mut self.words,
+                &mut self.hashes,
                 repository.as_ptr(),
                 repository.len(),
                 name.as_ptr(),
@@ -212,29 +219,36 @@ impl RequestQueue {
 
     /// Releases the oldest request by the Response to it, whatever that brought.
     ///
+    /// Data as long as asked for are hashed, all others aren't looked at.
+    ///
     /// # Errors
     ///
     /// What reading the message gives; 18 if it isn't a Response; 20 if its ID isn't that of the oldest
     /// request, or none is outstanding.
     ///
     /// ```
-    /// use fordtrumpet::{write_response, Outcome, RequestQueue};
+    /// use fordtrumpet::{sha256, write_response, Outcome, RequestQueue};
     ///
     /// let mut queue = RequestQueue::open();
-    /// let mut out = [0; 100];
-    /// let id = queue.issue("default", "a", 0, 5, &[0xA7; 32], &mut out)?.id;
-    /// let length = write_response(id, b"", &mut out)?;
-    /// assert_eq!(queue.answer(&out[..length])?.outcome, Outcome::NotAvailable);
+    /// let (hash, mut out) = (sha256(b"hello"), [0; 100]);
+    /// let id = queue.issue("default", "a", 0, 5, &hash, &mut out)?.id;
+    /// let length = write_response(id, b"hullo", &mut out)?;
+    /// assert_eq!(queue.answer(&out[..length])?.outcome, Outcome::WrongContent);
+    /// // The request is released, so that the block is asked for again, here or elsewhere.
     /// assert_eq!(queue.answer(&out[..length]).unwrap_err().number(), 20);
+    /// let id = queue.issue("default", "a", 0, 5, &hash, &mut out)?.id;
+    /// let length = write_response(id, b"hello", &mut out)?;
+    /// assert_eq!(queue.answer(&out[..length])?.outcome, Outcome::Data(b"hello"));
     /// # Ok::<(), fordtrumpet::Refusal>(())
     /// ```
     pub fn answer<'a>(&mut self, message: &'a [u8]) -> Result<Answered<'a>, Refusal> {
         let mut answer = [0; 5];
-        // SAFETY: pointer and length are those of one slice, and queue and answer have the sizes asked
-        // for.
+        // SAFETY: pointer and length are those of one slice, and words, hashes and answer have the sizes
+        // asked for.
         let number = unsafe {
             ffi::bep_queue_answer(
                 &mut self.words,
+                &mut self.hashes,
                 message.as_ptr(),
                 message.len(),
                 &mut answer,
@@ -248,7 +262,8 @@ impl RequestQueue {
             outcome: match kind {
                 0 => Outcome::Data(span(message, start, len)),
                 1 => Outcome::NotAvailable,
-                _ => Outcome::WrongSize,
+                2 => Outcome::WrongSize,
+                _ => Outcome::WrongContent,
             },
         })
     }
@@ -266,8 +281,8 @@ impl RequestQueue {
     /// # Ok::<(), fordtrumpet::Refusal>(())
     /// ```
     pub fn drop_link(&mut self) {
-        // SAFETY: the queue has the size asked for.
-        let number = unsafe { ffi::bep_queue_drop(&mut self.words) };
+        // SAFETY: words and hashes have the sizes asked for.
+        let number = unsafe { ffi::bep_queue_drop(&mut self.words, &mut self.hashes) };
         assert_eq!(number, 0, "a queue that was opened is sound");
     }
 
@@ -297,7 +312,7 @@ impl RequestQueue {
 
     fn totals(&self) -> [u64; 2] {
         let mut answer = [0; 2];
-        // SAFETY: queue and answer have the sizes asked for.
+        // SAFETY: words and answer have the sizes asked for.
         let number = unsafe { ffi::bep_queue_totals(&self.words, &mut answer) };
         assert_eq!(number, 0, "any queue has totals");
         answer

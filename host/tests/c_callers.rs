@@ -251,7 +251,8 @@ fn a_result_that_nobody_looks_at_is_warned_of() {
             "#include \"fordtrumpet.h\"\n\
              int main(void)\n{{\n    \
              uint32_t number = 0, queue[BEP_QUEUE_WORDS] = {{0}};\n    \
-             {result}bep_queue_drop(queue);\n    \
+             uint8_t hashes[BEP_QUEUE_HASHES] = {{0}};\n    \
+             {result}bep_queue_drop(queue, hashes);\n    \
              return (int)number;\n}}\n"
         );
         fs::write(&source, text).unwrap();
@@ -402,8 +403,15 @@ fn the_header_has_the_sizes_and_the_version() {
         ),
         ("LIST_ENTRY_BYTES", list.as_bytes().len()),
         ("MAX_REQUEST_LIST", MAX_REQUEST_LIST),
-        ("QUEUE_WORDS", size_of::<RequestQueue>() / 4),
+        (
+            "QUEUE_WORDS * 4 + BEP_QUEUE_HASHES",
+            size_of::<RequestQueue>(),
+        ),
         ("FEED_WORDS", size_of::<Feed>() / 4),
+        (
+            "SHA256_WORDS * 4 + BEP_SHA256_TAIL_BYTES",
+            size_of::<Sha256>(),
+        ),
         ("MODE", Flags::MODE.0 as usize),
         ("DELETED", Flags::DELETED.0 as usize),
         ("INVALID", Flags::INVALID.0 as usize),
@@ -519,6 +527,9 @@ fn the_example_needs_only_what_is_installed() {
              a: version 2, 1 blocks\n\
              b: version 0, deleted\n\
              ask peer 1 for 5 bytes of a at 0: 72 bytes\n\
+             not what the hash says\n\
+             ask peer 1 for 5 bytes of a at 0: 72 bytes\n\
+             write hello\n\
              block 0 of b: deleted\n"
         );
         assert_eq!(run(&mut Command::new(elsewhere.join("example"))), expected);

@@ -12,9 +12,7 @@ use support::draft::{Body, Draft};
 use support::encode::{Encoding, File};
 use support::feeding::{self, told_words};
 use support::library::{Answer as Words, LIBRARY};
-use support::queue_calls::{
-    answered_words, queue_of, words_of, Wanted, Words as Queue, QUEUE_CALLS,
-};
+use support::queue_calls::{answered_words, as_lent, queue_of, Lent as Queue, Wanted, QUEUE_CALLS};
 use support::table_calls::TABLE_CALLS;
 use support::why_calls::{self, details_words};
 
@@ -27,6 +25,7 @@ enum Answer {
     Data,
     NotAvailable,
     WrongSize,
+    WrongContent,
     /// A message's type, ID and number of bytes.
     Read(u64, u64, u64),
     /// What a lent buffer was filled with.
@@ -42,7 +41,9 @@ enum Answer {
     /// The entries of a request list: file, block, offset, length, peer.
     Entries(Vec<[u64; 5]>),
     /// What each call at a queue gets, and the queue that the last one hands back.
-    Calls(Vec<Called>, Queue),
+    Calls(Vec<Called>, Box<Queue>),
+    /// The hash of some bytes.
+    Hash([u8; 32]),
 }
 
 /// What a run of bytes gets, and how many of its bytes are taken.
@@ -61,9 +62,12 @@ enum Called {
     Ok,
     /// Issued with this ID.
     Id(u64),
+    /// Issued with this ID, and the Request written.
+    Request(u64, Vec<u8>),
     Data,
     NotAvailable,
     WrongSize,
+    WrongContent,
     /// Refused with a number and a place.
     No(u32, u64),
 }
@@ -78,10 +82,11 @@ impl fmt::Display for Answer {
             Answer::Data => f.write_str("data"),
             Answer::NotAvailable => f.write_str("none"),
             Answer::WrongSize => f.write_str("size"),
+            Answer::WrongContent => f.write_str("content"),
             Answer::Read(kind, id, end) => write!(f, "yes {kind} {id} {end}"),
             Answer::Filled(bytes) => {
                 f.write_str("yes ")?;
-                bytes.iter().try_for_each(|byte| write!(f, "{byte:02x}"))
+                write_hex(f, bytes)
             }
             Answer::Refused(number, place) => write!(f, "no {number} {place}"),
             Answer::RefusedWith(number) => write!(f, "no {number}"),
@@ -104,14 +109,23 @@ impl fmt::Display for Answer {
             }
             Answer::Calls(calls, queue) => {
                 calls.iter().try_for_each(|called| write!(f, "{called} "))?;
-                write!(f, "desk:{}:{}", queue[0], queue[1])?;
-                let requests = queue[3..].chunks(2).take(queue[2] as usize);
-                requests
-                    .into_iter()
-                    .try_for_each(|request| write!(f, ":{},{}", request[0], request[1]))
+                let [window, next, count, ..] = queue.words;
+                write!(f, "desk:{window}:{next}")?;
+                let requests = queue_of(queue).requests;
+                requests[..requests.len().min(count as usize)]
+                    .iter()
+                    .try_for_each(|request| {
+                        write!(f, ":{},{},", request.id, request.length)?;
+                        write_hex(f, &request.hash)
+                    })
             }
+            Answer::Hash(hash) => write_hex(f, hash),
         }
     }
+}
+
+fn write_hex(f: &mut fmt::Formatter<'_>, bytes: &[u8]) -> fmt::Result {
+    bytes.iter().try_for_each(|byte| write!(f, "{byte:02x}"))
 }
 
 impl fmt::Display for Called {
@@ -119,9 +133,14 @@ impl fmt::Display for Called {
         match self {
             Called::Ok => f.write_str("ok"),
             Called::Id(id) => write!(f, "id:{id}"),
+            Called::Request(id, request) => {
+                write!(f, "id:{id}:")?;
+                write_hex(f, request)
+            }
             Called::Data => f.write_str("data"),
             Called::NotAvailable => f.write_str("none"),
             Called::WrongSize => f.write_str("size"),
+            Called::WrongContent => f.write_str("content"),
             Called::No(number, place) => write!(f, "no:{number}:{place}"),
         }
     }
@@ -155,49 +174,66 @@ fn list_entry(word: &str) -> Result<[u64; 5], String> {
 }
 
 /// The answer that a case asks for to a call at a queue.
-fn called(word: &str) -> Result<Called, String> {
+fn called(word: &str, rules: Rules) -> Result<Called, String> {
     let parts: Vec<&str> = word.split(':').collect();
     Ok(match *parts {
         ["ok"] => Called::Ok,
         ["id", id] => Called::Id(number(id)?),
+        ["id", id, request] => Called::Request(number(id)?, bytes(request)?),
+        // The data are zeros, and what is asked for isn't their hash.
+        ["data"] if rules < Rules::Hashes => Called::WrongContent,
         ["data"] => Called::Data,
         ["none"] => Called::NotAvailable,
         ["size"] => Called::WrongSize,
+        ["content"] => Called::WrongContent,
         ["no", refusal, place] => Called::No(number(refusal)?, number(place)?),
         _ => return Err(format!("{word} is no answer to a call at a desk")),
     })
 }
 
-/// The queue that `desk:WINDOW:NEXT:ID,LENGTH:..` stands for. Entries that aren't used are zeros.
-fn desk(word: &str) -> Result<Queue, String> {
+/// The hash that a file without hashes asks for.
+const ONES: [u8; 32] = [0x11; 32];
+
+/// The queue that `desk:WINDOW:NEXT:ID,LENGTH,HASH:..` stands for. Entries that aren't used are zeros.
+fn desk(word: &str, rules: Rules) -> Result<Queue, String> {
     let parts: Vec<&str> = word.split(':').collect();
     let ["desk", window, next, requests @ ..] = &parts[..] else {
         return Err(format!("{word} is no desk"));
     };
-    let mut queue = [0; 35];
-    queue[..3].copy_from_slice(&[number(window)?, number(next)?, requests.len() as u32]);
-    let mut entries = queue[3..].chunks_mut(2);
+    let mut queue = queue_of(&Queue::filled(0));
+    (queue.window, queue.next) = (number(window)?, number(next)?);
+    queue.count = requests.len() as u32;
+    let mut entries = queue.requests.iter_mut();
     for request in requests {
-        match (request.split_once(','), entries.next()) {
-            (Some((id, length)), Some(entry)) => {
-                entry.copy_from_slice(&[number(id)?, number(length)?]);
-            }
+        let fields: Vec<&str> = request.split(',').collect();
+        let (id, length, hash) = match *fields {
+            [id, length, hash] if rules == Rules::Hashes => (id, length, whole_hash(hash)?),
+            [id, length] if rules < Rules::Hashes => (id, length, ONES),
             _ => return Err(format!("{word} is no desk")),
-        }
+        };
+        let Some(entry) = entries.next() else {
+            return Err(format!("{word} is no desk"));
+        };
+        (entry.id, entry.length, entry.hash) = (number(id)?, number(length)?, hash);
     }
-    Ok(queue)
+    Ok(as_lent(&queue))
+}
+
+fn whole_hash(word: &str) -> Result<[u8; 32], String> {
+    let hash = bytes(word)?.try_into();
+    hash.map_err(|_| format!("{word} is no hash"))
 }
 
 /// The answer that a case asks for.
-fn answer(words: &[&str]) -> Result<Answer, String> {
+fn answer(words: &[&str], rules: Rules) -> Result<Answer, String> {
     Ok(match *words {
         ["yes", ref entries @ ..] if entries.iter().any(|word| word.contains(',')) => {
             let entries: Result<_, _> = entries.iter().map(|word| list_entry(word)).collect();
             Answer::Entries(entries?)
         }
         [ref calls @ .., last] if last.starts_with("desk:") => {
-            let calls: Result<_, _> = calls.iter().map(|word| called(word)).collect();
-            Answer::Calls(calls?, desk(last)?)
+            let calls: Result<_, _> = calls.iter().map(|word| called(word, rules)).collect();
+            Answer::Calls(calls?, Box::new(desk(last, rules)?))
         }
         ["no-name"] => Answer::Why(Reason::NoSuchName),
         ["deleted"] => Answer::Why(Reason::Deleted),
@@ -220,6 +256,8 @@ fn answer(words: &[&str]) -> Result<Answer, String> {
         ["data"] => Answer::Data,
         ["none"] => Answer::NotAvailable,
         ["size"] => Answer::WrongSize,
+        ["content"] => Answer::WrongContent,
+        [hash] if hash.len() == 64 => Answer::Hash(whole_hash(hash)?),
         ["yes", filled] => Answer::Filled(bytes(filled)?),
         ["yes", kind, id, end] => Answer::Read(number(kind)?, number(id)?, number(end)?),
         ["no", refusal, place] => Answer::Refused(number(refusal)?, number(place)?),
@@ -228,22 +266,25 @@ fn answer(words: &[&str]) -> Result<Answer, String> {
     })
 }
 
-/// Where 6 and 7 have their place in a file.
-#[derive(Clone, Copy, PartialEq, Eq)]
-enum Places {
-    /// At the bad byte.
-    BadByte,
-    /// At the length word, as before request §5. Such a file tells the number and which string is at fault;
-    /// at which of its bytes is told by `bad_byte.txt`.
+/// The rules that a file was written under, as far as later requests changed what it says.
+#[derive(Clone, Copy, PartialEq, Eq, PartialOrd, Ord)]
+enum Rules {
+    /// Before request §5: 6 and 7 have their place at the length word. Such a file tells the number and
+    /// which string is at fault; at which of its bytes is told by `bad_byte.txt`.
     LengthWord,
+    /// Before request §6: their place is at the bad byte. A queue keeps no hashes: each request asks for the
+    /// same one, which no data have that come.
+    BadByte,
+    /// A queue keeps hashes.
+    Hashes,
 }
 
-impl Places {
-    /// Whether an answer is the one that a file of such places asks for.
+impl Rules {
+    /// Whether an answer is the one that a file under these rules asks for.
     fn agree(self, answer: &Answer, expected: &Answer) -> bool {
         match (answer, expected) {
             (&Answer::Refused(number @ (6 | 7), place), &Answer::Refused(asked, word))
-                if self == Places::LengthWord =>
+                if self == Rules::LengthWord =>
             {
                 // No string has more than 256 bytes with its pad.
                 number == asked && (word + 4..word + 4 + 256).contains(&place)
@@ -284,6 +325,9 @@ struct Side {
     issue: fn(&mut Queue, &Wanted, &mut [u8]) -> Words<2>,
     answer: fn(&mut Queue, &[u8]) -> Words<5>,
     drop_link: fn(&mut Queue) -> u32,
+    hash: fn(&[u8]) -> [u8; 32],
+    /// Bytes, and how many of them come in a run.
+    hash_in_runs: fn(&[u8], usize) -> [u8; 32],
 }
 
 const SIDES: [Side; 2] = [
@@ -316,13 +360,19 @@ const SIDES: [Side; 2] = [
             Ok(fordtrumpet::Serving::Replied(len)) => (0, [len as u64]),
             Err(refusal) => (refusal.number(), [refusal.place() as u64]),
         },
-        open: |words, window| match window {
-            None => (QUEUE_CALLS.open_default)(words),
-            Some(window) => (QUEUE_CALLS.open)(words, window),
+        open: |queue, window| match window {
+            None => (QUEUE_CALLS.open_default)(queue),
+            Some(window) => (QUEUE_CALLS.open)(queue, window),
         },
         issue: QUEUE_CALLS.issue,
         answer: QUEUE_CALLS.answer,
         drop_link: QUEUE_CALLS.drop_link,
+        hash: fordtrumpet::sha256,
+        hash_in_runs: |bytes, len| {
+            let mut hash = fordtrumpet::Sha256::new();
+            bytes.chunks(len).for_each(|run| hash.update(run));
+            hash.finish()
+        },
     },
     Side {
         name: "reference",
@@ -354,26 +404,32 @@ const SIDES: [Side; 2] = [
                 reference::Serving::Replied(len) => len,
             }))
         },
-        open: |words, window| {
+        open: |lent, window| {
             let (queue, opened) = match window {
                 None => reference::Queue::open_default(),
                 Some(window) => reference::Queue::open(window),
             };
-            *words = words_of(&queue);
+            *lent = as_lent(&queue);
             opened.map_or_else(|refusal| refusal.number, |()| 0)
         },
         issue: issue_by_reference,
-        answer: |words, message| {
-            let mut queue = queue_of(words);
+        answer: |lent, message| {
+            let mut queue = queue_of(lent);
             let answered = answered_words(queue.answer(message));
-            *words = words_of(&queue);
+            *lent = as_lent(&queue);
             answered
         },
-        drop_link: |words| {
-            let mut queue = queue_of(words);
+        drop_link: |lent| {
+            let mut queue = queue_of(lent);
             let dropped = queue.drop_link();
-            *words = words_of(&queue);
+            *lent = as_lent(&queue);
             dropped.map_or_else(|refusal| refusal.number, |()| 0)
+        },
+        hash: reference::sha256,
+        hash_in_runs: |bytes, len| {
+            let mut hash = reference::Sha256::new();
+            bytes.chunks(len).for_each(|run| hash.update(run));
+            hash.finish()
         },
     },
 ];
@@ -387,8 +443,8 @@ fn run_of(number: u32, first: u64, taken: u64) -> Run {
     }
 }
 
-fn issue_by_reference(words: &mut Queue, wanted: &Wanted, out: &mut [u8]) -> Words<2> {
-    let mut queue = queue_of(words);
+fn issue_by_reference(lent: &mut Queue, wanted: &Wanted, out: &mut [u8]) -> Words<2> {
+    let mut queue = queue_of(lent);
     let id = queue.next;
     let issued = queue.issue(
         &wanted.repository,
@@ -398,7 +454,7 @@ fn issue_by_reference(words: &mut Queue, wanted: &Wanted, out: &mut [u8]) -> Wor
         &wanted.hash,
         out,
     );
-    *words = words_of(&queue);
+    *lent = as_lent(&queue);
     match issued {
         Ok(len) => (0, [len as u64, u64::from(id)]),
         Err(refusal) => (refusal.number, [refusal.place as u64, 0]),
@@ -407,7 +463,7 @@ fn issue_by_reference(words: &mut Queue, wanted: &Wanted, out: &mut [u8]) -> Wor
 
 impl Side {
     /// What a call answers.
-    fn run(&self, given: &[&str]) -> Result<Answer, String> {
+    fn run(&self, given: &[&str], rules: Rules) -> Result<Answer, String> {
         match *given {
             ["text", contents] => self.text(bytes(contents)?),
             ["name", contents] => self.name(&bytes(contents)?),
@@ -465,8 +521,9 @@ impl Side {
                 self.issue(body("write-request", fields)?, number(room)?)
             }
             ["answer", message] => self.answer(&bytes(message)?),
+            ["sha", message] => self.hash(&bytes(message)?),
             [first, ref calls @ ..] if ["open", "desk"].contains(&before_colon(first)) => {
-                self.calls(first, calls)
+                self.calls(first, calls, rules)
             }
             _ => Err("no call that is known".to_string()),
         }
@@ -566,14 +623,14 @@ impl Side {
 
     /// A queue just opened, without a stated window.
     fn opened(&self) -> Queue {
-        let mut queue = [0xD7; 35];
+        let mut queue = Queue::filled(0xD7);
         assert_eq!((self.open)(&mut queue, None), 0);
         queue
     }
 
     /// Calls at one queue, which is opened or handed in first. One that is refused must leave it as it was.
-    fn calls(&self, first: &str, calls: &[&str]) -> Result<Answer, String> {
-        let mut queue = [0xD7; 35];
+    fn calls(&self, first: &str, calls: &[&str], rules: Rules) -> Result<Answer, String> {
+        let mut queue = Queue::filled(0xD7);
         let mut answers = Vec::new();
         match first.split_once(':') {
             None => answers.push(verdict((self.open)(&mut queue, None))),
@@ -581,41 +638,82 @@ impl Side {
                 let window = number(window)?;
                 answers.push(verdict((self.open)(&mut queue, Some(window))));
             }
-            Some(_) => queue = desk(first)?,
+            Some(_) => queue = desk(first, rules)?,
         }
         for call in calls {
             let before = queue;
             let parts: Vec<&str> = call.split(':').collect();
-            let answer = match *parts {
-                ["issue", length] => self.issue_at(&mut queue, number(length)?, 68)?,
-                ["issue", length, room] => {
-                    self.issue_at(&mut queue, number(length)?, number(room)?)?
-                }
-                ["answer", id, size] => {
-                    let data = vec![0; number(size)?];
-                    let response = Draft::new(number(id)?, Body::Response { data });
-                    self.answer_at(&mut queue, &response.encode().bytes)
-                }
-                ["drop"] => verdict((self.drop_link)(&mut queue)),
-                _ => return Err(format!("{call} is no call at a desk")),
+            let answer = match (rules, &parts[..]) {
+                (_, ["drop"]) => verdict((self.drop_link)(&mut queue)),
+                (Rules::Hashes, parts) => self.call(&mut queue, parts)?,
+                (_, parts) => self.call_without_hash(&mut queue, parts)?,
             };
             if matches!(answer, Called::No(..)) && queue != before {
                 return Err(format!("{answer}, but the queue is {queue:?}"));
             }
             answers.push(answer);
         }
-        Ok(Answer::Calls(answers, queue))
+        Ok(Answer::Calls(answers, Box::new(queue)))
     }
 
-    /// Issues a Request of this Length, as the file has them. What is written must be that Request.
-    fn issue_at(&self, queue: &mut Queue, length: u32, room: usize) -> Result<Called, String> {
-        let wanted = Wanted {
-            repository: b"r".to_vec(),
-            name: b"n".to_vec(),
-            offset: 0,
-            length,
-            hash: vec![0x11; 32],
-        };
+    /// A call at a queue.
+    fn call(&self, queue: &mut Queue, parts: &[&str]) -> Result<Called, String> {
+        match *parts {
+            ["issue", length, hash] => {
+                let wanted = short_request(number(length)?, bytes(hash)?);
+                let issued = self.issue_at(queue, wanted, 68)?;
+                Ok(issued.map_or_else(|refused| refused, |(id, _)| Called::Id(id)))
+            }
+            ["request", repository, name, offset, length, hash, room] => {
+                let wanted = Wanted {
+                    repository: bytes(repository)?,
+                    name: bytes(name)?,
+                    offset: number(offset)?,
+                    length: number(length)?,
+                    hash: bytes(hash)?,
+                };
+                let issued = self.issue_at(queue, wanted, number(room)?)?;
+                Ok(issued.map_or_else(
+                    |refused| refused,
+                    |(id, request)| Called::Request(id, request),
+                ))
+            }
+            ["answer", id, data] => {
+                let data = bytes(data)?;
+                let response = Draft::new(number(id)?, Body::Response { data });
+                Ok(self.answer_at(queue, &response.encode().bytes))
+            }
+            ["message", message] => Ok(self.answer_at(queue, &bytes(message)?)),
+            _ => Err(format!("{} is no call at a desk", parts.join(":"))),
+        }
+    }
+
+    /// A call as the files have it that know of no hashes: zeros come in answer.
+    fn call_without_hash(&self, queue: &mut Queue, parts: &[&str]) -> Result<Called, String> {
+        match *parts {
+            ["issue", length, ref room @ ..] if room.len() < 2 => {
+                let wanted = short_request(number(length)?, ONES.to_vec());
+                let room = room.first().map_or(Ok(68), |room| number(room))?;
+                let issued = self.issue_at(queue, wanted, room)?;
+                Ok(issued.map_or_else(|refused| refused, |(id, _)| Called::Id(id)))
+            }
+            ["answer", id, size] => {
+                let data = vec![0; number(size)?];
+                let response = Draft::new(number(id)?, Body::Response { data });
+                Ok(self.answer_at(queue, &response.encode().bytes))
+            }
+            _ => Err(format!("{} is no call at a desk", parts.join(":"))),
+        }
+    }
+
+    /// Issues a Request and gives its ID and what is written, which must be that Request; or how it is
+    /// refused.
+    fn issue_at(
+        &self,
+        queue: &mut Queue,
+        wanted: Wanted,
+        room: usize,
+    ) -> Result<Result<(u64, Vec<u8>), Called>, String> {
         let mut id = 0;
         let answer = fill(room, |out| {
             let (number, [first, second]) = (self.issue)(queue, &wanted, out);
@@ -625,14 +723,14 @@ impl Side {
         let body = Body::Request {
             repository: wanted.repository,
             name: wanted.name,
-            offset: 0,
-            length,
+            offset: wanted.offset,
+            length: wanted.length,
             hash: wanted.hash,
         };
         match answer {
-            Answer::Refused(number, place) => Ok(Called::No(number, place)),
+            Answer::Refused(number, place) => Ok(Err(Called::No(number, place))),
             Answer::Filled(message) if message == Draft::new(id as u32, body).encode().bytes => {
-                Ok(Called::Id(id))
+                Ok(Ok((id, message)))
             }
             answer => Err(format!("{answer} is not the Request {id}")),
         }
@@ -642,7 +740,8 @@ impl Side {
         match (self.answer)(queue, message) {
             (0, [0, ..]) => Called::Data,
             (0, [1, ..]) => Called::NotAvailable,
-            (0, [..]) => Called::WrongSize,
+            (0, [2, ..]) => Called::WrongSize,
+            (0, _) => Called::WrongContent,
             (number, [place, ..]) => Called::No(number, place),
         }
     }
@@ -678,27 +777,43 @@ impl Side {
         }
     }
 
-    /// Answers at a queue with one request, of ID 0 and Length 5. It is released, or where the answer is
-    /// refused the queue must stay as it was.
+    /// Answers at a queue with one request, of ID 0 and Length 5, that asks for `abcde`. It is released, or
+    /// where the answer is refused the queue must stay as it was.
     fn answer(&self, message: &[u8]) -> Result<Answer, String> {
-        let mut before = self.opened();
-        // The next ID, the number of requests, and the first one's ID and Length.
-        before[1..5].copy_from_slice(&[1, 1, 0, 5]);
+        let mut before = queue_of(&self.opened());
+        (before.next, before.count) = (1, 1);
+        before.requests[0].length = 5;
+        before.requests[0].hash = (self.hash)(b"abcde");
+        let before = as_lent(&before);
         let mut queue = before;
         let answer = match self.answer_at(&mut queue, message) {
             Called::No(number, place) => Answer::Refused(number, place),
             Called::NotAvailable => Answer::NotAvailable,
             Called::WrongSize => Answer::WrongSize,
+            Called::WrongContent => Answer::WrongContent,
             _ => Answer::Data,
         };
         let left = match answer {
             Answer::Refused(..) => 1,
             _ => 0,
         };
-        match (queue[2] == left, queue == before) {
+        match (queue.words[2] == left, queue == before) {
             (true, same) if same == (left == 1) => Ok(answer),
             _ => Err(format!("{answer}, but the queue is {queue:?}")),
         }
+    }
+
+    /// The hash of some bytes, which is the same however they are cut.
+    fn hash(&self, message: &[u8]) -> Result<Answer, String> {
+        let hash = (self.hash)(message);
+        for len in [1, 55, 64, 100, 131_071] {
+            let in_runs = (self.hash_in_runs)(message, len);
+            if in_runs != hash {
+                let (hash, in_runs) = (Answer::Hash(hash), Answer::Hash(in_runs));
+                return Err(format!("{hash}, but {in_runs} in runs of {len}"));
+            }
+        }
+        Ok(Answer::Hash(hash))
     }
 
     /// Whether these bytes are a good table: no call that is given them as a table gives 15, or each.
@@ -738,6 +853,17 @@ impl Side {
             (false, 19) => Ok(Answer::No),
             (good, refused) => Err(format!("{good}, and {refused} of 19 calls give 15")),
         }
+    }
+}
+
+/// The fields of a Request where only Length and hash are given.
+fn short_request(length: u32, hash: Vec<u8>) -> Wanted {
+    Wanted {
+        repository: b"r".to_vec(),
+        name: b"n".to_vec(),
+        offset: 0,
+        length,
+        hash,
     }
 }
 
@@ -877,13 +1003,14 @@ fn fill(room: usize, call: impl FnOnce(&mut [u8]) -> Words<1>) -> Result<Answer,
 
 /// Runs a case by both sides and gives whether they answer so, as they must unless it is open. An error
 /// names the line.
-fn run(case: &Case, places: Places) -> Result<bool, String> {
+fn run(case: &Case, rules: Rules) -> Result<bool, String> {
     let told = |why: String| format!("{}\n{why}", case.line);
-    let expected = answer(&case.answer).map_err(told)?;
-    let given: Vec<&str> = case.given.iter().map(|word| &word[..]).collect();
+    let [given, expected] = [&case.given, &case.answer]
+        .map(|words| words.iter().map(|word| &word[..]).collect::<Vec<_>>());
+    let expected = answer(&expected, rules).map_err(told)?;
     for side in SIDES {
-        let answer = side.run(&given).map_err(told)?;
-        if !places.agree(&answer, &expected) {
+        let answer = side.run(&given, rules).map_err(told)?;
+        if !rules.agree(&answer, &expected) {
             return match case.open {
                 true => Ok(false),
                 false => Err(told(format!("the {} answers: {answer}", side.name))),
@@ -895,11 +1022,11 @@ fn run(case: &Case, places: Places) -> Result<bool, String> {
 
 /// Runs a file and gives how many cases it has, and how many open ones got another answer; or an error
 /// for each that fails.
-fn run_file(file: &str, places: Places) -> Result<(usize, usize), String> {
+fn run_file(file: &str, rules: Rules) -> Result<(usize, usize), String> {
     let (mut count, mut otherwise, mut failed) = (0, 0, Vec::new());
     for case in cases(file) {
         count += 1;
-        match case.and_then(|case| run(&case, places)) {
+        match case.and_then(|case| run(&case, rules)) {
             Ok(so) => otherwise += usize::from(!so),
             Err(why) => failed.push(why),
         }
@@ -912,8 +1039,8 @@ fn run_file(file: &str, places: Places) -> Result<(usize, usize), String> {
 
 /// Runs a file, which has so many cases, and says so even when the test passes.
 #[track_caller]
-fn check_file(name: &str, file: &str, places: Places, cases: usize) {
-    match run_file(file, places) {
+fn check_file(name: &str, file: &str, rules: Rules, cases: usize) {
+    match run_file(file, rules) {
         Ok((count, otherwise)) => {
             assert_eq!(count, cases, "{name}");
             let text = format!(
@@ -928,43 +1055,49 @@ fn check_file(name: &str, file: &str, places: Places, cases: usize) {
 #[test]
 fn utf8() {
     let file = include_str!("cases/utf8.txt");
-    check_file("utf8.txt", file, Places::LengthWord, 219);
+    check_file("utf8.txt", file, Rules::LengthWord, 219);
 }
 
 #[test]
 fn names() {
     let file = include_str!("cases/names.txt");
-    check_file("names.txt", file, Places::LengthWord, 185);
+    check_file("names.txt", file, Rules::LengthWord, 185);
 }
 
 #[test]
 fn bad_byte() {
     let file = include_str!("cases/bad_byte.txt");
-    check_file("bad_byte.txt", file, Places::BadByte, 180);
+    check_file("bad_byte.txt", file, Rules::BadByte, 180);
 }
 
 #[test]
 fn old_edition() {
     let file = include_str!("cases/old_edition.txt");
-    check_file("old_edition.txt", file, Places::BadByte, 219);
+    check_file("old_edition.txt", file, Rules::BadByte, 219);
 }
 
 #[test]
 fn runs() {
     let file = include_str!("cases/runs.txt");
-    check_file("runs.txt", file, Places::BadByte, 158);
+    check_file("runs.txt", file, Rules::BadByte, 158);
 }
 
 #[test]
 fn why() {
     let file = include_str!("cases/why.txt");
-    check_file("why.txt", file, Places::BadByte, 153);
+    check_file("why.txt", file, Rules::BadByte, 153);
 }
 
 #[test]
 fn default_window() {
     let file = include_str!("cases/default_window.txt");
-    check_file("default_window.txt", file, Places::BadByte, 124);
+    check_file("default_window.txt", file, Rules::BadByte, 124);
+}
+
+#[test]
+fn sha256() {
+    let file = include_str!("cases/sha256.txt");
+    check_file("sha256.txt", file, Rules::Hashes, 171);
 }
 
 #[test]
@@ -976,22 +1109,22 @@ fn in_a_file_from_before_the_bad_byte_its_string_counts() {
     ] {
         let line = |number, place| format!("{given} = no {number} {place}\n");
         assert_eq!(
-            run_file(&line(number, 8), Places::LengthWord),
+            run_file(&line(number, 8), Rules::LengthWord),
             Ok((1, 0)),
             "{given}"
         );
         assert_eq!(
-            run_file(&line(number, place), Places::BadByte),
+            run_file(&line(number, place), Rules::BadByte),
             Ok((1, 0)),
             "{given}"
         );
         for other in [4, 8, place - 1, place + 1] {
-            assert!(run_file(&line(number, other), Places::BadByte).is_err());
+            assert!(run_file(&line(number, other), Rules::BadByte).is_err());
         }
         for other in [place - 3, place, place + 1] {
-            assert!(run_file(&line(number, other), Places::LengthWord).is_err());
+            assert!(run_file(&line(number, other), Rules::LengthWord).is_err());
         }
-        assert!(run_file(&line(13 - number, 8), Places::LengthWord).is_err());
+        assert!(run_file(&line(13 - number, 8), Rules::LengthWord).is_err());
     }
 }
 
@@ -1000,7 +1133,7 @@ fn a_line_that_is_not_understood_or_has_another_answer_is_told() {
     assert_eq!(
         run_file(
             "# no case\n\ntext 61*3.c3a4 = yes # a comment\n",
-            Places::BadByte
+            Rules::BadByte
         ),
         Ok((1, 0))
     );
@@ -1050,6 +1183,9 @@ fn a_line_that_is_not_understood_or_has_another_answer_is_told() {
         "desk:4:0 open = ok desk:4:0",
         "desk:4 drop = ok desk:4:0",
         "drop = ok desk:4:0",
+        "sha = e3b0c44298fc1c149afbf4c8996fb92427ae41e4649b934ca495991b7852b855",
+        "sha 61 = yes",
+        "sha 61 = ca978112",
         "let A",
         "let a 61",
         "let A 61 61",
@@ -1102,23 +1238,50 @@ fn a_line_that_is_not_understood_or_has_another_answer_is_told() {
         "open issue:1:67 = ok no:16:0 desk:4:0",
         "open issue:5 answer:0:5 = ok id:0 size desk:4:1",
         "desk:4:1:0,5 drop = ok desk:4:0",
+        "open issue:5 answer:0:5 = ok id:0 content desk:4:1:0,5",
+        "sha 61 = e3b0c44298fc1c149afbf4c8996fb92427ae41e4649b934ca495991b7852b855",
         "why 00000000 00000000 00000000 00000000 00000000 61 0 = no-block",
         "why 00000000 00000000 00000000 00000000 - 61 0 = no-name",
         "why 00000000 00000000 00000000 00000000 00000000 61 4294967296 = no-name",
     ] {
         let file = format!("text 61 = yes\n{line}\ntext - = yes\n");
-        let told = run_file(&file, Places::BadByte).unwrap_err();
+        let told = run_file(&file, Rules::BadByte).unwrap_err();
+        assert!(told.starts_with(&format!("{line}\n")), "{told}");
+    }
+    let hashes = "let Habc ba7816bf.8f01cfea.414140de.5dae2223.b00361a3.96177a9c.b410ff61.f20015ad";
+    for line in [
+        "open issue:3 = ok id:0 desk:4:1",
+        "open issue:3:68 = ok id:0 desk:4:1:0,3",
+        "open issue:3:Hnone = ok id:0 desk:4:1",
+        "open issue:3:Habc = ok id:0 desk:4:1:0,3",
+        "open request:72:6e:7:3:Habc = ok no:14:0 desk:4:0",
+        "open message = ok no:1:0 desk:4:0",
+        "desk:4:1:0,3 drop = ok desk:4:1",
+        "desk:4:1:0,3,00 drop = ok desk:4:1",
+        // Understood, but the answer is another.
+        "open issue:3:Habc = ok id:0 desk:4:1:0,3,00*32",
+        "open issue:3:Habc answer:0:616263 = ok id:0 content desk:4:1",
+        "open issue:3:Habc answer:0:616264 = ok id:0 data desk:4:1",
+        "open issue:3:Habc answer:0:616264 = ok id:0 size desk:4:1",
+        "open issue:3:Habc answer:0:616264 = ok id:0 content desk:4:1:0,3,Habc",
+        "open issue:3:Habc answer:0:61 = ok id:0 content desk:4:1",
+        "open request:72:6e:7:3:Habc:68 = ok id:0:00000200 desk:4:1:0,3,Habc",
+        "open request:72:6e:7:3:00:68 = ok no:9:28 desk:4:0",
+        "desk:4:1:0,3,00*32 drop = no:22:0 desk:4:1:0,3,00*32",
+    ] {
+        let file = format!("{hashes}\n{line}\n");
+        let told = run_file(&file, Rules::Hashes).unwrap_err();
         assert!(told.starts_with(&format!("{line}\n")), "{told}");
     }
     // Where another answer may be right too, it is no fault.
     let open = "text c0af = yes # open\n";
-    assert_eq!(run_file(open, Places::BadByte), Ok((1, 1)));
-    assert!(run_file("text c0af = yes # opened\n", Places::BadByte).is_err());
+    assert_eq!(run_file(open, Rules::BadByte), Ok((1, 1)));
+    assert!(run_file("text c0af = yes # opened\n", Rules::BadByte).is_err());
 }
 
 #[test]
 fn names_stand_for_bytes() {
-    let run = |file: &str| run_file(file, Places::BadByte);
+    let run = |file: &str| run_file(file, Rules::BadByte);
     let let_two = "let A 61*3.c3 # an a with two dots\nlet Bb a4.A.a4\nlet None -\n";
     assert_eq!(run(let_two), Ok((0, 0)));
     for (word, hex) in [
@@ -1133,6 +1296,11 @@ fn names_stand_for_bytes() {
         let given = &cases.unwrap()[0].given[2];
         assert_eq!(bytes(given), bytes(hex), "{word}");
     }
+    // Each piece of a word by itself, in answers too.
+    let file = format!("{let_two}open issue:3:A.a4 = ok desk:4:1:0,3,Bb:1,3,None.62\n");
+    let case = cases(&file).next().unwrap().unwrap();
+    assert_eq!(case.given, ["open", "issue:3:616161c3a4"]);
+    assert_eq!(case.answer, ["ok", "desk:4:1:0,3,a4616161c3a4:1,3,62"]);
     assert!(run("let A 61\nlet A 62\n").is_err());
     assert!(run("text A = yes\nlet A 61\n").is_err());
     assert_eq!(run("let A 61\ntext A = yes\n"), Ok((1, 0)));

@@ -5,9 +5,9 @@
 mod example;
 
 use example::folder::{Folder, Report};
-use example::{copy, exchange, messages, next_message};
+use example::{copy, exchange, messages, next_message, TRIES};
 use fordtrumpet::{
-    read, write_index, write_ping, write_response, Block, FilesBuilder, Flags, Message,
+    read, sha256, write_index, write_ping, write_response, Block, FilesBuilder, Flags, Message,
     MAX_TABLE_INDEX,
 };
 use std::collections::BTreeMap;
@@ -251,6 +251,11 @@ fn send_index(stream: &mut TcpStream, files: &FilesBuilder) {
 
 /// Answers each Request with these bytes until the second Index comes; gives the names asked for.
 fn answer_all(stream: &mut TcpStream, data: &[u8]) -> Vec<String> {
+    answer_each(stream, |_| data)
+}
+
+/// The same with other bytes for each Request, by its number from 0.
+fn answer_each<'a>(stream: &mut TcpStream, data: impl Fn(usize) -> &'a [u8]) -> Vec<String> {
     let (mut names, mut indexes) = (Vec::new(), 0);
     let mut stream = &*stream;
     let mut messages = messages(stream);
@@ -260,6 +265,7 @@ fn answer_all(stream: &mut TcpStream, data: &[u8]) -> Vec<String> {
         match read(&message).unwrap().message {
             Message::Index(_) => indexes += 1,
             Message::Request(request) => {
+                let data = data(names.len());
                 names.push(request.name.to_string());
                 let length = write_response(request.id, data, &mut out).unwrap();
                 stream.write_all(&out[..length]).unwrap();
@@ -277,7 +283,7 @@ fn names_that_are_not_for_files_here_are_not_written() {
     symlink(&outside, inner.join("link")).unwrap();
     put(&inner, "mine", b"mine", 9);
     let data = b"hello";
-    let hash = example::sha256::sha256(data);
+    let hash = sha256(data);
     let bad = [".COPY-partial/x", ".copy-partial/x", "link/x"];
     // With data of their own, and without: an empty file takes no Request.
     for blocks in [
@@ -370,11 +376,11 @@ fn a_name_that_leads_out_of_the_folder_ends_the_exchange() {
 
 #[test]
 fn blocks_that_are_not_what_was_asked_for_are_not_kept() {
-    let hash = example::sha256::sha256(b"hello");
-    for (data, why) in [
-        (&b"hullo"[..], "a: a block isn't what its hash says"),
-        (b"hello!", "a: a block has another length"),
-        (b"", "a: a block isn't available"),
+    let hash = sha256(b"hello");
+    for (data, why, times) in [
+        (&b"hullo"[..], "a: a block isn't what its hash says", TRIES),
+        (b"hello!", "a: a block has another length", 1),
+        (b"", "a: a block isn't available", 1),
     ] {
         let [folder, _] = folders("wrong_blocks");
         let mut files = FilesBuilder::new();
@@ -390,12 +396,41 @@ fn blocks_that_are_not_what_was_asked_for_are_not_kept() {
         );
         let (device, mut stream) = device(folder.clone());
         send_index(&mut stream, &files);
-        assert_eq!(answer_all(&mut stream, data).len(), 40);
+        let asked = answer_all(&mut stream, data).len();
+        assert_eq!(asked, 40 * times as usize);
         send_index(&mut stream, &files);
         let report = device.join().unwrap().unwrap();
         assert_eq!(report.left, [why]);
         assert!(report.copied.is_empty() && contents(&folder).is_empty());
     }
+}
+
+/// A card that reads badly sends blocks of the right size and the wrong content.
+#[test]
+fn a_block_of_wrong_content_is_asked_for_again() {
+    let [folder, _] = folders("asked_again");
+    let hash = sha256(b"hello");
+    let block = Block {
+        length: 5,
+        hash: &hash,
+    };
+    let mut files = FilesBuilder::new();
+    files.push(b"a", Flags(0o644), 1_700_000_000, 0, [block; 30]);
+    let (device, mut stream) = device(folder.clone());
+    send_index(&mut stream, &files);
+    // One in four is wrong: 8 of 30, then 2 of these 8, and none of these 2.
+    let asked = answer_each(&mut stream, |number| match number % 4 {
+        1 => b"hullo",
+        _ => b"hello",
+    });
+    send_index(&mut stream, &files);
+    let report = device.join().unwrap().unwrap();
+    assert_eq!(asked.len(), 40);
+    assert_eq!((report.copied.len(), report.left.len()), (1, 0));
+    assert_eq!(report.received, 150);
+    let files = contents(&folder);
+    let (data, ..) = &files[Path::new("a")];
+    assert_eq!(*data, b"hello".repeat(30));
 }
 
 #[test]

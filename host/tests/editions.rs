@@ -7,8 +7,8 @@ mod reference;
 mod support;
 
 use fordtrumpet::{
-    accept, downgrade, serve, upgrade, write_old_index, write_response, Block, FilesBuilder, Flags,
-    Outcome, RequestQueue, Serving, Table, REPLY,
+    accept, downgrade, serve, sha256, upgrade, write_old_index, write_response, Block,
+    FilesBuilder, Flags, Outcome, RequestQueue, Serving, Table, REPLY,
 };
 use reference::Edition;
 use std::env;
@@ -191,7 +191,8 @@ fn every_short_repository_is_taken_alike() {
 /// What a host does on an old link: it turns up what comes and turns down what goes.
 #[test]
 fn a_block_comes_over_an_old_link() {
-    let (hash, data) = ([7; 32], *b"hello");
+    let data = *b"hello";
+    let hash = sha256(&data);
     let mut files = FilesBuilder::new();
     let block = Block {
         length: 5,

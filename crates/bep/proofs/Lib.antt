@@ -4,5 +4,6 @@ mod TableLaws
 mod StepLaws
 mod DetailsLaws
 pub mod PackLaws
+pub mod HasherLaws
 mod RequestLaws
 pub mod Unchanged

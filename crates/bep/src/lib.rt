@@ -4,6 +4,7 @@
 // an answer or a message overlaps nothing else that the call is given.
 pub mod feeding;
 mod filling;
+pub mod hashing;
 pub mod outline;
 pub mod outstanding;
 pub mod read;

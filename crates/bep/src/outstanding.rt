@@ -1,15 +1,17 @@
-// The outstanding requests of a link, lent as 35 words: the window, the next ID, the count, and the ID and the Length of each of 16 entries.
+// The outstanding requests of a link, lent as 35 words (the window, the next ID, the count, and the ID and the Length of each of 16 entries)
+// and 512 bytes (the hash of each entry).
 //
-// Any words may be given: those of a queue that is not sound are refused with 22 and left as they were.
+// Any words may be given: those of a queue that is not sound are refused with 22 and left as they were. The hashes stay where they are
+// lent: a call changes only those that it has to.
 ghost use mathlib.Core.Path.{_≡_};
 ghost use lib.Seq.{paste};
-ghost use Rattle.message.specs.Answers.{messageIn};
 ghost use Rattle.message_write.specs.Writing.{requestBytes};
-ghost use Rattle.queue.specs.Queue.{defaultWindow, opening, dropOf};
+ghost use Rattle.queue.specs.Queue.{defaultWindow};
+ghost use Rattle.queue.specs.Checked.{checkedOpening, checkedDrop};
 ghost use Rattle.bep.specs.Filling.{fillingNumber};
-ghost use Rattle.bep.specs.Queues.{queueOf, pairs, wordsOf, verdictNumber, Becomes, issuedWords, QueueIssues, releaseNumber, releaseWords, QueueAnswers, totalWords};
+ghost use Rattle.bep.specs.Queues.{queueOf, pairs, wordsOf, checkedOf, verdictNumber, Becomes, issuedWords, QueueIssues, arrivalNumber, arrivalWords, QueueAnswers, totalWords};
+use link::Arrival;
 use link::Link;
-use link::Release;
 use link::Request;
 use message::Edition;
 use queue::RequestQueue;
@@ -91,23 +93,27 @@ fn give_issued(id: u32, w: Filling, answer: &mut [u64; 2]) -> u32
 }
 
 // Fills the answer of an answer to the queue, and gives its number.
-fn give_release(o: Release, answer: &mut [u64; 5]) -> u32
-    ensures { λ r. ⌜ (r ≡ releaseNumber o) × (now (answer .exit) ≡ releaseWords o) ⌝ }
+fn give_arrival(o: Arrival, answer: &mut [u64; 5]) -> u32
+    ensures { λ r. ⌜ (r ≡ arrivalNumber o) × (now (answer .exit) ≡ arrivalWords o) ⌝ }
 {
     match o {
-        Release::Data { id, size, data: d } => {
+        Arrival::Data { id, size, data: d } => {
             *answer = [0, id as u64, size as u64, d.start as u64, d.length as u64];
             0
         }
-        Release::NotAvailable { id, size } => {
+        Arrival::NotAvailable { id, size } => {
             *answer = [1, id as u64, size as u64, 0, 0];
             0
         }
-        Release::WrongSize { id, size } => {
+        Arrival::WrongSize { id, size } => {
             *answer = [2, id as u64, size as u64, 0, 0];
             0
         }
-        Release::Refused(r) => {
+        Arrival::WrongContent { id, size } => {
+            *answer = [3, id as u64, size as u64, 0, 0];
+            0
+        }
+        Arrival::Refused(r) => {
             *answer = [r.place as u64, 0, 0, 0, 0];
             r.number
         }
@@ -117,24 +123,26 @@ fn give_release(o: Release, answer: &mut [u64; 5]) -> u32
 // Opens an empty queue with a window. A window not 1 to 16 is refused (22) and leaves a queue of window 0, which every call but the totals
 // refuses.
 #[no_mangle]
-pub extern "C" fn bep_queue_open(queue: &mut [u32; 35], window: u32) -> u32
-    ensures { λ r. ⌜ Becomes (opening window) r (now (queue .exit)) ⌝ }
+pub extern "C" fn bep_queue_open(queue: &mut [u32; 35], hashes: &mut [u8; 512], window: u32) -> u32
+    ensures { λ r. ⌜ Becomes (checkedOpening window) r (now (queue .exit)) (now (hashes .exit)) ⌝ }
 {
     let d = RequestQueue::open_with(window);
     let q = d.queue;
     *queue = packed(q);
+    *hashes = [0u8; 512];
     let o = d.verdict;
     verdict_number(o)
 }
 
 // Opens an empty queue with the default window.
 #[no_mangle]
-pub extern "C" fn bep_queue_open_default(queue: &mut [u32; 35]) -> u32
-    ensures { λ r. ⌜ Becomes (opening defaultWindow) r (now (queue .exit)) ⌝ }
+pub extern "C" fn bep_queue_open_default(queue: &mut [u32; 35], hashes: &mut [u8; 512]) -> u32
+    ensures { λ r. ⌜ Becomes (checkedOpening defaultWindow) r (now (queue .exit)) (now (hashes .exit)) ⌝ }
 {
     let d = RequestQueue::open();
     let q = d.queue;
     *queue = packed(q);
+    *hashes = [0u8; 512];
     let o = d.verdict;
     verdict_number(o)
 }
@@ -144,6 +152,7 @@ pub extern "C" fn bep_queue_open_default(queue: &mut [u32; 35]) -> u32
 pub extern "C" fn bep_queue_issue(
     out: &mut [u8],
     queue: &mut [u32; 35],
+    hashes: &mut [u8; 512],
     repository: &[u8],
     name: &[u8],
     offset: u64,
@@ -151,46 +160,51 @@ pub extern "C" fn bep_queue_issue(
     hash: &[u8],
     answer: &mut [u64; 2],
 ) -> u32
-    ensures { λ r. ⌜ QueueIssues (now (queue .entry))
-        (requestBytes Edition.New (now (repository .entry)) (now (name .entry)) offset size (now (hash .entry))) size
-        (now (out .entry)) r (now (answer .exit)) (now (queue .exit)) (now (out .exit)) ⌝ }
+    ensures { λ r. ⌜ QueueIssues (now (queue .entry)) (now (hashes .entry))
+        (requestBytes Edition.New (now (repository .entry)) (now (name .entry)) offset size (now (hash .entry))) size (now (hash .entry))
+        (now (out .entry)) r (now (answer .exit)) (now (queue .exit)) (now (hashes .exit)) (now (out .exit)) ⌝ }
 {
     let before = unpacked(queue);
     let d = before.issue(repository, name, offset, size, hash, out);
     let q = d.queue;
     *queue = packed(q);
     let w = d.filling;
+    link::keep(hashes, before.link.count, hash, w);
     give_issued(d.id, w, answer)
 }
 
-// Releases the oldest request by the Response to it: the answer is 0 where it brought the data, 1 where they are not available and 2 where
-// their size is wrong, the request's ID and Length, and the data's start and length in the message.
+// Releases the oldest request by the Response to it: the answer is 0 where it brought the data, 1 where they are not available, 2 where their
+// size is wrong and 3 where their hash is not the one asked for; the request's ID and Length; and the data's start and length in the message.
 #[no_mangle]
 pub extern "C" fn bep_queue_answer(
     queue: &mut [u32; 35],
+    hashes: &mut [u8; 512],
     message: &[u8],
     answer: &mut [u64; 5],
 ) -> u32
-    ensures { λ r. ⌜ QueueAnswers (now (queue .entry)) (messageIn Edition.New (now (message .entry))) r (now (answer .exit)) (now (queue .exit)) ⌝ }
+    ensures { λ r. ⌜ QueueAnswers (now (queue .entry)) (now (hashes .entry)) (now (message .entry))
+        r (now (answer .exit)) (now (queue .exit)) (now (hashes .exit)) ⌝ }
 {
     let before = unpacked(queue);
     let d = before.answer(message);
     let q = d.queue;
     *queue = packed(q);
     let o = d.release;
-    give_release(o, answer)
+    let a = link::settle(hashes, message, o);
+    give_arrival(a, answer)
 }
 
 // Releases everything: the link is gone.
 #[no_mangle]
-pub extern "C" fn bep_queue_drop(queue: &mut [u32; 35]) -> u32
-    ensures { λ r. ⌜ Becomes (dropOf (queueOf (now (queue .entry)))) r (now (queue .exit)) ⌝ }
+pub extern "C" fn bep_queue_drop(queue: &mut [u32; 35], hashes: &mut [u8; 512]) -> u32
+    ensures { λ r. ⌜ Becomes (checkedDrop (checkedOf (now (queue .entry)) (now (hashes .entry)))) r (now (queue .exit)) (now (hashes .exit)) ⌝ }
 {
     let before = unpacked(queue);
     let d = before.drop_link();
     let q = d.queue;
     *queue = packed(q);
     let o = d.verdict;
+    queue::forget(hashes, o);
     verdict_number(o)
 }
 

@@ -14,7 +14,7 @@ use Rattle.record.specs.Block.{isSize}
 use Rattle.message.specs.Message.{message}
 use Rattle.message.specs.declared.edition.Edition.the-variants as E
 use Rattle.message_write.specs.Writing.{requestBytes, writing}
-use Rattle.message_write.proofs.WrittenRequest.{written-size}
+use Rattle.message_write.proofs.WrittenRequest.{written-size, written-hash}
 use Rattle.message_write.proofs.Numbers.{writing-never}
 use Rattle.link.specs.OneLink.{isFull, faultWithin, withFault, issuing, issuedLink, Issues}
 use Rattle.link.specs.Steps.{barredAnswer, appendedBy, issuedBy}
@@ -81,13 +81,13 @@ unfull held limit q size e =
 
 -- what an accepted issue tells
 pub issuing-tells : (held limit : ℕ) (q : Link) (r n : List ℕ) (o size : ℕ) (h l : List ℕ) → Orderly q
-    → issuing held limit q (requestBytes E.New r n o size h) size ≡ gives l → (q .count < q .window) × (isSize size ≡ true) × (held + size ≤ limit)
+    → issuing held limit q (requestBytes E.New r n o size h) size ≡ gives l → (q .count < q .window) × (isSize size ≡ true) × (held + size ≤ limit) × (length h ≡ 32)
 issuing-tells held limit q r n o size h l s = go (faultWithin held limit q size) refl (writing (message E.New) (q .next) 2 (requestBytes E.New r n o size h)) refl
   where
     go : (f : ℕ) → faultWithin held limit q size ≡ f → (x : Outcome) → writing (message E.New) (q .next) 2 (requestBytes E.New r n o size h) ≡ x → withFault f x ≡ gives l
-        → (q .count < q .window) × (isSize size ≡ true) × (held + size ≤ limit)
+        → (q .count < q .window) × (isSize size ≡ true) × (held + size ≤ limit) × (length h ≡ 32)
     go zero e x y w =
         let p = unfull held limit q size (sym e) in
-        (p .0, written-size E.New r n o size h (q .next) l (s .next-id) (y ∙ w), p .2)
+        (p .0, written-size E.New r n o size h (q .next) l (s .next-id) (y ∙ w), p .2, written-hash E.New r n o size h (q .next) l (s .next-id) (y ∙ w))
     go (suc f) e (gives m) y w = let z : _≡_ {A = ℕ} 0 1 = cc in absurd (omega arith)
     go (suc f) e (refuses a b) y w = let z : _≡_ {A = ℕ} 0 1 = cc in absurd (omega arith)

@@ -1,4 +1,5 @@
 pub mod Requests
 pub mod OneLink
+pub mod Hashes
 pub mod Steps
 pub mod History

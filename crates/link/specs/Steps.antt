@@ -1,7 +1,9 @@
 -- The steps of a link's calls.
-use Prim.Native.Nat.{ℕ}
+use Prim.Native.Nat.{ℕ, _*_}
 use mathlib.Core.Bool.{cond}
+use mathlib.Core.List.{List}
 use lib.Dec.{eqb}
+use Rattle.xdr.specs.Buffer.{put}
 use Rattle.xdr.specs.Filling.{refuses, fillingAnswer}
 use Rattle.xdr.specs.declared.filling.Filling.{Filling}
 use Rattle.xdr.specs.declared.filling.Filling.the-variants as F
@@ -29,3 +31,8 @@ appendedBy q size (F.Refused r) = q
 -- what is handed back then
 abbrev pub issuedBy : Link → (size : ℕ) → Filling → LinkIssued
 issuedBy q size w = record { link = appendedBy q size w; id = q .next; filling = w }
+
+-- the hashes after a writer's answer
+abbrev pub hashesFilled : (hashes : List ℕ) (entry : ℕ) (hash : List ℕ) → Filling → List ℕ
+hashesFilled hs i h (F.Filled n) = put hs (32 * i) h
+hashesFilled hs i h (F.Refused r) = hs

@@ -11,7 +11,8 @@ pub struct LinkIssued {
     pub filling: Filling,
 }
 
-// What an answer released: ID and Length of a request and, where it brought the data, where they stand in the message.
+// What an answer released, by its length: ID and Length of a request and, where the data are as long as asked, where they stand in the
+// message.
 pub enum Release {
     Data { id: u32, size: u32, data: Span },
     NotAvailable { id: u32, size: u32 },
@@ -23,4 +24,13 @@ pub enum Release {
 pub struct LinkAnswered {
     pub link: Link,
     pub release: Release,
+}
+
+// What an answer brought, once data as long as asked were held to the hash that was asked for.
+pub enum Arrival {
+    Data { id: u32, size: u32, data: Span },
+    NotAvailable { id: u32, size: u32 },
+    WrongSize { id: u32, size: u32 },
+    WrongContent { id: u32, size: u32 },
+    Refused(Refusal),
 }

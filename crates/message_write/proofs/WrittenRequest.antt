@@ -1,14 +1,14 @@
--- A Request that is written has a Length within its limits.
+-- A Request that is written has a Length within its limits, and a hash of 32 bytes.
 use Prim.Native.Nat.{ℕ, _≤_}
 use mathlib.Core.List.{List, [], _++_, append-nil}
 use mathlib.Core.Path.{_≡_, refl, sym, ap, _∙_}
 use mathlib.Core.Bool.{true}
 use native.Mathlib.Omega.{arith}
-use borrow.Author.Tests.{le-leb}
+use borrow.Author.Tests.{le-leb, eqb-true}
 use lib.ListN.{length}
 use Rattle.xdr.specs.Reading.{Reading, taken, refused, shifted}
 use Rattle.xdr.specs.Format.{read, readAt, encode}
-use Rattle.xdr.proofs.Steps.{Reads, shifted-zero}
+use Rattle.xdr.proofs.Steps.{Reads, shifted-zero, opened}
 use Rattle.xdr.proofs.Parts.{via-parts, pair-parts, test-passed}
 use Rattle.xdr.proofs.Told.{Wide, TakenOrRefused, whole, fault, readBack, told}
 use Rattle.record.specs.Block.{isSize}
@@ -56,21 +56,28 @@ module _ (e : Edition) (r : Repository e) (n : List ℕ) (o s : ℕ) (h : List �
       go x whole p = let same : length (encode (request e) fields) ≡ k = cc in p ∙ ap (λ (i : ℕ). taken fields i) same
       go x (fault a b) p = let z : _≡_ {A = ℕ} 0 1 = cc in absurd (omega arith)
 
-  sized : (v : RequestBody e) (k : ℕ) → read (request e) (requestBytes e r n o s h) ≡ taken v k → isSize s ≡ true
-  sized v k q =
+  -- its Length and its hash, by the parts of the reading
+  fits : (v : RequestBody e) (k : ℕ) → read (request e) (requestBytes e r n o s h) ≡ taken v k → (isSize s ≡ true) × (length h ≡ 32)
+  fits v k q =
       let a = pair-parts (via-parts (reads-itself v k q)) in
       let b = pair-parts (a .2) in
       let c = pair-parts (b .2) in
       let d = pair-parts (c .2) in
-      test-passed (d .1)
+      (test-passed (d .1), eqb-true (length h) 32 (test-passed (opened (d .2) .size)))
 
-  pub written-size : (id : ℕ) (l : List ℕ) → id ≤ 4095 → writing (message e) id 2 (requestBytes e r n o s h) ≡ gives l → isSize s ≡ true
+  written-fits : (id : ℕ) (l : List ℕ) → id ≤ 4095 → writing (message e) id 2 (requestBytes e r n o s h) ≡ gives l → (isSize s ≡ true) × (length h ≡ 32)
   unfolding writingBody
-  written-size id l i q =
+  written-fits id l i q =
       let low = types-end e in
       go (read (request e) (requestBytes e r n o s h)) refl
       (sym (simp (le-leb id 4095 i) at (by-body e id 2 (requestBytes e r n o s h) (omega arith) (omega arith))) ∙ q)
     where
-      go : (x : Reading (RequestBody e)) → read (request e) (requestBytes e r n o s h) ≡ x → asRead (messageBytes id 2 (requestBytes e r n o s h)) (shifted 4 x) ≡ gives l → isSize s ≡ true
-      go (taken v u) p q = sized v u p
+      go : (x : Reading (RequestBody e)) → read (request e) (requestBytes e r n o s h) ≡ x → asRead (messageBytes id 2 (requestBytes e r n o s h)) (shifted 4 x) ≡ gives l → (isSize s ≡ true) × (length h ≡ 32)
+      go (taken v u) p q = fits v u p
       go (refused a b) p q = let z : _≡_ {A = ℕ} 0 1 = cc in absurd (omega arith)
+
+  pub written-size : (id : ℕ) (l : List ℕ) → id ≤ 4095 → writing (message e) id 2 (requestBytes e r n o s h) ≡ gives l → isSize s ≡ true
+  written-size id l i q = written-fits id l i q .0
+
+  pub written-hash : (id : ℕ) (l : List ℕ) → id ≤ 4095 → writing (message e) id 2 (requestBytes e r n o s h) ≡ gives l → length h ≡ 32
+  written-hash id l i q = written-fits id l i q .1

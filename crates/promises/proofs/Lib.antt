@@ -5,6 +5,7 @@ mod MemoryLaws
 pub mod Merges
 pub mod SampleMerges
 pub mod Requests
+pub mod Arriving
 mod HeldLaws
 pub mod RequestList
 mod FirstHeldLaws
@@ -26,3 +27,4 @@ pub mod SampleArrived
 pub mod Strings
 pub mod BadByte
 pub mod Feeds
+pub mod Hashing

@@ -1,5 +1,5 @@
--- After any calls from an accepted opening the queue holds exactly the requests issued and since then neither answered nor dropped; its calls
--- are those of its link, which is told its own total, and the allowance.
+-- After any calls from an accepted opening the queue holds exactly the requests issued and since then neither answered nor dropped, each with the
+-- hash asked for; its calls are those of its link, which is told its own total, and the allowance. And data that arrive are those asked for.
 use Prim.Native.Nat.{ℕ, _+_, _≤_, _<_}
 use native.Mathlib.Omega.{arith}
 use mathlib.Core.Path.{_≡_, refl, sym, ap, subst, _∙_}
@@ -20,8 +20,9 @@ use Rattle.message_write.specs.Writing.{requestBytes, writing}
 use Rattle.xdr.proofs.FillingLaws.{given-room}
 use Rattle.link.specs.Requests.{total}
 use Rattle.link.specs.OneLink.{windowFits, outstanding, emptyLink, issuing, appended, issuedLink, answeredBy, emptied}
+use Rattle.link.specs.Hashes.{Asked, withHashes, totalAsked, noHashes}
 use Rattle.link.specs.History as link
-use Rattle.link.specs.History.{LinkCall, Event, issueWas, answerWas, dropWas, standing, issuedIds, idsFrom}
+use Rattle.link.specs.History.{Hashed, hashedIssued, LinkCall, Event, issueWas, answerWas, dropWas, standing, issuedIds, idsFrom}
 use Rattle.link.specs.declared.request.Request.{Request}
 use Rattle.link.specs.declared.list.Link.{Link}
 use Rattle.link.specs.declared.outcome.LinkAnswered.{LinkAnswered}
@@ -30,21 +31,27 @@ use Rattle.link.proofs.LinkLaws.{Orderly, orderly-facts}
 use Rattle.link.proofs.IssueLaws.{issuing-tells}
 use Rattle.link.proofs.AnswerLaws.{AnswerWas, kept, freed, answer-was}
 use Rattle.link.proofs.Moves.{Good, nextRequest, outstanding-appended, total-append, outstanding-without}
-use Rattle.link.proofs.HistoryLaws.{link-run, opened-good, windows-kept, ids-follow}
+use Rattle.link.proofs.AskedLaws.{length-asked, total-asked}
+use Rattle.link.proofs.HistoryLaws.{Sound, askedIn, link-run, opened-good, windows-kept, ids-follow}
 use Rattle.queue.specs.Queue.{allowance, isSound, opening, issueOutcome, fromLink, answerOf, dropOf}
+use Rattle.queue.specs.Checked.{checkedOpening, withArrival, withoutHashes}
 use Rattle.queue.specs.declared.queue.RequestQueue.{RequestQueue}
+use Rattle.queue.specs.declared.checked.CheckedQueue.{CheckedQueue}
 use Rattle.queue.specs.declared.outcome.Emptied.{Emptied}
 use Rattle.queue.specs.declared.outcome.Verdict.the-variants as Ruled
 use Rattle.queue.specs.declared.outcome.Answered.{Answered}
 use Rattle.queue.proofs.QueueLaws.{sound-facts, sound-made}
-use Rattle.bep.specs.Queues.{queueOf, wordsOf}
 use Rattle.bep.proofs.PackLaws.{queue-back}
-use Rattle.promises.specs.History.{Call, issue, answer, drop, isAccepted, queueAfter, queueEvent, queueFinal, queueHistory, Held, wordsAfter, wordsFinal, wordsHistory, HeldInWords}
+use Rattle.promises.specs.History.{Call, issue, answer, drop, isAccepted, queueAfter, queueEvent, queueFinal, queueHistory, askedOf, Held, Lent, lentOf, queueIn, lentAfter, lentFinal, lentHistory, HeldLent}
+
+-- the link of a queue, with the hashes
+abbrev hashedOf : CheckedQueue → Hashed
+hashedOf q = record { link = q .queue .link; hashes = q .hashes }
 
 -- a call as the link sees it
-abbrev linkCall : RequestQueue → Call → LinkCall
-linkCall q (issue r n o size h room) = link.issue (total (outstanding (q .link))) allowance r n o size h room
-linkCall q (answer s) = link.answer (responseIn (messageIn E.New s))
+abbrev linkCall : CheckedQueue → Call → LinkCall
+linkCall q (issue r n o size h room) = link.issue (total (outstanding (q .queue .link))) allowance r n o size h room
+linkCall q (answer s) = link.answer s
 linkCall q drop = link.drop
 
 module _ (q : RequestQueue) (s : isSound q ≡ true) where
@@ -55,21 +62,22 @@ module _ (q : RequestQueue) (s : isSound q ≡ true) where
   same-issue : (b : List ℕ) (size : ℕ) → issueOutcome q b size ≡ issuing (total (outstanding (q .link))) allowance (q .link) b size
   same-issue b size = past-22 (issuing (total (outstanding (q .link))) allowance (q .link) b size) (refuses 22 0)
 
-  same-answer : (m : Message) → answerOf q m ≡ fromLink (answeredBy (q .link) (responseIn m))
+  pub same-answer : (m : Message) → answerOf q m ≡ fromLink (answeredBy (q .link) (responseIn m))
   same-answer m = past-22 (fromLink (answeredBy (q .link) (responseIn m))) (record { queue = q; release = R.Refused (atStart 22) })
 
   same-drop : dropOf q ≡ record { queue = record { link = emptied (q .link) }; verdict = Ruled.Accepted }
   same-drop = past-22 (record { queue = record { link = emptied (q .link) }; verdict = Ruled.Accepted }) (record { queue = q; verdict = Ruled.Refused (atStart 22) })
 
-  same-after : (c : Call) → queueAfter q c .link ≡ link.afterCall (q .link) (linkCall q c)
-  same-after (issue r n o size h room) = ap (λ (x : Outcome). issuedLink (q .link) size (inRoom room x)) (same-issue (requestBytes E.New r n o size h) size)
-  same-after (answer m) = ap (λ (x : Answered). x .queue .link) (same-answer (messageIn E.New m))
-  same-after drop = ap (λ (x : Emptied). x .queue .link) same-drop
+module _ (q : CheckedQueue) (s : isSound (q .queue) ≡ true) where
+  same-after : (c : Call) → hashedOf (queueAfter q c) ≡ link.afterCall (hashedOf q) (linkCall q c)
+  same-after (issue r n o size h room) = ap (λ (x : Outcome). hashedIssued (hashedOf q) size h (inRoom room x)) (same-issue (q .queue) s (requestBytes E.New r n o size h) size)
+  same-after (answer m) = ap (λ (x : Answered). hashedOf (withArrival q m x .queue)) (same-answer (q .queue) s (messageIn E.New m))
+  same-after drop = ap (λ (x : Emptied). hashedOf (withoutHashes q x .queue)) (same-drop (q .queue) s)
 
-  same-event : (c : Call) → queueEvent q c ≡ link.event (q .link) (linkCall q c)
-  same-event (issue r n o size h room) = ap (λ (x : Outcome). issueWas (q .link .next) size (inRoom room x)) (same-issue (requestBytes E.New r n o size h) size)
-  same-event (answer m) = ap (λ (x : Answered). answerWas (responseIn (messageIn E.New m)) (x .release)) (same-answer (messageIn E.New m))
-  same-event drop = ap (λ (x : Emptied). dropWas (isAccepted (x .verdict))) same-drop
+  same-event : (c : Call) → queueEvent q c ≡ link.event (hashedOf q) (linkCall q c)
+  same-event (issue r n o size h room) = ap (λ (x : Outcome). issueWas (q .queue .link .next) size h (inRoom room x)) (same-issue (q .queue) s (requestBytes E.New r n o size h) size)
+  same-event (answer m) = ap (λ (x : Answered). answerWas (responseIn (messageIn E.New m)) (withArrival q m x .arrival)) (same-answer (q .queue) s (messageIn E.New m))
+  same-event drop = ap (λ (x : Emptied). dropWas (isAccepted (x .verdict))) (same-drop (q .queue) s)
 
 -- the total stays within the allowance
 
@@ -92,38 +100,40 @@ answer-within q m g t = go (answeredBy q m) (answer-was q m)
         let u : total (r ∷ rs) ≤ allowance = subst (λ (l : List Request). total l ≤ allowance) o t in
         rw (outstanding-without q r rs g o) (omega arith)
 
-within : (q : RequestQueue) (c : Call) → Good (q .link) → total (outstanding (q .link)) ≤ allowance → total (outstanding (link.afterCall (q .link) (linkCall q c))) ≤ allowance
-within q (issue r n o size h room) g t = issue-within (q .link) r n o size h room (inRoom room (issuing (total (outstanding (q .link))) allowance (q .link) (requestBytes E.New r n o size h) size)) refl g t
-within q (answer s) g t = answer-within (q .link) (responseIn (messageIn E.New s)) g t
+within : (q : CheckedQueue) (c : Call) → Good (q .queue .link) → total (outstanding (q .queue .link)) ≤ allowance → total (outstanding (link.afterCall (hashedOf q) (linkCall q c) .link)) ≤ allowance
+within q (issue r n o size h room) g t =
+    issue-within (q .queue .link) r n o size h room (inRoom room (issuing (total (outstanding (q .queue .link))) allowance (q .queue .link) (requestBytes E.New r n o size h) size)) refl g t
+within q (answer s) g t = answer-within (q .queue .link) (responseIn (messageIn E.New s)) g t
 within q drop g t = omega arith
 
-record Same (q : RequestQueue) (cs : List Call) : Type 0 where
+record Same (q : CheckedQueue) (cs : List Call) : Type 0 where
   calls : List LinkCall
-  finals : queueFinal q cs .link ≡ link.final (q .link) calls
-  histories : queueHistory q cs ≡ link.history (q .link) calls
-  inside : total (outstanding (queueFinal q cs .link)) ≤ allowance
+  finals : hashedOf (queueFinal q cs) ≡ link.final (hashedOf q) calls
+  histories : queueHistory q cs ≡ link.history (hashedOf q) calls
+  inside : total (outstanding (queueFinal q cs .queue .link)) ≤ allowance
 
 -- a call leaves the link in order and the total within the allowance
-stays : (q : RequestQueue) (c : Call) → Good (q .link) → total (outstanding (q .link)) ≤ allowance → Good (queueAfter q c .link) × (total (outstanding (queueAfter q c .link)) ≤ allowance)
+stays : (q : CheckedQueue) (c : Call) → Sound (hashedOf q) → total (outstanding (q .queue .link)) ≤ allowance
+    → Sound (hashedOf (queueAfter q c)) × (total (outstanding (queueAfter q c .queue .link)) ≤ allowance)
 stays q c g t =
     let l : LinkCall = linkCall q c in
-    let a : queueAfter q c .link ≡ link.afterCall (q .link) l = same-after q (sound-made q (g .orderly) t) c in
-    (subst Good (sym a) (link-run (l ∷ []) (q .link) g .0), subst (λ (x : Link). total (outstanding x) ≤ allowance) (sym a) (within q c g t))
+    let a : hashedOf (queueAfter q c) ≡ link.afterCall (hashedOf q) l = same-after q (sound-made (q .queue) (g .good .orderly) t) c in
+    (subst Sound (sym a) (link-run (l ∷ []) (hashedOf q) g .0), subst (λ (x : Hashed). total (outstanding (x .link)) ≤ allowance) (sym a) (within q c (g .good) t))
 
-same : (cs : List Call) (q : RequestQueue) → Good (q .link) → total (outstanding (q .link)) ≤ allowance → Same q cs
+same : (cs : List Call) (q : CheckedQueue) → Sound (hashedOf q) → total (outstanding (q .queue .link)) ≤ allowance → Same q cs
 same [] q g t = record { calls = []; finals = refl; histories = refl; inside = t }
 same (c ∷ cs) q g t =
     let l : LinkCall = linkCall q c in
-    let s : isSound q ≡ true = sound-made q (g .orderly) t in
-    let a : queueAfter q c .link ≡ link.afterCall (q .link) l = same-after q s c in
+    let s : isSound (q .queue) ≡ true = sound-made (q .queue) (g .good .orderly) t in
+    let a : hashedOf (queueAfter q c) ≡ link.afterCall (hashedOf q) l = same-after q s c in
     let h : Same (queueAfter q c) cs =
     let k = stays q c g t in same cs (queueAfter q c) (k .0) (k .1) in
     record {
       calls = l ∷ h .calls;
-      finals = h .finals ∙ ap (λ (x : Link). link.final x (h .calls)) a;
+      finals = h .finals ∙ ap (λ (x : Hashed). link.final x (h .calls)) a;
       histories = ap (λ (es : List Event). queueEvent q c ∷ es) (h .histories)
-          ∙ ap (λ (e : Event). e ∷ link.history (queueAfter q c .link) (h .calls)) (same-event q s c)
-          ∙ ap (λ (x : Link). link.event (q .link) l ∷ link.history x (h .calls)) a;
+          ∙ ap (λ (e : Event). e ∷ link.history (hashedOf (queueAfter q c)) (h .calls)) (same-event q s c)
+          ∙ ap (λ (x : Hashed). link.event (hashedOf q) l ∷ link.history x (h .calls)) a;
       inside = h .inside;
     }
 
@@ -136,58 +146,69 @@ module _ (window : ℕ) where
   accepted-is true e = refl
   accepted-is false e = let z : _≡_ {A = ℕ} 0 1 = cc in absurd (omega arith)
 
-opened : (window : ℕ) → opening window .verdict ≡ Ruled.Accepted → Good (opening window .queue .link) × (total (outstanding (opening window .queue .link)) ≤ allowance)
-opened window e =
-    let fits : windowFits window ≡ true = accepted-is window (windowFits window) e in
-    let start : opening window .queue .link ≡ emptyLink window = ap (λ (t : Bool). openedBy window t .queue .link) fits in
-    (subst Good (sym start) (opened-good window fits), rw (ap outstanding start) (omega arith))
+  abbrev start : CheckedQueue
+  start = checkedOpening window .queue
+
+  opens-empty : opening window .verdict ≡ Ruled.Accepted → start .queue .link ≡ emptyLink window
+  opens-empty e = ap (λ (t : Bool). openedBy t .queue .link) (accepted-is (windowFits window) e)
+
+  opened : opening window .verdict ≡ Ruled.Accepted → Sound (hashedOf start) × (total (outstanding (start .queue .link)) ≤ allowance)
+  opened e =
+      let fits : windowFits window ≡ true = accepted-is (windowFits window) e in
+      let empty : start .queue .link ≡ emptyLink window = opens-empty e in
+      (record { good = subst Good (sym empty) (opened-good window fits); hashed = refl }, rw (ap outstanding empty) (omega arith))
 
 pub held : (window : ℕ) (calls : List Call) → opening window .verdict ≡ Ruled.Accepted → Held window calls
 held window calls e =
-    let fits : windowFits window ≡ true = accepted-is window (windowFits window) e in
-    let start : opening window .queue .link ≡ emptyLink window = ap (λ (t : Bool). openedBy window t .queue .link) fits in
-    let o : Good (opening window .queue .link) = opened window e .0 in
-    let none : outstanding (opening window .queue .link) ≡ [] = ap outstanding start in
-    let h : Same (opening window .queue) calls = same calls (opening window .queue) o (opened window e .1) in
-    let r = link-run (h .calls) (opening window .queue .link) o in
-    let f : Link = queueFinal (opening window .queue) calls .link in
-    let g : Good f = subst Good (sym (h .finals)) (r .0) in
-    let exact : outstanding f ≡ standing (queueHistory (opening window .queue) calls) =
-    ap outstanding (h .finals) ∙ r .1 ∙ ap (λ (l : List Request). link.kept (link.history (opening window .queue .link) (h .calls)) l ++ standing (link.history (opening window .queue .link) (h .calls))) none
+    let q : CheckedQueue = checkedOpening window .queue in
+    let empty : q .queue .link ≡ emptyLink window = opens-empty window e in
+    let o = opened window e in
+    let none : askedOf q ≡ [] = ap (λ (l : Link). withHashes (outstanding l) noHashes) empty in
+    let h : Same q calls = same calls q (o .0) (o .1) in
+    let r = link-run (h .calls) (hashedOf q) (o .0) in
+    let p : CheckedQueue = queueFinal q calls in
+    let f : Link = p .queue .link in
+    let g : Good f = subst Sound (sym (h .finals)) (r .0) .good in
+    let exact : askedOf p ≡ standing (queueHistory q calls) =
+    ap askedIn (h .finals) ∙ r .1 ∙ ap (λ (l : List Asked). link.kept (link.history (hashedOf q) (h .calls)) l ++ standing (link.history (hashedOf q) (h .calls))) none
     ∙ ap standing (sym (h .histories)) in
     let s : Orderly f = orderly-facts f (g .orderly) in
-    let w : f .window ≡ window = ap (λ (x : Link). x .window) (h .finals) ∙ windows-kept (h .calls) (opening window .queue .link) ∙ ap (λ (x : Link). x .window) start in
-    let long : length (outstanding f) ≡ f .count = length-take-le (f .count) (f .entries) (omega (arith, g .long)) in
+    let w : f .window ≡ window = ap (λ (x : Hashed). x .link .window) (h .finals) ∙ windows-kept (h .calls) (hashedOf q) ∙ ap (λ (x : Link). x .window) empty in
+    let long : length (askedOf p) ≡ f .count = length-asked (outstanding f) (p .hashes) ∙ length-take-le (f .count) (f .entries) (omega (arith, g .long)) in
+    let sum : totalAsked (askedOf p) ≡ total (outstanding f) = total-asked (outstanding f) (p .hashes) in
     record {
       exact = exact;
-      sound = sound-made (queueFinal (opening window .queue) calls) (g .orderly) (h .inside);
-      counted = subst (λ (l : List Request). length l ≤ window) exact (omega (arith, long, w, s .held));
-      summed = subst (λ (l : List Request). total l ≤ allowance) exact (h .inside);
-      ids = let es : List Event = link.history (opening window .queue .link) (h .calls) in
+      sound = sound-made (p .queue) (g .orderly) (h .inside);
+      counted = subst (λ (l : List Asked). length l ≤ window) exact (omega (arith, long, w, s .held));
+      summed = subst (λ (l : List Asked). totalAsked l ≤ allowance) exact (omega (arith, sum, h .inside));
+      ids = let es : List Event = link.history (hashedOf q) (h .calls) in
           subst (λ (l : List Event). issuedIds l ≡ idsFrom 0 (length (issuedIds l))) (sym (h .histories))
-          (ids-follow (h .calls) (opening window .queue .link) ∙ ap (λ (x : Link). idsFrom (x .next) (length (issuedIds es))) start);
+          (ids-follow (h .calls) (hashedOf q) ∙ ap (λ (x : Link). idsFrom (x .next) (length (issuedIds es))) empty);
     }
 
--- a queue that is laid out in words after each call and taken up before the next goes the same way
+-- a queue that is laid out after each call and taken up before the next goes the same way
 
-words-same : (cs : List Call) (q : RequestQueue) → Good (q .link) → total (outstanding (q .link)) ≤ allowance
-    → (wordsFinal (wordsOf q) cs ≡ wordsOf (queueFinal q cs)) × (queueOf (wordsFinal (wordsOf q) cs) ≡ queueFinal q cs) × (wordsHistory (wordsOf q) cs ≡ queueHistory q cs)
-words-same [] q g t = (refl, queue-back q (g .long), refl)
-words-same (c ∷ cs) q g t =
-    let back : queueOf (wordsOf q) ≡ q = queue-back q (g .long) in
-    let on : wordsAfter (wordsOf q) c ≡ wordsOf (queueAfter q c) = ap (λ (x : RequestQueue). wordsOf (queueAfter x c)) back in
+lent-back : (q : CheckedQueue) → Good (q .queue .link) → queueIn (lentOf q) ≡ q
+lent-back q g = ap (λ (x : RequestQueue). record { queue = x; hashes = q .hashes }) (queue-back (q .queue) (g .long))
+
+lent-same : (cs : List Call) (q : CheckedQueue) → Sound (hashedOf q) → total (outstanding (q .queue .link)) ≤ allowance
+    → (lentFinal (lentOf q) cs ≡ lentOf (queueFinal q cs)) × (queueIn (lentFinal (lentOf q) cs) ≡ queueFinal q cs) × (lentHistory (lentOf q) cs ≡ queueHistory q cs)
+lent-same [] q g t = (refl, lent-back q (g .good), refl)
+lent-same (c ∷ cs) q g t =
+    let back : queueIn (lentOf q) ≡ q = lent-back q (g .good) in
+    let on : lentAfter (lentOf q) c ≡ lentOf (queueAfter q c) = ap (λ (x : CheckedQueue). lentOf (queueAfter x c)) back in
     let k = stays q c g t in
-    let h = words-same cs (queueAfter q c) (k .0) (k .1) in (
-      ap (λ (ws : List ℕ). wordsFinal ws cs) on ∙ h .0,
-      ap (λ (ws : List ℕ). queueOf (wordsFinal ws cs)) on ∙ h .1,
-      ap (λ (x : RequestQueue). queueEvent x c ∷ wordsHistory (wordsAfter (wordsOf q) c) cs) back ∙ ap (λ (ws : List ℕ). queueEvent q c ∷ wordsHistory ws cs) on ∙ ap (λ (es : List Event). queueEvent q c ∷ es) (h .2),
+    let h = lent-same cs (queueAfter q c) (k .0) (k .1) in (
+      ap (λ (l : Lent). lentFinal l cs) on ∙ h .0,
+      ap (λ (l : Lent). queueIn (lentFinal l cs)) on ∙ h .1,
+      ap (λ (x : CheckedQueue). queueEvent x c ∷ lentHistory (lentAfter (lentOf q) c) cs) back ∙ ap (λ (l : Lent). queueEvent q c ∷ lentHistory l cs) on ∙ ap (λ (es : List Event). queueEvent q c ∷ es) (h .2),
     )
 
-pub held-in-words : (window : ℕ) (calls : List Call) → opening window .verdict ≡ Ruled.Accepted → HeldInWords window calls
-held-in-words window calls e =
+pub held-lent : (window : ℕ) (calls : List Call) → opening window .verdict ≡ Ruled.Accepted → HeldLent window calls
+held-lent window calls e =
     let o = opened window e in
-    let w = words-same calls (opening window .queue) (o .0) (o .1) in
-    record { words = w .0; queue = w .1; events = w .2; exact = ap (λ (q : RequestQueue). outstanding (q .link)) (w .1) ∙ held window calls e .exact ∙ ap standing (sym (w .2)) }
+    let w = lent-same calls (checkedOpening window .queue) (o .0) (o .1) in
+    record { lent = w .0; queue = w .1; events = w .2; exact = ap askedOf (w .1) ∙ held window calls e .exact ∙ ap standing (sym (w .2)) }
 
 -- freed room can be issued again: wherever the count and the bytes allow, an issue is what writing alone gives
 pub issued-again : (q : RequestQueue) (b : List ℕ) (size : ℕ) → isSound q ≡ true → q .link .count < q .link .window → total (outstanding (q .link)) + size ≤ allowance

@@ -1,22 +1,31 @@
 -- Calls on a queue in a row, each given the queue that the one before handed back, and what holds after them; events are as in link's History.
 use Prim.Native.Nat.{ℕ, _≤_}
-use mathlib.Core.Bool.{Bool, true, false}
+use mathlib.Core.Bool.{Bool, true, false, cond}
 use mathlib.Core.List.{List, [], _∷_}
 use mathlib.Core.Path.{_≡_}
 use lib.ListN.{length}
+use lib.Dec.{eqb}
 use Rattle.xdr.specs.Filling.{inRoom}
-use Rattle.message.specs.Answers.{messageIn}
+use Rattle.message.specs.Answers.{messageIn, spanBytes}
 use Rattle.message.specs.Kinds.{responseIn}
+use Rattle.message.specs.declared.answer.Span.{Span}
+use Rattle.message.specs.declared.answer.ResponseSpan.{ResponseSpan}
+use Rattle.message.specs.declared.kind.ResponseIn.the-variants as P
 use Rattle.message.specs.declared.edition.Edition.the-variants as E
 use Rattle.message_write.specs.Writing.{requestBytes}
-use Rattle.link.specs.Requests.{total}
-use Rattle.link.specs.OneLink.{outstanding, issuedLink}
+use Rattle.order.specs.Order.{isEqual, compareLists}
+use Rattle.sha256.specs.Hash.{digest}
+use Rattle.link.specs.OneLink.{issuedLink}
+use Rattle.link.specs.Hashes.{Asked, asked, totalAsked, hashesIssued}
 use Rattle.link.specs.History.{Event, issueWas, answerWas, dropWas, standing, issuedIds, idsFrom}
-use Rattle.queue.specs.Queue.{allowance, isSound, opening, issueOutcome, answerOf, dropOf}
-use Rattle.queue.specs.declared.queue.RequestQueue.{RequestQueue}
+use Rattle.link.specs.declared.outcome.Arrival.{Arrival}
+use Rattle.link.specs.declared.outcome.Arrival.the-variants as A
+use Rattle.queue.specs.Queue.{allowance, isSound, issueOutcome}
+use Rattle.queue.specs.Checked.{checkedOpening, checkedAnswer, checkedDrop}
+use Rattle.queue.specs.declared.checked.CheckedQueue.{CheckedQueue}
 use Rattle.queue.specs.declared.outcome.Verdict.{Verdict}
 use Rattle.queue.specs.declared.outcome.Verdict.the-variants as Ruled
-use Rattle.bep.specs.Queues.{queueOf, wordsOf}
+use Rattle.bep.specs.Queues.{wordsOf, checkedOf}
 
 -- a call, with what it is given besides the queue: of a buffer, its length
 pub data Call : Type 0 where
@@ -30,63 +39,120 @@ isAccepted Ruled.Accepted = true
 isAccepted (Ruled.Refused r) = false
 
 -- the queue that a call hands back
-abbrev pub queueAfter : RequestQueue → Call → RequestQueue
-queueAfter q (issue r n o size h room) = record { link = issuedLink (q .link) size (inRoom room (issueOutcome q (requestBytes E.New r n o size h) size)) }
-queueAfter q (answer s) = answerOf q (messageIn E.New s) .queue
-queueAfter q drop = dropOf q .queue
+abbrev pub queueAfter : CheckedQueue → Call → CheckedQueue
+queueAfter q (issue r n o size h room) =
+    record {
+      queue = record { link = issuedLink (q .queue .link) size (inRoom room (issueOutcome (q .queue) (requestBytes E.New r n o size h) size)) };
+      hashes = hashesIssued (q .hashes) (q .queue .link .count) h (inRoom room (issueOutcome (q .queue) (requestBytes E.New r n o size h) size));
+    }
+queueAfter q (answer s) = checkedAnswer q s .queue
+queueAfter q drop = checkedDrop q .queue
 
 -- the event of a call; an issue's ID is the one that it hands back (`Issues.id`, link's OneLink)
-abbrev pub queueEvent : RequestQueue → Call → Event
-queueEvent q (issue r n o size h room) = issueWas (q .link .next) size (inRoom room (issueOutcome q (requestBytes E.New r n o size h) size))
-queueEvent q (answer s) = answerWas (responseIn (messageIn E.New s)) (answerOf q (messageIn E.New s) .release)
-queueEvent q drop = dropWas (isAccepted (dropOf q .verdict))
+abbrev pub queueEvent : CheckedQueue → Call → Event
+queueEvent q (issue r n o size h room) = issueWas (q .queue .link .next) size h (inRoom room (issueOutcome (q .queue) (requestBytes E.New r n o size h) size))
+queueEvent q (answer s) = answerWas (responseIn (messageIn E.New s)) (checkedAnswer q s .arrival)
+queueEvent q drop = dropWas (isAccepted (checkedDrop q .verdict))
 
 -- the queue after some calls
-abbrev pub queueFinal : RequestQueue → List Call → RequestQueue
+abbrev pub queueFinal : CheckedQueue → List Call → CheckedQueue
 queueFinal q [] = q
 queueFinal q (c ∷ cs) = queueFinal (queueAfter q c) cs
 
 -- the events of some calls
-abbrev pub queueHistory : RequestQueue → List Call → List Event
+abbrev pub queueHistory : CheckedQueue → List Call → List Event
 queueHistory q [] = []
 queueHistory q (c ∷ cs) = queueEvent q c ∷ queueHistory (queueAfter q c) cs
 
+-- the requests that a queue holds, with the hashes asked for, the oldest first
+abbrev pub askedOf : CheckedQueue → List Asked
+askedOf q = asked (q .queue .link) (q .hashes)
+
 -- what holds after any calls from an accepted opening
 pub record Held (window : ℕ) (calls : List Call) : Type 0 where
-  -- the queue holds exactly the requests issued and since then neither answered nor dropped
-  pub exact : outstanding (queueFinal (opening window .queue) calls .link) ≡ standing (queueHistory (opening window .queue) calls)
+  -- the queue holds exactly the requests issued and since then neither answered nor dropped, each with its hash
+  pub exact : askedOf (queueFinal (checkedOpening window .queue) calls) ≡ standing (queueHistory (checkedOpening window .queue) calls)
   -- it is sound
-  pub sound : isSound (queueFinal (opening window .queue) calls) ≡ true
+  pub sound : isSound (queueFinal (checkedOpening window .queue) calls .queue) ≡ true
   -- so their number is within the window, and their bytes within the allowance
-  pub counted : length (standing (queueHistory (opening window .queue) calls)) ≤ window
-  pub summed : total (standing (queueHistory (opening window .queue) calls)) ≤ allowance
+  pub counted : length (standing (queueHistory (checkedOpening window .queue) calls)) ≤ window
+  pub summed : totalAsked (standing (queueHistory (checkedOpening window .queue) calls)) ≤ allowance
   -- the IDs issued are 0, 1, 2 and so on, and 0 again after 4095
-  pub ids : issuedIds (queueHistory (opening window .queue) calls) ≡ idsFrom 0 (length (issuedIds (queueHistory (opening window .queue) calls)))
+  pub ids : issuedIds (queueHistory (checkedOpening window .queue) calls) ≡ idsFrom 0 (length (issuedIds (queueHistory (checkedOpening window .queue) calls)))
 
--- the same of a queue that a host lends as words, and gets back as words, from call to call
+-- data with the Length and the hash that a request asked for
+pub record Answers (r : Asked) (id size : ℕ) (d : Span) (message : List ℕ) : Type 0 where
+  pub same-id : r .id ≡ id
+  pub same-size : r .size ≡ size
+  pub as-long : d .length ≡ size
+  pub same-hash : digest (spanBytes message d) ≡ r .hash
 
--- the words that an opening fills in, by its contract
-abbrev pub wordsOpened : (window : ℕ) → List ℕ
-wordsOpened window = wordsOf (opening window .queue)
+-- data as long as a request asked for, with another hash
+pub record Differs (r : Asked) (id size : ℕ) (d : Span) (message : List ℕ) : Type 0 where
+  pub same-id : r .id ≡ id
+  pub same-size : r .size ≡ size
+  pub as-long : d .length ≡ size
+  pub other-hash : digest (spanBytes message d) ≡ r .hash → ⊥
 
--- the words that a call hands back, by the contract of each
-abbrev pub wordsAfter : List ℕ → Call → List ℕ
-wordsAfter ws c = wordsOf (queueAfter (queueOf ws) c)
+-- what a Response with some data brings to the request that it answers: no data, another length, another hash, or the data
+abbrev pub broughtTo : Asked → (message : List ℕ) → Span → Arrival
+broughtTo r m d =
+    cond (eqb (d .length) 0) (A.NotAvailable (r .id) (r .size))
+    (cond (eqb (d .length) (r .size)) (cond (isEqual (compareLists (digest (spanBytes m d)) (r .hash))) (A.Data (r .id) (r .size) d) (A.WrongContent (r .id) (r .size)))
+    (A.WrongSize (r .id) (r .size)))
 
--- the words after some calls
-abbrev pub wordsFinal : List ℕ → List Call → List ℕ
-wordsFinal ws [] = ws
-wordsFinal ws (c ∷ cs) = wordsFinal (wordsAfter ws c) cs
+-- what an answer brings after any calls from an accepted opening, by the oldest of the requests issued and since then neither answered nor dropped
+pub record Brought (window : ℕ) (calls : List Call) (message : List ℕ) : Type 0 where
+  -- a Response to it brings exactly this
+  pub brings : (r : Asked) (rs : List Asked) (x : ResponseSpan) → standing (queueHistory (checkedOpening window .queue) calls) ≡ r ∷ rs
+      → responseIn (messageIn E.New message) ≡ P.Taken (r .id) x
+      → checkedAnswer (queueFinal (checkedOpening window .queue) calls) message .arrival ≡ broughtTo r message (x .«data»)
+  -- so data are those of the Response to it, as long as asked, with the hash asked for
+  pub right : (id size : ℕ) (d : Span) → checkedAnswer (queueFinal (checkedOpening window .queue) calls) message .arrival ≡ A.Data id size d
+      → (r : Asked) × (rs : List Asked) × (x : ResponseSpan) × (standing (queueHistory (checkedOpening window .queue) calls) ≡ r ∷ rs)
+      × (responseIn (messageIn E.New message) ≡ P.Taken id x) × (x .«data» ≡ d) × Answers r id size d message
+  -- and wrong content is data as long as asked with another hash
+  pub wrong : (id size : ℕ) → checkedAnswer (queueFinal (checkedOpening window .queue) calls) message .arrival ≡ A.WrongContent id size
+      → (r : Asked) × (rs : List Asked) × (x : ResponseSpan) × (standing (queueHistory (checkedOpening window .queue) calls) ≡ r ∷ rs)
+      × (responseIn (messageIn E.New message) ≡ P.Taken id x) × Differs r id size (x .«data») message
+
+-- the same of a queue that a host lends as words and hashes, and gets back so, from call to call: what it takes up is the queue, so that all of the
+-- above is said of it
+
+-- a queue as it is lent
+pub record Lent : Type 0 where
+  pub words : List ℕ
+  pub hashes : List ℕ
+
+-- a queue laid out, and taken up
+abbrev pub lentOf : CheckedQueue → Lent
+lentOf q = record { words = wordsOf (q .queue); hashes = q .hashes }
+
+abbrev pub queueIn : Lent → CheckedQueue
+queueIn l = checkedOf (l .words) (l .hashes)
+
+-- what an opening fills in, by its contract
+abbrev pub lentOpened : (window : ℕ) → Lent
+lentOpened window = lentOf (checkedOpening window .queue)
+
+-- what a call hands back, by the contract of each
+abbrev pub lentAfter : Lent → Call → Lent
+lentAfter l c = lentOf (queueAfter (queueIn l) c)
+
+-- after some calls
+abbrev pub lentFinal : Lent → List Call → Lent
+lentFinal l [] = l
+lentFinal l (c ∷ cs) = lentFinal (lentAfter l c) cs
 
 -- the events of some calls
-abbrev pub wordsHistory : List ℕ → List Call → List Event
-wordsHistory ws [] = []
-wordsHistory ws (c ∷ cs) = queueEvent (queueOf ws) c ∷ wordsHistory (wordsAfter ws c) cs
+abbrev pub lentHistory : Lent → List Call → List Event
+lentHistory l [] = []
+lentHistory l (c ∷ cs) = queueEvent (queueIn l) c ∷ lentHistory (lentAfter l c) cs
 
--- what holds after any calls from an accepted opening: the words are those of the queue, and the events its events
-pub record HeldInWords (window : ℕ) (calls : List Call) : Type 0 where
-  pub words : wordsFinal (wordsOpened window) calls ≡ wordsOf (queueFinal (opening window .queue) calls)
-  pub queue : queueOf (wordsFinal (wordsOpened window) calls) ≡ queueFinal (opening window .queue) calls
-  pub events : wordsHistory (wordsOpened window) calls ≡ queueHistory (opening window .queue) calls
-  -- so the words hold exactly the requests issued and since then neither answered nor dropped
-  pub exact : outstanding (queueOf (wordsFinal (wordsOpened window) calls) .link) ≡ standing (wordsHistory (wordsOpened window) calls)
+-- what holds after any calls from an accepted opening: what is lent is the queue laid out, and the events are its events
+pub record HeldLent (window : ℕ) (calls : List Call) : Type 0 where
+  pub lent : lentFinal (lentOpened window) calls ≡ lentOf (queueFinal (checkedOpening window .queue) calls)
+  pub queue : queueIn (lentFinal (lentOpened window) calls) ≡ queueFinal (checkedOpening window .queue) calls
+  pub events : lentHistory (lentOpened window) calls ≡ queueHistory (checkedOpening window .queue) calls
+  -- so it holds exactly the requests issued and since then neither answered nor dropped, each with its hash
+  pub exact : askedOf (queueIn (lentFinal (lentOpened window) calls)) ≡ standing (lentHistory (lentOpened window) calls)

@@ -18,3 +18,4 @@ pub mod Arrived
 pub mod Strings
 pub mod BadByte
 pub mod Feeds
+pub mod Hashing

@@ -1,3 +1,4 @@
 -- Laws of queues.
 pub mod QueueLaws
+pub mod CheckedLaws
 pub mod Unchanged

@@ -1,11 +1,12 @@
 // The calls, each with its line.
-use link::Release;
-use queue::RequestQueue;
+use link::Arrival;
+use queue::CheckedQueue;
 use queue::Verdict;
 use xdr::Filling;
 
 // What is outstanding, and the end of the line.
-fn outstanding(q: RequestQueue) {
+fn outstanding(checked: CheckedQueue) {
+    let q = checked.queue;
     lines::text(b"; outstanding ");
     lines::number(q.outstanding() as u64);
     lines::text(b" of ");
@@ -28,9 +29,9 @@ fn refused(number: u32, place: usize) {
 }
 
 // No window is stated.
-pub fn open() -> RequestQueue {
+pub fn open() -> CheckedQueue {
     lines::text(b"open: ");
-    let d = RequestQueue::open();
+    let d = CheckedQueue::open();
     let o = d.verdict;
     verdict(o);
     let q = d.queue;
@@ -38,11 +39,11 @@ pub fn open() -> RequestQueue {
     q
 }
 
-pub fn open_with(window: u32) -> RequestQueue {
+pub fn open_with(window: u32) -> CheckedQueue {
     lines::text(b"open with window ");
     lines::number(window as u64);
     lines::text(b": ");
-    let d = RequestQueue::open_with(window);
+    let d = CheckedQueue::open_with(window);
     let o = d.verdict;
     verdict(o);
     let q = d.queue;
@@ -50,7 +51,7 @@ pub fn open_with(window: u32) -> RequestQueue {
     q
 }
 
-pub fn drop_link(q: RequestQueue) -> RequestQueue {
+pub fn drop_link(q: CheckedQueue) -> CheckedQueue {
     lines::text(b"drop: ");
     let d = q.drop_link();
     let o = d.verdict;
@@ -73,8 +74,18 @@ fn issued(id: u32, w: Filling) {
     }
 }
 
+// The hash of so many bytes 0xd7, which `answer` brings. More than 16 are never answered with data: for those it is any hash.
+fn asked(size: u32) -> [u8; 32] {
+    if 16 < size {
+        return [0xa7u8; 32];
+    }
+    let data = [0xd7u8; 16];
+    let n = size as usize;
+    sha256::digest(&data[0..n])
+}
+
 // Asks for the first bytes of the file "a" in the repository "r".
-pub fn issue(q: RequestQueue, size: u32, room: usize) -> RequestQueue {
+pub fn issue(q: CheckedQueue, size: u32, room: usize) -> CheckedQueue {
     lines::text(b"issue ");
     lines::number(size as u64);
     lines::text(b" bytes: ");
@@ -82,7 +93,8 @@ pub fn issue(q: RequestQueue, size: u32, room: usize) -> RequestQueue {
     if 68 < room {
         return q;
     }
-    let d = q.issue(b"r", b"a", 0, size, &[0xa7u8; 32], &mut out[0..room]);
+    let hash = asked(size);
+    let d = q.issue(b"r", b"a", 0, size, &hash, &mut out[0..room]);
     let w = d.filling;
     issued(d.id, w);
     let q = d.queue;
@@ -90,16 +102,17 @@ pub fn issue(q: RequestQueue, size: u32, room: usize) -> RequestQueue {
     q
 }
 
-fn release(o: Release) {
+fn arrival(o: Arrival) {
     match o {
-        Release::Data { id, size, data: d } => {
+        Arrival::Data { id, size, data: d } => {
             request(b"data", id, size);
             lines::text(b" at ");
             lines::number(d.start as u64);
         }
-        Release::NotAvailable { id, size } => request(b"not available", id, size),
-        Release::WrongSize { id, size } => request(b"wrong size", id, size),
-        Release::Refused(r) => refused(r.number, r.place),
+        Arrival::NotAvailable { id, size } => request(b"not available", id, size),
+        Arrival::WrongSize { id, size } => request(b"wrong size", id, size),
+        Arrival::WrongContent { id, size } => request(b"wrong content", id, size),
+        Arrival::Refused(r) => refused(r.number, r.place),
     }
 }
 
@@ -112,25 +125,25 @@ fn request(outcome: &[u8], id: u32, size: u32) {
     lines::text(b" bytes");
 }
 
-pub fn message(q: RequestQueue, s: &[u8]) -> RequestQueue {
+pub fn message(q: CheckedQueue, s: &[u8]) -> CheckedQueue {
     lines::text(b"answer ");
     lines::bytes(s);
     lines::text(b": ");
     let d = q.answer(s);
-    let o = d.release;
-    release(o);
+    let o = d.arrival;
+    arrival(o);
     let q = d.queue;
     outstanding(q);
     q
 }
 
 // A Response with so many bytes of data, up to 16.
-pub fn answer(q: RequestQueue, id: u32, n: usize) -> RequestQueue {
+fn response(q: CheckedQueue, id: u32, n: usize, byte: u8) -> CheckedQueue {
     if 16 < n {
         return q;
     }
     let mut out = [0u8; 24];
-    let data = [0xd7u8; 16];
+    let data = [byte; 16];
     let Filling::Filled(m) = message_write::write_response(&mut out, id, &data[0..n]) else {
         return q;
     };
@@ -140,8 +153,18 @@ pub fn answer(q: RequestQueue, id: u32, n: usize) -> RequestQueue {
     message(q, &out[0..m])
 }
 
+// The bytes that were asked for, where they are as many.
+pub fn answer(q: CheckedQueue, id: u32, n: usize) -> CheckedQueue {
+    response(q, id, n, 0xd7)
+}
+
+// Other bytes.
+pub fn answer_otherwise(q: CheckedQueue, id: u32, n: usize) -> CheckedQueue {
+    response(q, id, n, 0xd6)
+}
+
 // Issues and answers, without lines.
-pub fn pairs(q: RequestQueue, times: u32) -> RequestQueue {
+pub fn pairs(q: CheckedQueue, times: u32) -> CheckedQueue {
     let mut queue = q;
     for _ in 0..times {
         queue = pair(queue);
@@ -149,7 +172,7 @@ pub fn pairs(q: RequestQueue, times: u32) -> RequestQueue {
     queue
 }
 
-fn pair(q: RequestQueue) -> RequestQueue {
+fn pair(q: CheckedQueue) -> CheckedQueue {
     let mut out = [0u8; 68];
     let d = q.issue(b"r", b"a", 0, 5, &[0xa7u8; 32], &mut out);
     let q = d.queue;
@@ -160,7 +183,7 @@ fn pair(q: RequestQueue) -> RequestQueue {
     answered(q, d.id)
 }
 
-fn answered(q: RequestQueue, id: u32) -> RequestQueue {
+fn answered(q: CheckedQueue, id: u32) -> CheckedQueue {
     let mut out = [0u8; 8];
     message_write::write_response(&mut out, id, b"");
     let d = q.answer(&out);

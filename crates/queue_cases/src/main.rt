@@ -1,9 +1,11 @@
 // Runs queues of outstanding requests through the proved functions and prints one line a call: what was asked, what came out, and what is
-// outstanding then.
+// outstanding then. Then the digests of NIST's examples.
 mod calls;
+mod digests;
 
 use link::Link;
 use link::Request;
+use queue::CheckedQueue;
 use queue::RequestQueue;
 
 fn main() {
@@ -15,19 +17,21 @@ fn main() {
     allowance(calls::open_with(4));
     ids();
     outcomes();
+    contents();
     drops();
     refused_issues();
     openings();
+    digests::examples();
 }
 
 // Two requests of one Length.
-fn twice(q: RequestQueue, size: u32) -> RequestQueue {
+fn twice(q: CheckedQueue, size: u32) -> CheckedQueue {
     let q = calls::issue(q, size, 68);
     calls::issue(q, size, 68)
 }
 
 // Four requests of 131,072 bytes, and a fifth of as many and of one.
-fn allowance(q: RequestQueue) {
+fn allowance(q: CheckedQueue) {
     let q = twice(twice(q, 131072), 131072);
     let q = calls::issue(q, 131072, 68);
     let q = calls::issue(q, 1, 68);
@@ -35,7 +39,7 @@ fn allowance(q: RequestQueue) {
 }
 
 // An answer, and another request in the freed room.
-fn again(q: RequestQueue, id: u32, n: usize, size: u32) -> RequestQueue {
+fn again(q: CheckedQueue, id: u32, n: usize, size: u32) -> CheckedQueue {
     let q = calls::answer(q, id, n);
     calls::issue(q, size, 68)
 }
@@ -61,10 +65,32 @@ fn outcomes() {
 }
 
 // Messages that answer nothing, and too much data.
-fn others(q: RequestQueue) {
+fn others(q: CheckedQueue) {
     let q = calls::message(q, b"\x00\x03\x05\x00");
     let q = calls::message(q, b"\x00\x03\x03\x00\x00\x00\x00");
     calls::answer(q, 3, 6);
+}
+
+// Data of the right length with another hash, which frees the room too. Each answer is held to the hash of its own request.
+fn contents() {
+    lines::text(b"contents\n");
+    let q = twice(calls::open_with(1), 5);
+    let q = calls::answer_otherwise(q, 0, 5);
+    let q = calls::issue(q, 5, 68);
+    calls::answer(q, 1, 5);
+    let q = calls::issue(calls::open_with(3), 5, 68);
+    let q = twice(q, 7);
+    each(q);
+}
+
+// The first as asked, the second with other bytes, the third with too few of these, and the fourth with none.
+fn each(q: CheckedQueue) {
+    let q = calls::answer(q, 0, 5);
+    let q = calls::answer_otherwise(q, 1, 7);
+    let q = calls::issue(q, 9, 68);
+    let q = calls::answer_otherwise(q, 2, 5);
+    let q = calls::answer_otherwise(q, 3, 0);
+    calls::issue(q, 9, 68);
 }
 
 fn drops() {
@@ -94,12 +120,15 @@ fn openings() {
     let q = calls::answer(q, 0, 0);
     calls::drop_link(q);
     calls::open_with(17);
-    calls::drop_link(RequestQueue {
-        link: Link {
-            window: 16,
-            next: 5,
-            count: 1,
-            entries: [Request { id: 3, size: 5 }; 16],
+    calls::drop_link(CheckedQueue {
+        queue: RequestQueue {
+            link: Link {
+                window: 16,
+                next: 5,
+                count: 1,
+                entries: [Request { id: 3, size: 5 }; 16],
+            },
         },
+        hashes: [0u8; 512],
     });
 }

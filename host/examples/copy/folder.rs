@@ -1,9 +1,9 @@
 //! A folder on disk: its scan, its blocks, and the files that come into it. For Unix, where names are
 //! bytes; the scan fails at one that isn't UTF-8.
 
-use super::sha256::sha256;
 use fordtrumpet::{
-    find_local, Block, FileInfo, FilesBuilder, Flags, Table, TableBuf, TableError, MAX_BLOCK,
+    find_local, sha256, Block, FileInfo, FilesBuilder, Flags, Table, TableBuf, TableError,
+    MAX_BLOCK,
 };
 use std::fs::{self, DirBuilder, File, OpenOptions, Permissions};
 use std::io::{self, ErrorKind, Read};

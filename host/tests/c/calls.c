@@ -196,76 +196,130 @@ static int tables(void)
 }
 
 /* Issues five requests of the largest Length, of which the first four pass; what the fifth gives. */
-static uint32_t five_blocks(uint32_t queue[BEP_QUEUE_WORDS])
+static uint32_t five_blocks(uint32_t queue[BEP_QUEUE_WORDS], uint8_t hashes[BEP_QUEUE_HASHES])
 {
     const uint8_t name[1] = {'a'};
     const uint8_t hash[32] = {9};
     uint8_t out[68];
     uint64_t issued[BEP_ISSUED_WORDS];
     for (uint32_t i = 0; i < 4; i++)
-        if (bep_queue_issue(out, 68, queue, name, 1, name, 1, 0, BEP_MAX_BLOCK, hash, 32, issued) != 0
+        if (bep_queue_issue(out, 68, queue, hashes, name, 1, name, 1, 0, BEP_MAX_BLOCK, hash, 32,
+                            issued) != 0
             || issued[BEP_ISSUED_ID] != i)
             return BEP_ACCEPTED;
-    return bep_queue_issue(out, 68, queue, name, 1, name, 1, 0, BEP_MAX_BLOCK, hash, 32, issued);
+    return bep_queue_issue(out, 68, queue, hashes, name, 1, name, 1, 0, BEP_MAX_BLOCK, hash, 32,
+                           issued);
 }
 
 /* Requests of a link, by its window of two. */
 static int queues(void)
 {
-    const uint8_t hash[32] = {9};
     const uint8_t data[5] = {1, 2, 3, 4, 5};
+    uint8_t hash[BEP_HASH_BYTES];
     uint32_t queue[BEP_QUEUE_WORDS];
     const uint32_t *entries = queue + BEP_QUEUE_ENTRIES;
+    uint8_t hashes[BEP_QUEUE_HASHES];
     uint8_t out[100];
     uint64_t length[1];
     uint64_t issued[BEP_ISSUED_WORDS];
     uint64_t answered[BEP_ANSWERED_WORDS];
     uint64_t totals[BEP_TOTALS_WORDS];
 
-    CHECK(bep_queue_open(queue, 17) == BEP_REFUSED_UNSOUND && queue[BEP_QUEUE_WINDOW] == 0);
-    CHECK(bep_queue_drop(queue) == BEP_REFUSED_UNSOUND);
+    CHECK(bep_sha256(data, sizeof data, hash) == 0);
+    memset(hashes, 0xA7, sizeof hashes);
+    CHECK(bep_queue_open(queue, hashes, 17) == BEP_REFUSED_UNSOUND);
+    CHECK(queue[BEP_QUEUE_WINDOW] == 0 && hashes[0] == 0 && hashes[BEP_QUEUE_HASHES - 1] == 0);
+    CHECK(bep_queue_drop(queue, hashes) == BEP_REFUSED_UNSOUND);
     /* No window stated: after four requests the fifth gives 16, and with 16 stated it gives 17. */
-    CHECK(bep_queue_open_default(queue) == 0 && queue[BEP_QUEUE_WINDOW] == 4);
-    CHECK(five_blocks(queue) == BEP_REFUSED_WINDOW_FULL);
-    CHECK(bep_queue_open(queue, BEP_MAX_WINDOW) == 0 && queue[BEP_QUEUE_WINDOW] == 16);
-    CHECK(five_blocks(queue) == BEP_REFUSED_ALLOWANCE_FULL);
-    CHECK(bep_queue_open(queue, 2) == 0 && queue[BEP_QUEUE_WINDOW] == 2);
-    CHECK(bep_queue_issue(out, 67, queue, data, 1, data, 1, 0, 5, hash, 32, issued)
+    CHECK(bep_queue_open_default(queue, hashes) == 0 && queue[BEP_QUEUE_WINDOW] == 4);
+    CHECK(five_blocks(queue, hashes) == BEP_REFUSED_WINDOW_FULL);
+    CHECK(bep_queue_open(queue, hashes, BEP_MAX_WINDOW) == 0 && queue[BEP_QUEUE_WINDOW] == 16);
+    CHECK(five_blocks(queue, hashes) == BEP_REFUSED_ALLOWANCE_FULL);
+    CHECK(bep_queue_open(queue, hashes, 2) == 0 && queue[BEP_QUEUE_WINDOW] == 2);
+    CHECK(bep_queue_issue(out, 67, queue, hashes, data, 1, data, 1, 0, 5, hash, 32, issued)
           == BEP_REFUSED_NO_ROOM);
-    CHECK(bep_queue_issue(out, 68, queue, data, 1, data, 1, 0, 5, hash, 32, issued) == 0);
+    CHECK(bep_queue_issue(out, 68, queue, hashes, data, 1, data, 1, 0, 5, hash, 32, issued) == 0);
     CHECK(issued[BEP_ISSUED_WRITTEN] == 68 && issued[BEP_ISSUED_ID] == 0);
-    CHECK(bep_queue_issue(out, 68, queue, data, 1, data, 1, 5, 7, hash, 32, issued) == 0);
+    CHECK(bep_queue_issue(out, 68, queue, hashes, data, 1, data, 1, 5, 7, hash, 32, issued) == 0);
     CHECK(issued[BEP_ISSUED_WRITTEN] == 68 && issued[BEP_ISSUED_ID] == 1);
     CHECK(queue[BEP_QUEUE_NEXT_ID] == 2 && queue[BEP_QUEUE_COUNT] == 2);
     CHECK(entries[0] == 0 && entries[1] == 5 && entries[2] == 1 && entries[3] == 7);
     CHECK(entries[4] == 0);
-    CHECK(bep_queue_issue(out, 68, queue, data, 1, data, 1, 0, 5, hash, 32, issued)
+    CHECK(memcmp(hashes, hash, 32) == 0 && memcmp(hashes + 32, hash, 32) == 0 && hashes[64] == 0);
+    CHECK(sizeof hashes == BEP_MAX_WINDOW * sizeof hash);
+    CHECK(bep_queue_issue(out, 68, queue, hashes, data, 1, data, 1, 0, 5, hash, 32, issued)
           == BEP_REFUSED_WINDOW_FULL);
     CHECK(issued[BEP_PLACE] == 0 && issued[BEP_ISSUED_ID] == 0);
 
     CHECK(bep_write_response(out, 100, 0, data, 5, length) == 0 && length[BEP_WRITTEN] == 16);
-    CHECK(bep_queue_answer(queue, out, 15, answered) == BEP_REFUSED_INCOMPLETE);
+    CHECK(bep_queue_answer(queue, hashes, out, 15, answered) == BEP_REFUSED_INCOMPLETE);
     CHECK(answered[BEP_PLACE] == 4);
-    CHECK(bep_queue_answer(queue, out, 16, answered) == 0);
+    CHECK(bep_queue_answer(queue, hashes, out, 16, answered) == 0);
     CHECK(answered[BEP_ANSWERED_OUTCOME] == BEP_OUTCOME_DATA);
     CHECK(answered[BEP_ANSWERED_ID] == 0 && answered[BEP_ANSWERED_LENGTH] == 5);
     CHECK(answered[BEP_ANSWERED_DATA_AT] == 8 && answered[BEP_ANSWERED_DATA_LENGTH] == 5);
-    CHECK(bep_queue_answer(queue, out, 16, answered) == BEP_REFUSED_NOT_OLDEST);
+    CHECK(bep_queue_answer(queue, hashes, out, 16, answered) == BEP_REFUSED_NOT_OLDEST);
     CHECK(answered[BEP_PLACE] == 0);
+    CHECK(memcmp(hashes, hash, 32) == 0 && hashes[32] == 0);
     CHECK(bep_queue_totals(queue, totals) == 0);
     CHECK(totals[BEP_TOTALS_COUNT] == 1 && totals[BEP_TOTALS_BYTES] == 7);
 
     CHECK(bep_write_response(out, 100, 1, data, 5, length) == 0);
-    CHECK(bep_queue_answer(queue, out, 16, answered) == 0);
+    CHECK(bep_queue_answer(queue, hashes, out, 16, answered) == 0);
     CHECK(answered[BEP_ANSWERED_OUTCOME] == BEP_OUTCOME_WRONG_SIZE);
     CHECK(answered[BEP_ANSWERED_ID] == 1 && answered[BEP_ANSWERED_LENGTH] == 7);
-    CHECK(bep_queue_issue(out, 68, queue, data, 1, data, 1, 0, 5, hash, 32, issued) == 0);
+    CHECK(bep_queue_issue(out, 68, queue, hashes, data, 1, data, 1, 0, 5, hash, 32, issued) == 0);
     CHECK(bep_write_response(out, BEP_REPLY_BYTES, 2, NULL, 0, length) == 0);
-    CHECK(bep_queue_answer(queue, out, BEP_REPLY_BYTES, answered) == 0);
+    CHECK(bep_queue_answer(queue, hashes, out, BEP_REPLY_BYTES, answered) == 0);
     CHECK(answered[BEP_ANSWERED_OUTCOME] == BEP_OUTCOME_NOT_AVAILABLE);
-    CHECK(bep_queue_issue(out, 68, queue, data, 1, data, 1, 0, 5, hash, 32, issued) == 0);
-    CHECK(bep_queue_drop(queue) == 0);
-    CHECK(queue[BEP_QUEUE_NEXT_ID] == 4 && queue[BEP_QUEUE_COUNT] == 0);
+
+    /* Five bytes, but not those that are asked for: the room is free again. */
+    CHECK(bep_queue_issue(out, 68, queue, hashes, data, 1, data, 1, 0, 5, hash, 32, issued) == 0);
+    CHECK(bep_write_response(out, 100, 3, hash, 5, length) == 0);
+    CHECK(bep_queue_answer(queue, hashes, out, 16, answered) == 0);
+    CHECK(answered[BEP_ANSWERED_OUTCOME] == BEP_OUTCOME_WRONG_CONTENT);
+    CHECK(answered[BEP_ANSWERED_ID] == 3 && answered[BEP_ANSWERED_LENGTH] == 5);
+    CHECK(answered[BEP_ANSWERED_DATA_AT] == 0 && answered[BEP_ANSWERED_DATA_LENGTH] == 0);
+    CHECK(queue[BEP_QUEUE_COUNT] == 0 && hashes[0] == 0);
+    CHECK(bep_queue_issue(out, 68, queue, hashes, data, 1, data, 1, 0, 5, hash, 32, issued) == 0);
+    CHECK(bep_queue_drop(queue, hashes) == 0);
+    CHECK(queue[BEP_QUEUE_NEXT_ID] == 5 && queue[BEP_QUEUE_COUNT] == 0);
+    CHECK(hashes[0] == 0 && hashes[31] == 0);
+    return 0;
+}
+
+/* NIST's example of 56 bytes, at once and in runs. */
+static int hashes(void)
+{
+    static const char message[] = "abcdbcdecdefdefgefghfghighijhijkijkljklmklmnlmnomnopnopq";
+    const uint8_t *bytes = (const uint8_t *)message;
+    const uint32_t expected[8] = {
+        0x248d6a61, 0xd20638b8, 0xe5c02693, 0x0c3e6039,
+        0xa33ce459, 0x64ff2167, 0xf6ecedd4, 0x19db06c1
+    };
+    uint8_t digest[BEP_HASH_BYTES];
+    uint8_t other[BEP_HASH_BYTES];
+    uint32_t words[BEP_SHA256_WORDS];
+    uint8_t tail[BEP_SHA256_TAIL_BYTES];
+    const uint32_t *count = words + BEP_SHA256_COUNT;
+
+    CHECK(bep_sha256(bytes, 56, digest) == 0);
+    for (size_t i = 0; i < 8; i++)
+        CHECK(bep_word(digest + 4 * i) == expected[i]);
+
+    memset(words, 0xA7, sizeof words);
+    memset(tail, 0xA7, sizeof tail);
+    CHECK(bep_sha256_begin(words, tail) == 0);
+    CHECK(words[BEP_SHA256_VALUE] == 0x6a09e667 && words[BEP_SHA256_VALUE + 7] == 0x5be0cd19);
+    CHECK(count[0] == 0 && count[1] == 0 && count + 2 == words + BEP_SHA256_WORDS);
+    CHECK(bep_sha256_update(words, tail, bytes, 20) == 0);
+    CHECK(bep_sha256_finish(words, tail, other) == 0 && memcmp(other, digest, 32) != 0);
+    CHECK(bep_sha256_update(words, tail, bytes + 20, 36) == 0);
+    CHECK(count[0] == 0 && count[1] == 56);
+    CHECK(memcmp(tail, bytes, 56) == 0 && tail[56] == 0 && tail[63] == 0);
+    CHECK(bep_sha256_finish(words, tail, other) == 0 && memcmp(other, digest, 32) == 0);
+    CHECK(bep_sha256_update(words, tail, bytes, 8) == 0);
+    CHECK(count[1] == 64 && tail[0] == 0 && words[BEP_SHA256_VALUE] != 0x6a09e667);
     return 0;
 }
 
@@ -398,6 +452,7 @@ static int words(void)
 {
     uint64_t answer[MOST_WORDS];
     uint32_t queue[BEP_QUEUE_WORDS + 1];
+    uint8_t hashes[BEP_QUEUE_HASHES + 1];
     uint32_t feed[BEP_FEED_WORDS + 1];
     uint32_t again[BEP_FEED_WORDS];
     uint8_t out[1];
@@ -425,11 +480,14 @@ static int words(void)
 
     for (int i = 0; i <= BEP_QUEUE_WORDS; i++)
         queue[i] = UNTOUCHED;
-    CHECK(bep_queue_open_default(queue) == 0);
+    memset(hashes, 0xA7, sizeof hashes);
+    CHECK(bep_queue_open_default(queue, hashes) == 0);
     CHECK(queue[BEP_QUEUE_WORDS - 1] == 0 && queue[BEP_QUEUE_WORDS] == UNTOUCHED);
-    CHECK(bep_queue_issue(out, 1, queue, NULL, 0, NULL, 0, 0, 0, NULL, 0, untouched(answer)) != 0);
+    CHECK(hashes[BEP_QUEUE_HASHES - 1] == 0 && hashes[BEP_QUEUE_HASHES] == 0xA7);
+    CHECK(bep_queue_issue(out, 1, queue, hashes, NULL, 0, NULL, 0, 0, 0, NULL, 0,
+                          untouched(answer)) != 0);
     CHECK(filled(answer, BEP_ISSUED_WORDS));
-    CHECK(bep_queue_answer(queue, NULL, 0, untouched(answer)) != 0);
+    CHECK(bep_queue_answer(queue, hashes, NULL, 0, untouched(answer)) != 0);
     CHECK(filled(answer, BEP_ANSWERED_WORDS));
     CHECK(bep_queue_totals(queue, untouched(answer)) == 0 && filled(answer, BEP_TOTALS_WORDS));
 
@@ -532,5 +590,5 @@ int main(void)
     CHECK(option[BEP_PLACE] == 20);
     CHECK(bep_option(options, 19, 4, option) == BEP_REFUSED_INCOMPLETE);
     CHECK(option[BEP_PLACE] == 12);
-    return editions() || feeds() || tables() || queues() || requests() || words();
+    return editions() || feeds() || tables() || queues() || hashes() || requests() || words();
 }

@@ -23,7 +23,11 @@ struct result {
     uint32_t number;
     uint64_t answer[BEP_READ_WORDS];
     uint32_t queue[BEP_QUEUE_WORDS];
+    uint8_t hashes[BEP_QUEUE_HASHES];
     uint32_t feed[BEP_FEED_WORDS];
+    uint32_t words[BEP_SHA256_WORDS];
+    uint8_t tail[BEP_SHA256_TAIL_BYTES];
+    uint8_t digest[BEP_HASH_BYTES];
     uint8_t out[ROOM];
 };
 
@@ -46,6 +50,7 @@ static uint8_t nowhere;
 static size_t place;
 static uint32_t id;
 static uint32_t queue[BEP_QUEUE_WORDS];
+static uint8_t hashes[BEP_QUEUE_HASHES];
 static uint32_t opened[BEP_FEED_WORDS];
 
 #define IN(i) s[i].at, s[i].len
@@ -116,7 +121,7 @@ static uint32_t why(const struct slice *s, struct result *r)
 
 static uint32_t queue_answer(const struct slice *s, struct result *r)
 {
-    return bep_queue_answer(r->queue, IN(0), r->answer);
+    return bep_queue_answer(r->queue, r->hashes, IN(0), r->answer);
 }
 
 static uint32_t write_index(const struct slice *s, struct result *r)
@@ -201,7 +206,20 @@ static uint32_t serve(const struct slice *s, struct result *r)
 
 static uint32_t queue_issue(const struct slice *s, struct result *r)
 {
-    return bep_queue_issue(OUT, r->queue, IN(1), IN(2), 0, 5, IN(3), r->answer);
+    return bep_queue_issue(OUT, r->queue, r->hashes, IN(1), IN(2), 0, 5, IN(3), r->answer);
+}
+
+static uint32_t sha256(const struct slice *s, struct result *r)
+{
+    return bep_sha256(IN(0), r->digest);
+}
+
+/* Two runs. */
+static uint32_t sha256_runs(const struct slice *s, struct result *r)
+{
+    return bep_sha256_begin(r->words, r->tail) | bep_sha256_update(r->words, r->tail, IN(0))
+           | bep_sha256_update(r->words, r->tail, IN(1))
+           | bep_sha256_finish(r->words, r->tail, r->digest);
 }
 
 static int different;
@@ -219,6 +237,7 @@ static void try(const char *name, call *f, int count, const struct slice *whole)
 
             memset(r, 0xA7, sizeof *r);
             memcpy(r->queue, queue, sizeof queue);
+            memcpy(r->hashes, hashes, sizeof hashes);
             memcpy(r->feed, opened, sizeof opened);
             for (int i = 0; i < count; i++) {
                 s[i] = whole[i];
@@ -286,6 +305,9 @@ static void try_all(void)
         TRY(step, EMPTY);
         TRY(compare, FILES, FILES);
     }
+    TRY(sha256, FILES);
+    TRY(sha256_runs, FILES, EMPTY);
+    TRY(sha256_runs, EMPTY, FILES);
     TRY(check_table, FILES);
     TRY(find, FILES, HASH);
     TRY(find, EMPTY, HASH);
@@ -342,15 +364,17 @@ int main(void)
     /* A queue that is full, one with room, and one that isn't sound. */
     for (uint32_t window = 1; window <= 2; window++) {
         uint8_t out[ROOM];
+        uint8_t digest[BEP_HASH_BYTES];
         uint64_t issued[BEP_ISSUED_WORDS];
 
-        if (bep_queue_open(queue, window) != 0
-            || bep_queue_issue(out, ROOM, queue, &nowhere, 0, files + 8, 1, 0, 5, hash, 32,
-                               issued) != 0)
+        /* What the Response among the messages brings. */
+        if (bep_sha256(files, 5, digest) != 0 || bep_queue_open(queue, hashes, window) != 0
+            || bep_queue_issue(out, ROOM, queue, hashes, &nowhere, 0, files + 8, 1, 0, 5, digest,
+                               32, issued) != 0)
             return 1;
         try_all();
     }
-    if (bep_queue_open(queue, 17) != BEP_REFUSED_UNSOUND)
+    if (bep_queue_open(queue, hashes, 17) != BEP_REFUSED_UNSOUND)
         return 1;
     try_all();
     /* Refusals alone would show little. */

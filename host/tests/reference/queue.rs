@@ -1,6 +1,6 @@
 //! The outstanding requests of a link.
 
-use super::{read, write_request, Body, Refusal, Span, MAX_ID, MAX_LENGTH};
+use super::{read, sha256, write_request, Body, Refusal, Span, MAX_ID, MAX_LENGTH};
 
 pub const WINDOW: u32 = 16;
 /// The window of a peer for whom none is stated.
@@ -12,6 +12,7 @@ pub const ALLOWANCE: u32 = 524_288;
 pub struct Request {
     pub id: u32,
     pub length: u32,
+    pub hash: [u8; 32],
 }
 
 /// The outstanding requests, oldest first. Unused entries are zeros.
@@ -29,6 +30,7 @@ pub enum Outcome {
     Data(Span),
     NotAvailable,
     WrongSize,
+    WrongContent,
 }
 
 /// The request that an answer released, and how.
@@ -127,6 +129,7 @@ impl Queue {
         self.requests[self.count as usize] = Request {
             id: self.next,
             length,
+            hash: hash.try_into().expect("with another length it is refused"),
         };
         self.count += 1;
         self.next = after(self.next);
@@ -149,8 +152,9 @@ impl Queue {
         self.count -= 1;
         let outcome = match data.len {
             0 => Outcome::NotAvailable,
-            len if len == request.length as usize => Outcome::Data(data),
-            _ => Outcome::WrongSize,
+            len if len != request.length as usize => Outcome::WrongSize,
+            _ if sha256(data.of(message)) != request.hash => Outcome::WrongContent,
+            _ => Outcome::Data(data),
         };
         Ok(Answered { request, outcome })
     }

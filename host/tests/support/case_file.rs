@@ -2,8 +2,9 @@
 //!
 //! Bytes are in hex, two lower-case digits a byte; `-` is no bytes. Dots only set words apart, and
 //! `61*300` is the byte 61 three hundred times. `let NAME BYTES` gives bytes a name, which begins with a
-//! capital and then stands among the dots like hex. Other numbers are decimal. Empty lines and lines that
-//! begin with `#` are no cases, and what follows ` # ` on a line is a comment.
+//! capital and then stands among the dots like hex. Colons and commas part what a word is made of. Other
+//! numbers are decimal. Empty lines and lines that begin with `#` are no cases, and what follows ` # ` on
+//! a line is a comment.
 
 use std::borrow::Cow;
 use std::collections::BTreeMap;
@@ -17,7 +18,7 @@ pub struct Case<'a> {
     pub line: &'a str,
     /// The call and what it is given.
     pub given: Vec<Cow<'a, str>>,
-    pub answer: Vec<&'a str>,
+    pub answer: Vec<Cow<'a, str>>,
     /// Its comment is `open`: there is room for another answer.
     pub open: bool,
 }
@@ -50,14 +51,15 @@ fn case<'a>(line: &'a str, names: &Names) -> Result<Case<'a>, String> {
     let (Some(given), Some(answer), None) = (halves.next(), halves.next(), halves.next()) else {
         return Err("no case: it has no single `=`".to_string());
     };
-    let given: Result<_, _> = given
-        .split_whitespace()
-        .map(|word| in_hex(word, names))
-        .collect();
+    let in_hex = |half: &'a str| {
+        let words = half.split_whitespace();
+        words.map(|word| in_hex(word, names)).collect()
+    };
+    let (given, answer): (Result<_, _>, Result<_, _>) = (in_hex(given), in_hex(answer));
     Ok(Case {
         line,
         given: given?,
-        answer: answer.split_whitespace().collect(),
+        answer: answer?,
         open: comment.trim() == "open",
     })
 }
@@ -81,6 +83,19 @@ fn is_name(part: &str) -> bool {
 
 /// The word with bytes in place of their names.
 fn in_hex<'a>(word: &'a str, names: &Names) -> Result<Cow<'a, str>, String> {
+    if !word.split(['.', ':', ',']).any(is_name) {
+        return Ok(Cow::Borrowed(word));
+    }
+    let mut hex = String::new();
+    for piece in word.split_inclusive([':', ',']) {
+        let end = piece.trim_end_matches([':', ',']).len();
+        hex += &piece_in_hex(&piece[..end], names)?;
+        hex += &piece[end..];
+    }
+    Ok(Cow::Owned(hex))
+}
+
+fn piece_in_hex<'a>(word: &'a str, names: &Names) -> Result<Cow<'a, str>, String> {
     if !word.split('.').any(is_name) {
         return Ok(Cow::Borrowed(word));
     }

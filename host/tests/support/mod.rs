@@ -6,6 +6,7 @@
 pub mod alike;
 pub mod case_file;
 pub mod compare;
+pub mod contents;
 pub mod damage;
 pub mod draft;
 pub mod encode;
@@ -15,6 +16,7 @@ pub mod library;
 pub mod names;
 pub mod queue_calls;
 pub mod random;
+pub mod sha_calls;
 pub mod table_calls;
 pub mod tables;
 pub mod text;

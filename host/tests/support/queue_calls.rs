@@ -5,9 +5,29 @@ use super::library::{ffi, Answer, UNSET};
 use super::random::Random;
 use crate::reference::{self, Answered, Outcome, Outstanding, Queue};
 use std::collections::BTreeMap;
+use std::ops::Range;
 
 /// A queue as it is lent.
-pub type Words = [u32; 35];
+#[derive(Clone, Copy, Debug, PartialEq, Eq)]
+pub struct Lent {
+    pub words: [u32; ffi::QUEUE_WORDS],
+    pub hashes: [u8; ffi::QUEUE_HASHES],
+}
+
+impl Lent {
+    /// One whose words are all this one, and the bytes of its hashes too.
+    pub fn filled(byte: u8) -> Self {
+        Lent {
+            words: [u32::from(byte); ffi::QUEUE_WORDS],
+            hashes: [byte; ffi::QUEUE_HASHES],
+        }
+    }
+
+    /// The hash of the entry with this number, from 0.
+    pub fn hash(&mut self, number: usize) -> &mut [u8; 32] {
+        &mut self.hashes.as_chunks_mut().0[number]
+    }
+}
 
 /// The fields of a Request to be issued.
 #[derive(Clone, Debug)]
@@ -22,12 +42,12 @@ pub struct Wanted {
 /// The calls under test. Faults are planted by exchanging one of them.
 #[derive(Clone, Copy)]
 pub struct QueueCalls {
-    pub open: fn(&mut Words, u32) -> u32,
-    pub open_default: fn(&mut Words) -> u32,
-    pub issue: fn(&mut Words, &Wanted, &mut [u8]) -> Answer<2>,
-    pub answer: fn(&mut Words, &[u8]) -> Answer<5>,
-    pub drop_link: fn(&mut Words) -> u32,
-    pub totals: fn(&Words) -> Answer<2>,
+    pub open: fn(&mut Lent, u32) -> u32,
+    pub open_default: fn(&mut Lent) -> u32,
+    pub issue: fn(&mut Lent, &Wanted, &mut [u8]) -> Answer<2>,
+    pub answer: fn(&mut Lent, &[u8]) -> Answer<5>,
+    pub drop_link: fn(&mut Lent) -> u32,
+    pub totals: fn(&Lent) -> Answer<2>,
 }
 
 /// The library as it is.
@@ -40,25 +60,26 @@ pub const QUEUE_CALLS: QueueCalls = QueueCalls {
     totals,
 };
 
-fn open(queue: &mut Words, window: u32) -> u32 {
-    // SAFETY: the queue has the size asked for. In all calls so has the answer, and each pointer and
-    // length are those of one slice.
-    unsafe { ffi::bep_queue_open(queue, window) }
+fn open(queue: &mut Lent, window: u32) -> u32 {
+    // SAFETY: words and hashes have the sizes asked for. In all calls so has the answer, and each pointer
+    // and length are those of one slice.
+    unsafe { ffi::bep_queue_open(&mut queue.words, &mut queue.hashes, window) }
 }
 
-fn open_default(queue: &mut Words) -> u32 {
+fn open_default(queue: &mut Lent) -> u32 {
     // SAFETY: as in `open`.
-    unsafe { ffi::bep_queue_open_default(queue) }
+    unsafe { ffi::bep_queue_open_default(&mut queue.words, &mut queue.hashes) }
 }
 
-fn issue(queue: &mut Words, wanted: &Wanted, out: &mut [u8]) -> Answer<2> {
+fn issue(queue: &mut Lent, wanted: &Wanted, out: &mut [u8]) -> Answer<2> {
     let mut answer = [UNSET; 2];
     // SAFETY: as in `open`.
     let number = unsafe {
         ffi::bep_queue_issue(
             out.as_mut_ptr(),
             out.len(),
-            queue,
+            &mut queue.words,
+            &mut queue.hashes,
             wanted.repository.as_ptr(),
             wanted.repository.len(),
             wanted.name.as_ptr(),
@@ -73,41 +94,52 @@ fn issue(queue: &mut Words, wanted: &Wanted, out: &mut [u8]) -> Answer<2> {
     (number, answer)
 }
 
-fn answer(queue: &mut Words, message: &[u8]) -> Answer<5> {
+fn answer(queue: &mut Lent, message: &[u8]) -> Answer<5> {
     let mut answer = [UNSET; 5];
     // SAFETY: as in `open`.
-    let number =
-        unsafe { ffi::bep_queue_answer(queue, message.as_ptr(), message.len(), &mut answer) };
+    let number = unsafe {
+        ffi::bep_queue_answer(
+            &mut queue.words,
+            &mut queue.hashes,
+            message.as_ptr(),
+            message.len(),
+            &mut answer,
+        )
+    };
     (number, answer)
 }
 
-fn drop_link(queue: &mut Words) -> u32 {
+fn drop_link(queue: &mut Lent) -> u32 {
     // SAFETY: as in `open`.
-    unsafe { ffi::bep_queue_drop(queue) }
+    unsafe { ffi::bep_queue_drop(&mut queue.words, &mut queue.hashes) }
 }
 
-fn totals(queue: &Words) -> Answer<2> {
+fn totals(queue: &Lent) -> Answer<2> {
     let mut answer = [UNSET; 2];
     // SAFETY: as in `open`.
-    let number = unsafe { ffi::bep_queue_totals(queue, &mut answer) };
+    let number = unsafe { ffi::bep_queue_totals(&queue.words, &mut answer) };
     (number, answer)
 }
 
-/// The words of the reference's queue.
-pub fn words_of(queue: &Queue) -> Words {
-    let mut words = [0; 35];
-    words[..3].copy_from_slice(&[queue.window, queue.next, queue.count]);
-    for (pair, request) in words[3..].chunks_mut(2).zip(&queue.requests) {
-        pair.copy_from_slice(&[request.id, request.length]);
+/// The reference's queue as it would be lent.
+pub fn as_lent(queue: &Queue) -> Lent {
+    let mut lent = Lent::filled(0);
+    lent.words[..3].copy_from_slice(&[queue.window, queue.next, queue.count]);
+    for (number, request) in queue.requests.iter().enumerate() {
+        lent.words[3 + 2 * number..][..2].copy_from_slice(&[request.id, request.length]);
+        *lent.hash(number) = request.hash;
     }
-    words
+    lent
 }
 
-/// The reference's queue with these words.
-pub fn queue_of(words: &Words) -> Queue {
+/// The reference's queue by one that is lent.
+pub fn queue_of(lent: &Lent) -> Queue {
+    let words = &lent.words;
+    let hashes = lent.hashes.as_chunks().0;
     let mut requests = [Outstanding::default(); 16];
-    for (request, pair) in requests.iter_mut().zip(words[3..].chunks(2)) {
-        (request.id, request.length) = (pair[0], pair[1]);
+    for (number, request) in requests.iter_mut().enumerate() {
+        (request.id, request.length) = (words[3 + 2 * number], words[4 + 2 * number]);
+        request.hash = hashes[number];
     }
     Queue {
         window: words[0],
@@ -127,6 +159,7 @@ pub fn answered_words(answer: Result<Answered, reference::Refusal>) -> Answer<5>
         Outcome::Data(data) => (0, data.start as u64, data.len as u64),
         Outcome::NotAvailable => (1, 0, 0),
         Outcome::WrongSize => (2, 0, 0),
+        Outcome::WrongContent => (3, 0, 0),
     };
     let (id, length) = (u64::from(request.id), u64::from(request.length));
     (0, [kind, id, length, start, len])
@@ -139,12 +172,12 @@ fn number<T>(answer: &Result<T, reference::Refusal>) -> u32 {
 /// One queue of each side, compared after every call.
 pub struct QueueComparison<'a> {
     calls: QueueCalls,
-    words: Words,
+    lent: Lent,
     pub queue: Queue,
     /// The number of calls compared.
     pub compared: u64,
     /// How often a call answered with a number. An answer that brought no data counts as 100, one of
-    /// the wrong size as 200.
+    /// the wrong size as 200, one of the wrong content as 300.
     pub seen: &'a mut BTreeMap<(&'static str, u32), u64>,
 }
 
@@ -156,7 +189,7 @@ impl<'a> QueueComparison<'a> {
     ) -> Self {
         QueueComparison {
             calls,
-            words: words_of(&queue),
+            lent: as_lent(&queue),
             queue,
             compared: 0,
             seen,
@@ -167,22 +200,20 @@ impl<'a> QueueComparison<'a> {
     fn met(&mut self, call: &'static str, number: u32) -> Compared {
         self.compared += 1;
         *self.seen.entry((call, number)).or_default() += 1;
-        same("the queue", &self.words, &words_of(&self.queue))?;
+        let expected = as_lent(&self.queue);
+        same("the words", &self.lent.words, &expected.words)?;
+        same_bytes("the hashes", &self.lent.hashes, &expected.hashes)?;
         let totals = [
             u64::from(self.queue.count.min(16)),
             self.queue.outstanding_bytes(),
         ];
-        same(
-            "the totals",
-            &(self.calls.totals)(&self.words),
-            &(0, totals),
-        )
+        same("the totals", &(self.calls.totals)(&self.lent), &(0, totals))
     }
 
     pub fn open(&mut self, window: u32) -> Compared {
         let (queue, answer) = Queue::open(window);
         self.queue = queue;
-        let given = (self.calls.open)(&mut self.words, window);
+        let given = (self.calls.open)(&mut self.lent, window);
         same("open", &given, &number(&answer))?;
         self.met("open", given)
     }
@@ -191,7 +222,7 @@ impl<'a> QueueComparison<'a> {
     pub fn open_default(&mut self) -> Compared {
         let (queue, answer) = Queue::open_default();
         self.queue = queue;
-        let given = (self.calls.open_default)(&mut self.words);
+        let given = (self.calls.open_default)(&mut self.lent);
         same("open without a window", &given, &number(&answer))?;
         self.met("open without a window", given)
     }
@@ -202,7 +233,7 @@ impl<'a> QueueComparison<'a> {
         let lent = start..start + room;
         let before = random.bytes(start + room + 8);
         let mut memory = before.clone();
-        let given = (self.calls.issue)(&mut self.words, wanted, &mut memory[lent.clone()]);
+        let given = (self.calls.issue)(&mut self.lent, wanted, &mut memory[lent.clone()]);
         let mut expected_memory = before;
         let id = self.queue.next;
         let answer = self.queue.issue(
@@ -223,7 +254,7 @@ impl<'a> QueueComparison<'a> {
     }
 
     pub fn answer(&mut self, message: &[u8]) -> Compared {
-        let given = (self.calls.answer)(&mut self.words, message);
+        let given = (self.calls.answer)(&mut self.lent, message);
         let expected = answered_words(self.queue.answer(message));
         let kind = match expected {
             (0, [kind, ..]) => 100 * kind as u32,
@@ -234,7 +265,7 @@ impl<'a> QueueComparison<'a> {
     }
 
     pub fn drop_link(&mut self) -> Compared {
-        let given = (self.calls.drop_link)(&mut self.words);
+        let given = (self.calls.drop_link)(&mut self.lent);
         let answer = self.queue.drop_link();
         same("drop", &given, &number(&answer))?;
         self.met("drop", given)
@@ -242,7 +273,13 @@ impl<'a> QueueComparison<'a> {
 
     /// Somebody writes into the queue.
     pub fn write(&mut self, at: usize, word: u32) {
-        self.words[at] = word;
-        self.queue = queue_of(&self.words);
+        self.lent.words[at] = word;
+        self.queue = queue_of(&self.lent);
+    }
+
+    /// Somebody writes into the hashes, of unused entries too. A sound queue stays so.
+    pub fn write_hashes(&mut self, at: Range<usize>, random: &mut Random) {
+        random.fill(&mut self.lent.hashes[at]);
+        self.queue = queue_of(&self.lent);
     }
 }

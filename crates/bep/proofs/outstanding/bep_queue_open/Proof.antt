@@ -1,12 +1,11 @@
 -- `bep::outstanding::bep_queue_open` meets its contract: by what the opening gives.
-use Rattle.bep.proofs.RequestLaws.{becomes}
+use Rattle.bep.proofs.RequestLaws.{opens}
 use borrow.Author.Needs.{needs}
 use Rattle.bep.proofs.outstanding.bep_queue_open.Statement.{statement}
 use Rattle.bep.proofs.outstanding.bep_queue_open.Tie as tie
 
 returns : tie.Need-returns
-returns c = becomes (c .before .before .before .open-with .ensures) (c .verdict-number .ensures) (c .before .packed .ensures)
+returns c = opens (c .before .before .before .before .before .args .window) (c .before .before .before .before .open-with .ensures) (c .verdict-number .ensures) (c .before .before .packed .ensures)
 
 pub bep-queue-open-spec : {M : Type 1} → statement M
-bep-queue-open-spec =
-    tie.close (tie.spec (λ c κs. search needs) (λ c κs. search needs) (λ c κs. search needs) returns)
+bep-queue-open-spec = tie.close (tie.spec (λ c κs. search needs) (λ c κs. search needs) (λ c κs. search needs) returns)
