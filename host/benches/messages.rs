@@ -12,7 +12,7 @@ use reference::{by_copy, Edition};
 use std::hint::black_box;
 use support::draft::{Body, Draft};
 use support::encode::{Block, Encoding, File};
-use timing::{compare, heading, keep, time_alone};
+use timing::{best_times, compare, heading, keep, print, time_alone};
 
 fn main() {
     heading();
@@ -237,12 +237,25 @@ fn compare_turned(
     out.fill(0);
     assert_eq!(reference(from, &mut out), Ok(to.len()));
     assert_eq!(out, to);
-    compare(
-        what,
-        &mut out,
-        |out| keep(&library(black_box(from), out)),
-        |out| keep(&reference(black_box(from), out)),
-    );
+    // On the wire a message begins where the one before it ended, at any multiple of four, and how long
+    // a copy takes goes by where it stands: the mean over all places in a line of the cache.
+    let mut wire = vec![0; from.len() + 128];
+    let line = wire.as_ptr().align_offset(64);
+    let places = line..line + 64;
+    let (mut library_time, mut reference_time) = (0.0, 0.0);
+    for place in places.clone().step_by(4) {
+        wire[place..][..from.len()].copy_from_slice(from);
+        let message = &wire[place..][..from.len()];
+        let (library, reference) = best_times(
+            &mut out,
+            |out| keep(&library(black_box(message), out)),
+            |out| keep(&reference(black_box(message), out)),
+        );
+        library_time += library;
+        reference_time += reference;
+    }
+    let count = places.step_by(4).count() as f64;
+    print(what, library_time / count, reference_time / count);
 }
 
 fn compare_walking_files(what: &str, draft: &Draft) {

@@ -49,6 +49,17 @@ pub fn compare_parts(
     library: impl Fn(&mut [u8]),
     reference: impl Fn(&mut [u8]),
 ) {
+    let (library, reference) = best_times(out, library, reference);
+    let parts = parts as f64;
+    print(what, library / parts, reference / parts);
+}
+
+/// The times of one call of each in nanoseconds, each the best of several runs.
+pub fn best_times(
+    out: &mut [u8],
+    library: impl Fn(&mut [u8]),
+    reference: impl Fn(&mut [u8]),
+) -> (f64, f64) {
     let library_calls = calls_in_a_run(out, &library);
     let reference_calls = calls_in_a_run(out, &reference);
     let (mut library_best, mut reference_best) = (f64::MAX, f64::MAX);
@@ -56,8 +67,7 @@ pub fn compare_parts(
         library_best = library_best.min(time(library_calls, out, &library));
         reference_best = reference_best.min(time(reference_calls, out, &reference));
     }
-    let parts = parts as f64;
-    print(what, library_best / parts, reference_best / parts);
+    (library_best, reference_best)
 }
 
 /// Prints a line of two times that were taken.
