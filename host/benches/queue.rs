@@ -7,7 +7,7 @@ mod support;
 mod timing;
 
 use fordtrumpet::{RequestQueue, MAX_BLOCK};
-use reference::{sha256, Queue};
+use reference::{sha256, Asked, Queue, PEERS};
 use std::cell::RefCell;
 use std::hint::black_box;
 use support::encode::Encoding;
@@ -15,61 +15,88 @@ use timing::{compare, heading, keep};
 
 const NAME: &[u8] = b"directory/file name 0001";
 
+/// The peer whose calls are timed.
+const PEER: u32 = 2;
+
 fn main() {
     heading();
     // Without data nothing is hashed.
-    compare_pairs("issue and answer, none else outstanding", 0, &[]);
-    compare_pairs("issue and answer, 3 others outstanding", 3, &[]);
-    compare_pairs("issue and answer, 15 others outstanding", 15, &[]);
-    compare_pairs("issue and answer with 5 bytes", 0, b"12345");
+    compare_pairs("issue and answer, none outstanding", 0, 0, &[]);
+    compare_pairs("issue and answer, 3 own, 4 of each other", 3, 4, &[]);
+    compare_pairs("issue and answer, 15 own, 15 of each other", 15, 15, &[]);
+    compare_pairs("issue and answer with 5 bytes", 0, 0, b"12345");
     let data = vec![0xA7; MAX_BLOCK];
-    compare_pairs("issue and answer with 131,072 bytes", 0, &data);
+    compare_pairs("issue and answer with 131,072 bytes", 0, 0, &data);
 }
 
-/// A Request is issued and the oldest one answered with these data, while so many others are outstanding.
-/// Where there are no data it asks for 5 bytes.
-fn compare_pairs(what: &str, others: usize, data: &[u8]) {
-    let (length, hash) = match data {
-        [] => (5, [0xA7; 32]),
-        data => (data.len() as u32, sha256(data)),
-    };
-    // As in a bulk copy. Without a stated window there would be room for 3 others.
-    let library = RefCell::new((RequestQueue::open_with(16).unwrap(), Responses::new(data)));
-    let reference = RefCell::new((Queue::open(16).0, Responses::new(data)));
-    let mut out = vec![0; 400];
-    for _ in 0..others {
-        let (queue, _) = &mut *library.borrow_mut();
-        let issued = queue.issue(b"default", NAME, 0, length, &hash, &mut out);
-        keep(&issued.unwrap());
-        let (queue, _) = &mut *reference.borrow_mut();
-        let issued = queue.issue(b"default", NAME, 0, length, &hash, &mut out);
+/// A block that is asked for.
+struct Block {
+    length: u32,
+    hash: [u8; 32],
+}
+
+impl Block {
+    /// The one that has these data. Where there are none, it has 5 bytes.
+    fn of(data: &[u8]) -> Self {
+        let (length, hash) = match data {
+            [] => (5, [0xA7; 32]),
+            data => (data.len() as u32, sha256(data)),
+        };
+        Block { length, hash }
+    }
+
+    fn issue(&self, queue: &mut RequestQueue, peer: u32, out: &mut [u8]) {
+        let mut peer = queue.peer(peer);
+        let issued = peer.issue(b"default", NAME, 0, self.length, &self.hash, out);
         keep(&issued.unwrap());
     }
-    let has_data = !data.is_empty();
+
+    fn issue_by_reference(&self, queue: &mut Queue, peer: u32, out: &mut [u8]) {
+        let asked = Asked {
+            repository: b"default",
+            name: NAME,
+            offset: 0,
+            length: self.length,
+            hash: &self.hash,
+        };
+        keep(&queue.issue(peer, &asked, out).unwrap());
+    }
+}
+
+/// A Request is issued and the peer's oldest one answered with these data, while it has so many others
+/// outstanding, and each other peer so many.
+fn compare_pairs(what: &str, own: usize, of_each_other: usize, data: &[u8]) {
+    let (block, has_data, mut out) = (Block::of(data), !data.is_empty(), vec![0; 400]);
+    // As in a bulk copy. Without stated windows there would be room for 4 of each.
+    let windows = [Some(16); PEERS];
+    let mut library = (
+        RequestQueue::open_with(windows).unwrap(),
+        Responses::new(data),
+    );
+    let mut reference = (Queue::open(windows).0, Responses::new(data));
+    for peer in 1..=PEERS as u32 {
+        for _ in 0..if peer == PEER { own } else { of_each_other } {
+            block.issue(&mut library.0, peer, &mut out);
+            block.issue_by_reference(&mut reference.0, peer, &mut out);
+        }
+    }
+    let (library, reference) = (RefCell::new(library), RefCell::new(reference));
     compare(
         what,
         &mut out,
         |out| {
             let (queue, responses) = &mut *library.borrow_mut();
             let queue = black_box(queue);
-            keep(
-                &queue
-                    .issue(b"default", NAME, 0, length, &hash, out)
-                    .unwrap(),
-            );
-            let answered = queue.answer(responses.next()).unwrap();
+            block.issue(queue, PEER, out);
+            let answered = queue.peer(PEER).answer(responses.next()).unwrap();
             let data = matches!(answered.outcome, fordtrumpet::Outcome::Data(_));
             assert_eq!(data, has_data);
         },
         |out| {
             let (queue, responses) = &mut *reference.borrow_mut();
             let queue = black_box(queue);
-            keep(
-                &queue
-                    .issue(b"default", NAME, 0, length, &hash, out)
-                    .unwrap(),
-            );
-            let answered = queue.answer(responses.next()).unwrap();
+            block.issue_by_reference(queue, PEER, out);
+            let answered = queue.answer(PEER, responses.next()).unwrap();
             let data = matches!(answered.outcome, reference::Outcome::Data(_));
             assert_eq!(data, has_data);
         },

@@ -26,6 +26,9 @@ use std::{env, thread, time::Duration};
 
 const REPOSITORY: &str = "default";
 
+/// Each device has one peer, so that the others of its queue are idle.
+const PEER: u32 = 1;
+
 /// A peer that neither sends nor takes anything for so long is given up.
 const PATIENCE: Duration = Duration::from_secs(60);
 
@@ -63,7 +66,8 @@ pub fn exchange(folder: Folder, stream: TcpStream) -> io::Result<Report> {
     let device = Device {
         folder,
         stream: &stream,
-        queue: RequestQueue::open_with(RequestQueue::MAX_WINDOW)?, // a bulk copy states its window
+        // A bulk copy states the window of its peer.
+        queue: RequestQueue::open_with([Some(RequestQueue::MAX_WINDOW), None, None, None])?,
         asks: VecDeque::new(),
         incoming: BTreeMap::new(),
         indexes: 0,
@@ -176,10 +180,10 @@ impl Device<'_> {
 
     /// Asks for as much as may be outstanding; the rest waits for answers.
     fn ask(&mut self) -> io::Result<()> {
-        while let Some(ask) = self.asks.get(self.queue.outstanding()) {
-            let (name, offset, length) = (&ask.name, ask.offset, ask.length);
-            let (queue, out) = (&mut self.queue, &mut self.out);
-            match queue.issue(REPOSITORY, name, offset, length, &ask.hash, out) {
+        let mut peer = self.queue.peer(PEER);
+        while let Some(ask) = self.asks.get(peer.outstanding()) {
+            let (name, offset, length, out) = (&ask.name, ask.offset, ask.length, &mut self.out);
+            match peer.issue(REPOSITORY, name, offset, length, &ask.hash, out) {
                 Ok(issued) => self.stream.write_all(&self.out[..issued.written])?,
                 Err(Refusal::WindowFull | Refusal::AllowanceFull) => break,
                 Err(refusal) => return Err(refusal.into()),
@@ -207,7 +211,7 @@ impl Device<'_> {
 
     /// Keeps a block that was asked for, if it is the right one; the queue has seen to its hash.
     fn keep(&mut self, response: &[u8]) -> io::Result<()> {
-        let outcome = self.queue.answer(response)?.outcome;
+        let outcome = self.queue.peer(PEER).answer(response)?.outcome;
         let mut ask = self.asks.pop_front().expect("the queue has it too");
         let file = self.incoming.get_mut(&ask.name).expect("it was begun");
         match outcome {

@@ -129,7 +129,7 @@ struct tables {
 #define TABLE(t, i) (t)->at[i], (t)->length[i]
 #define FIVE(t) TABLE(t, 0), TABLE(t, 1), TABLE(t, 2), TABLE(t, 3), TABLE(t, 4)
 
-/* The requests of one peer that aren't answered yet. */
+/* The requests of all peers that aren't answered yet. */
 struct queue {
     uint32_t words[BEP_QUEUE_WORDS];
     uint8_t hashes[BEP_QUEUE_HASHES];
@@ -148,7 +148,7 @@ static int ask(struct queue *queue, const struct tables *tables,
     if (number != BEP_ACCEPTED)
         return refused(number, 0);
     table = tables->at[details[BEP_DETAILS_TABLE]];
-    number = bep_queue_issue(request, sizeof request, queue->words, queue->hashes,
+    number = bep_queue_issue(request, sizeof request, queue->words, queue->hashes, wanted->peer,
                              repository, sizeof repository, table + details[BEP_DETAILS_NAME_AT],
                              (size_t)details[BEP_DETAILS_NAME_LENGTH], wanted->offset,
                              wanted->length, table + details[BEP_DETAILS_HASH_AT],
@@ -191,7 +191,8 @@ static int fetch(struct queue *queue, const struct tables *tables,
         if (ask(queue, tables, wanted, &id)
             || respond(id, tries, response, sizeof response, &length))
             return 1;
-        number = bep_queue_answer(queue->words, queue->hashes, response, length, answered);
+        number = bep_queue_answer(queue->words, queue->hashes, wanted->peer, response, length,
+                                  answered);
         if (number != BEP_ACCEPTED)
             return refused(number, answered[BEP_PLACE]);
         switch (answered[BEP_ANSWERED_OUTCOME]) {
@@ -219,6 +220,7 @@ static int want(const struct tables *tables)
 {
     static uint8_t list[BEP_MAX_REQUEST_LIST];
     static const uint8_t name[] = {'b'};
+    static const uint32_t windows[BEP_PEERS] = {0};
     struct queue queue;
     uint64_t written[1];
     uint64_t why[BEP_WHY_WORDS];
@@ -226,7 +228,10 @@ static int want(const struct tables *tables)
 
     if (number != BEP_ACCEPTED)
         return refused(number, written[BEP_PLACE]);
-    bep_queue_open_default(queue.words, queue.hashes);  /* each peer has one; here there is one */
+    /* No window is stated, so each peer gets the default. */
+    number = bep_queue_open(queue.words, queue.hashes, windows, BEP_STATED_NONE);
+    if (number != BEP_ACCEPTED)
+        return refused(number, 0);
     for (size_t i = 0; i < written[BEP_WRITTEN] / BEP_LIST_ENTRY_BYTES; i++) {
         struct bep_wanted wanted = bep_list_entry(list, i);
 

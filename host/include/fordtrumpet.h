@@ -5,8 +5,8 @@
  * Slices. A run of bytes is given as a pointer and a length. NULL is allowed where the length is 0;
  * this is tested, not proved, since the prover takes slices, which have an address. A lent buffer
  * (out) must not overlap any input, and an answer, a feed, a digest, an array of a queue or one of
- * SHA-256 in pieces nothing else that is given. These are never NULL and have the size that they are
- * declared with.
+ * SHA-256 in pieces nothing else that is given. These, and the windows of an opening, are never
+ * NULL and have the size that they are declared with.
  *
  * Answers. Every function returns 0 when it accepts, else the number of the refusal, and fills the
  * whole answer; an enum before the function names the answer's words. A refusal comes with a place,
@@ -77,24 +77,26 @@ enum {
     BEP_REFUSED_DELETED_WITH_BLOCKS = 12,
     /* a name stands twice in the message (never in reading or writing) */
     BEP_REFUSED_REPEATED_NAME = 13,
-    /* the answer is longer than the lent buffer (the place is 0, as for all up to 22) */
+    /* the answer is longer than the lent buffer (the place is 0, as for all up to 23) */
     BEP_REFUSED_NO_ROOM = 14,
     /* bytes given as a table aren't a good table */
     BEP_REFUSED_BAD_TABLE = 15,
-    /* outstanding count equals the window */
+    /* the peer's outstanding count equals its window */
     BEP_REFUSED_WINDOW_FULL = 16,
-    /* outstanding bytes plus Length exceed the allowance */
+    /* outstanding bytes, of all peers, plus Length exceed the allowance */
     BEP_REFUSED_ALLOWANCE_FULL = 17,
     /* the message is of another type than the call accepts */
     BEP_REFUSED_OTHER_TYPE = 18,
     /* the resulting table is above 512 records or 65,536 bytes */
     BEP_REFUSED_TABLE_TOO_LARGE = 19,
-    /* the Response's ID isn't that of the oldest outstanding request, or none is outstanding */
+    /* the Response's ID isn't that of the peer's oldest outstanding request, or it has none */
     BEP_REFUSED_NOT_OLDEST = 20,
     /* another Repository than the call names */
     BEP_REFUSED_OTHER_REPOSITORY = 21,
-    /* window not 1 to 16, or the outstanding requests or the feed given aren't sound */
+    /* a window not 1 to 16, or the outstanding requests or the feed given aren't sound */
     BEP_REFUSED_UNSOUND = 22,
+    /* peer number not 1 to 4 */
+    BEP_REFUSED_NO_SUCH_PEER = 23,
     /* the Name begins or ends with a slash, has two slashes together, a part that is exactly . or
        .., or a zero byte (the place is that of the Name) */
     BEP_REFUSED_UNSAFE_NAME = 24
@@ -127,7 +129,8 @@ static inline const char *bep_refusal_text(uint32_t number)
         return "the resulting table is above 512 records or 65,536 bytes";
     case BEP_REFUSED_NOT_OLDEST: return "the Response isn't to the oldest outstanding request";
     case BEP_REFUSED_OTHER_REPOSITORY: return "the message is for another Repository";
-    case BEP_REFUSED_UNSOUND: return "the window isn't 1 to 16, or the queue or the feed isn't sound";
+    case BEP_REFUSED_UNSOUND: return "a window isn't 1 to 16, or the queue or the feed isn't sound";
+    case BEP_REFUSED_NO_SUCH_PEER: return "the peer isn't 1 to 4";
     case BEP_REFUSED_UNSAFE_NAME: return "the Name isn't a plain path below its folder";
     default: return "unknown number";
     }
@@ -162,7 +165,9 @@ enum {
     BEP_MAX_BLOCKS = 1024,              /* the count of a file */
     BEP_MAX_FILES = 512,                /* the count of a message */
     BEP_MAX_RECORDS = 512,              /* the count of a table */
-    BEP_MAX_WINDOW = 16                 /* the count of outstanding requests; 4 unless stated */
+    BEP_PEERS = 4,                      /* the count of peers, which are numbered from 1 on */
+    BEP_MAX_WINDOW = 16                 /* the count of a peer's outstanding requests; 4 unless
+                                           stated */
 };
 
 /* How long things can be, in bytes: a buffer of that size has room for any. */
@@ -644,41 +649,53 @@ BEP_CHECKED uint32_t bep_serve(uint8_t *out, size_t out_len,
                                uint64_t answer[BEP_SERVE_WORDS]);
 
 /*
- * Outstanding requests of one link, within a window of 1 to 16 requests and an allowance of 524,288
- * bytes. The caller keeps the queue. Both arrays are the queue, its words and its hashes, and they
- * go together.
+ * Outstanding requests of peers 1 to 4. Each peer has a list, with a window of 1 to 16 requests and
+ * IDs of its own; the allowance of 524,288 bytes is common to all four. The caller keeps the queue.
+ * Both arrays are the queue, its words and its hashes, and they go together.
  *
- * Each call but the openings and the totals returns 22 first, where the queue isn't sound: a window
- * of 1 to 16, no more requests than that, Lengths of 1 to 131,072 and together within the allowance,
- * IDs that rise by one (0 after 4095) up to the next ID. Of a hash nothing is asked, and unused
- * entries don't count. The place of 22 is 0. A refused call but an opening leaves both arrays as
- * they were.
+ * Each call for a peer returns 23 first, where the peer isn't 1 to 4, and then 22, where the queue
+ * isn't sound, whichever peer the call is for. In a sound one each list has a window of 1 to 16, no
+ * more requests than that, Lengths of 1 to 131,072, and IDs that rise by one (0 after 4095) up to
+ * the next ID; and the Lengths of all four lists are together within the allowance. Of a hash
+ * nothing is asked, and unused entries don't count. The place of 22 and 23 is 0. A refused call but
+ * an opening leaves both arrays as they were.
  */
 enum {
+    BEP_QUEUE_WORDS = 140,              /* those of peers 1 to 4, in that order */
+    BEP_QUEUE_HASHES = 2048,            /* bytes, likewise */
+
+    BEP_QUEUE_PEER_WORDS = 35,          /* those of one peer: */
     BEP_QUEUE_WINDOW = 0,
     BEP_QUEUE_NEXT_ID = 1,
     BEP_QUEUE_COUNT = 2,                /* how many requests are outstanding */
     BEP_QUEUE_ENTRIES = 3,              /* ID and Length of the oldest; those of the others follow,
                                            16 in all, the unused ones 0 */
-    BEP_QUEUE_WORDS = 35,
-    BEP_QUEUE_HASHES = 512              /* bytes: the hash that the oldest asks for, and those of
+
+    BEP_QUEUE_PEER_HASHES = 512         /* bytes: the hash that the oldest asks for, and those of
                                            the others, 32 bytes each; the unused ones 0 */
 };
 
-/*
- * Opens an empty queue with this window: BEP_MAX_WINDOW for a link whose other side is known to
- * take as many, and for a bulk copy. Another window than 1 to 16 returns 22 and leaves an empty
- * queue of window 0, which every call but the totals refuses.
- */
-BEP_CHECKED uint32_t bep_queue_open(uint32_t queue[BEP_QUEUE_WORDS],
-                                    uint8_t hashes[BEP_QUEUE_HASHES], uint32_t window);
+/* The bits that say which peers' windows are stated. */
+enum {
+    BEP_STATED_NONE = 0,
+    BEP_STATED_1 = 1,
+    BEP_STATED_2 = 2,
+    BEP_STATED_3 = 4,
+    BEP_STATED_4 = 8,
+    BEP_STATED_ALL = 15
+};
 
 /*
- * Opens an empty queue with the default window, which is 4: some devices stall with more requests
- * open. The queue doesn't know whether its window was stated. Returns 0.
+ * Opens an empty queue. windows[0] to windows[3] are the windows of peers 1 to 4, of those whose
+ * bits are set in stated: BEP_MAX_WINDOW for a link whose other side is known to take as many, and
+ * for a bulk copy. A peer without its bit gets the default window, which is 4, since some devices
+ * stall with more requests open; its entry isn't looked at. Bits above don't count. The queue
+ * doesn't know whether a window was stated. If a stated one isn't 1 to 16, it returns 22 and leaves
+ * four empty lists, all windows and next IDs 0, which every call but the totals refuses.
  */
-uint32_t bep_queue_open_default(uint32_t queue[BEP_QUEUE_WORDS],
-                                uint8_t hashes[BEP_QUEUE_HASHES]);
+BEP_CHECKED uint32_t bep_queue_open(uint32_t queue[BEP_QUEUE_WORDS],
+                                    uint8_t hashes[BEP_QUEUE_HASHES],
+                                    const uint32_t windows[BEP_PEERS], uint32_t stated);
 
 /* The words of an issue. Refused, all but the place are 0. */
 enum {
@@ -688,12 +705,13 @@ enum {
 };
 
 /*
- * Writes a Request with the next ID and appends it to the queue, with its hash. Refused with what
- * the fields give, 16, 17 or 14, in this order.
+ * Writes a Request with the peer's next ID and appends it to the peer's list, with its hash.
+ * Refused with 23, 22, what the fields give, 16, by the peer's own list, 17, by the bytes of all
+ * four, or 14, in this order.
  */
 BEP_CHECKED uint32_t bep_queue_issue(uint8_t *out, size_t out_len,
                                      uint32_t queue[BEP_QUEUE_WORDS],
-                                     uint8_t hashes[BEP_QUEUE_HASHES],
+                                     uint8_t hashes[BEP_QUEUE_HASHES], uint32_t peer,
                                      const uint8_t *repository, size_t repository_len,
                                      const uint8_t *name, size_t name_len,
                                      uint64_t offset, uint32_t length,
@@ -719,27 +737,37 @@ enum {
 };
 
 /*
- * Releases the oldest request by the Response to it. Data as long as asked are hashed, all others
- * aren't looked at. Refused with what reading the message gives, 18 or 20, in this order; all words
- * but the place are 0 then.
+ * Releases the peer's oldest request by the Response to it. Data as long as asked are hashed, all
+ * others aren't looked at. Refused with 23, 22, what reading the message gives, 18 or 20, in this
+ * order; all words but the place are 0 then.
  */
 BEP_CHECKED uint32_t bep_queue_answer(uint32_t queue[BEP_QUEUE_WORDS],
-                                      uint8_t hashes[BEP_QUEUE_HASHES],
+                                      uint8_t hashes[BEP_QUEUE_HASHES], uint32_t peer,
                                       const uint8_t *message, size_t message_len,
                                       uint64_t answer[BEP_ANSWERED_WORDS]);
 
-/* Releases all requests: the link is gone. The next ID goes on. */
+/*
+ * Releases all requests of the peer and no others: its link is gone. Its next ID goes on. Refused
+ * with 23 or 22, in this order.
+ */
 BEP_CHECKED uint32_t bep_queue_drop(uint32_t queue[BEP_QUEUE_WORDS],
-                                    uint8_t hashes[BEP_QUEUE_HASHES]);
+                                    uint8_t hashes[BEP_QUEUE_HASHES], uint32_t peer);
 
-/* The words of the totals. */
+/*
+ * The words of the totals: those of all peers together, and then those of each, so that a peer's
+ * begin at the peer times BEP_TOTALS_EACH.
+ */
 enum {
     BEP_TOTALS_COUNT = 0,               /* how many requests are outstanding */
     BEP_TOTALS_BYTES = 1,               /* the sum of their Lengths */
-    BEP_TOTALS_WORDS = 2
+    BEP_TOTALS_EACH = 2,
+    BEP_TOTALS_WORDS = 10
 };
 
-/* Totals the entries that count, by the words alone, whether they are sound or not. Returns 0. */
+/*
+ * Totals the entries that count, which are at most 16 of a peer, by the words alone, whether they
+ * are sound or not. Returns 0.
+ */
 uint32_t bep_queue_totals(const uint32_t queue[BEP_QUEUE_WORDS],
                           uint64_t answer[BEP_TOTALS_WORDS]);
 

@@ -218,7 +218,7 @@ pub fn upgrade(
 ///
 /// let mut queue = RequestQueue::open();
 /// let (mut new, mut old) = ([0; MAX_REQUEST], [0; MAX_REQUEST]);
-/// let issued = queue.issue("default", "notes.txt", 0, 5, &[0xAB; 32], &mut new)?;
+/// let issued = queue.peer(1).issue("default", "notes.txt", 0, 5, &[0xAB; 32], &mut new)?;
 /// let length = downgrade(&new[..issued.written], &mut old)?;
 /// assert_eq!(length, issued.written - 12);
 /// let Message::Request(request) = read_old(&old[..length])?.message else { panic!() };

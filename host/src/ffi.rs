@@ -8,11 +8,20 @@
 /// The words of a feed.
 pub const FEED_WORDS: usize = 16;
 
+/// The peers that share a queue. They are numbered from 1.
+pub const PEERS: usize = 4;
+
+/// The words of one peer's list in a queue.
+pub const PEER_WORDS: usize = 35;
+
 /// The words of a queue.
-pub const QUEUE_WORDS: usize = 35;
+pub const QUEUE_WORDS: usize = PEERS * PEER_WORDS;
 
 /// The bytes of its hashes.
-pub const QUEUE_HASHES: usize = 512;
+pub const QUEUE_HASHES: usize = PEERS * 512;
+
+/// The words of its totals.
+pub const TOTALS_WORDS: usize = 2 + 2 * PEERS;
 
 /// The words of a SHA-256 that is worked out run by run.
 pub const SHA256_WORDS: usize = 10;
@@ -340,27 +349,26 @@ unsafe extern "C" {
     ) -> u32;
 
     /// Opens an empty queue of outstanding requests. Both arrays are the queue and go together: its words
-    /// are the window, the next ID, the count, and the ID and the length of each of 16 entries; its hashes
-    /// are those of the entries, 32 bytes each. Refused (22), all of them are 0.
+    /// are, for each peer, the window, the next ID, the count, and the ID and the length of each of 16
+    /// entries; its hashes are those of the entries, 32 bytes each, for each peer too.
+    ///
+    /// Bit `p - 1` of `stated` says whether peer `p` has the window `windows[p - 1]`, which isn't looked at
+    /// otherwise: 4 stands then. Bits above don't count. Refused (22), all words and hashes are 0.
     pub fn bep_queue_open(
         queue: *mut [u32; QUEUE_WORDS],
         hashes: *mut [u8; QUEUE_HASHES],
-        window: u32,
+        windows: *const [u32; PEERS],
+        stated: u32,
     ) -> u32;
 
-    /// Opens an empty queue with the default window, which is 4.
-    pub fn bep_queue_open_default(
-        queue: *mut [u32; QUEUE_WORDS],
-        hashes: *mut [u8; QUEUE_HASHES],
-    ) -> u32;
-
-    /// Writes a Request with the next ID and appends it. `answer[0]` is the number of bytes written and
-    /// `[1]` the ID; refused, they are the place and 0.
+    /// Writes a Request to a peer with its next ID and appends it. `answer[0]` is the number of bytes
+    /// written and `[1]` the ID; refused, they are the place and 0.
     pub fn bep_queue_issue(
         out: *mut u8,
         out_len: usize,
         queue: *mut [u32; QUEUE_WORDS],
         hashes: *mut [u8; QUEUE_HASHES],
+        peer: u32,
         repository: *const u8,
         repository_len: usize,
         name: *const u8,
@@ -372,7 +380,7 @@ unsafe extern "C" {
         answer: *mut [u64; 2],
     ) -> u32;
 
-    /// Releases the oldest request by the Response to it. `answer[0]` is 0 where it brought the data, 1
+    /// Releases a peer's oldest request by the Response to it. `answer[0]` is 0 where it brought the data, 1
     /// where they aren't available, 2 where their size is wrong, 3 where their content is: the size is
     /// right and their SHA-256 isn't the hash asked for; `[1]` and `[2]` the request's ID and length;
     /// `[3]` and `[4]` start and length of the data in the message, zeros where there are none to use.
@@ -380,17 +388,25 @@ unsafe extern "C" {
     pub fn bep_queue_answer(
         queue: *mut [u32; QUEUE_WORDS],
         hashes: *mut [u8; QUEUE_HASHES],
+        peer: u32,
         message: *const u8,
         message_len: usize,
         answer: *mut [u64; 5],
     ) -> u32;
 
-    /// Releases all requests.
-    pub fn bep_queue_drop(queue: *mut [u32; QUEUE_WORDS], hashes: *mut [u8; QUEUE_HASHES]) -> u32;
+    /// Releases all requests of a peer.
+    pub fn bep_queue_drop(
+        queue: *mut [u32; QUEUE_WORDS],
+        hashes: *mut [u8; QUEUE_HASHES],
+        peer: u32,
+    ) -> u32;
 
-    /// `answer[0]` is how many requests are outstanding and `[1]` the sum of their lengths, of any
-    /// queue, by its words. Gives 0.
-    pub fn bep_queue_totals(queue: *const [u32; QUEUE_WORDS], answer: *mut [u64; 2]) -> u32;
+    /// `answer[0]` is how many requests are outstanding over all peers and `[1]` the sum of their lengths;
+    /// the same follows for each peer. Of any queue, by its words. Gives 0.
+    pub fn bep_queue_totals(
+        queue: *const [u32; QUEUE_WORDS],
+        answer: *mut [u64; TOTALS_WORDS],
+    ) -> u32;
 
     /// Fills the digest with the SHA-256 of the message. Gives 0.
     pub fn bep_sha256(message: *const u8, message_len: usize, digest: *mut [u8; 32]) -> u32;

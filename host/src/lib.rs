@@ -18,9 +18,9 @@
 //! [`request_list`] tells which blocks to ask for, from whom, and with what: each [`Wanted`] has the name
 //! and the hash that go into its Request. [`why`] tells of any block why it isn't in the list.
 //!
-//! A [`RequestQueue`] keeps the requests of a link that aren't answered yet, with the hash that each asks
-//! for, and gives out no data that have another one. [`sha256`] works out such a hash, and a [`Sha256`] that
-//! of bytes that come in runs.
+//! A [`RequestQueue`] keeps the requests of four peers that aren't answered yet, within an allowance of bytes
+//! that they share. It has the hash that each asks for, and gives out no data that have another one.
+//! [`sha256`] works out such a hash, and a [`Sha256`] that of bytes that come in runs.
 //!
 //! An old edition of the protocol has no Repository in Index, IndexUpdate and Request, and no Options.
 //! [`read_old`], [`write_old_index`], [`write_old_index_update`] and [`write_old_request`] are for links
@@ -122,7 +122,7 @@ pub use edition::{
 };
 pub use feed::{Fed, Feed, Header};
 pub use message::{read, Index, Message, Options, Ping, Pong, ReadMessage, Request, Response};
-pub use queue::{Answered, Issued, Outcome, RequestQueue};
+pub use queue::{Answered, Issued, Outcome, Peer, RequestQueue};
 #[cfg(feature = "std")]
 pub use reader::Reader;
 pub use records::{

@@ -1,14 +1,16 @@
-//! The outstanding requests of a link.
+//! The outstanding requests of four peers.
 
 use crate::answer::{size, span, word};
 use crate::{ffi, Refusal};
 use core::fmt;
 
-/// The requests of one link that were issued and not answered yet, oldest first.
+/// The requests of peers 1 to 4 that were issued and not answered yet.
 ///
-/// There is a window of at most 16 requests, of 4 unless it is stated, and an allowance of 524,288
-/// bytes. Requests are answered in the order of their issue. The hash of each is kept, and what comes is
-/// held against it: data are given out only if they are those that were asked for.
+/// Each peer has a list of its own, which [`peer`](RequestQueue::peer) leads to: a window of at most 16
+/// requests, of 4 unless it is stated, and IDs that no other peer's calls change. Its requests are answered
+/// in the order of their issue. The allowance of 524,288 bytes is common to all four, as the line is that
+/// they share: what one has outstanding the others can't ask for. The hash of each request is kept, and what
+/// comes is held against it: data are given out only if they are those that were asked for.
 ///
 /// ```
 /// use fordtrumpet::{sha256, write_response, Outcome, RequestQueue};
@@ -16,10 +18,10 @@ use core::fmt;
 /// let mut queue = RequestQueue::open();
 /// let mut out = [0; 100];
 /// // Its hash stands in the peer's Index; an entry of the request list has it.
-/// let issued = queue.issue("default", "notes.txt", 0, 3, &sha256(b"abc"), &mut out)?;
-/// // Send `out[..issued.written]`, and there comes the answer:
+/// let issued = queue.peer(2).issue("default", "notes.txt", 0, 3, &sha256(b"abc"), &mut out)?;
+/// // Send `out[..issued.written]` to peer 2, and there comes the answer:
 /// let length = write_response(issued.id, b"abc", &mut out)?;
-/// let answered = queue.answer(&out[..length])?;
+/// let answered = queue.peer(2).answer(&out[..length])?;
 /// assert_eq!(answered.outcome, Outcome::Data(b"abc"));
 /// assert_eq!(queue.outstanding(), 0);
 /// # Ok::<(), fordtrumpet::Refusal>(())
@@ -30,12 +32,41 @@ pub struct RequestQueue {
     hashes: [u8; ffi::QUEUE_HASHES],
 }
 
+/// One peer's part of a [`RequestQueue`], by [`RequestQueue::peer`].
+///
+/// ```
+/// use fordtrumpet::{Peer, Refusal, RequestQueue};
+///
+/// /// Issues as many of these blocks as the peer may be asked for now, and gives their number.
+/// fn ask(mut peer: Peer, blocks: &[(u64, u32, [u8; 32])], send: fn(&[u8])) -> Result<usize, Refusal> {
+///     let mut out = [0; 100];
+///     for (offset, length, hash) in blocks.iter().skip(peer.outstanding()) {
+///         match peer.issue("default", "show.mov", *offset, *length, hash, &mut out) {
+///             Ok(issued) => send(&out[..issued.written]),
+///             Err(Refusal::WindowFull | Refusal::AllowanceFull) => break,
+///             Err(refusal) => return Err(refusal),
+///         }
+///     }
+///     Ok(peer.outstanding())
+/// }
+///
+/// let mut queue = RequestQueue::open();
+/// assert_eq!(ask(queue.peer(3), &[(0, 5, [7; 32]); 9], |_| {})?, 4);
+/// # Ok::<(), fordtrumpet::Refusal>(())
+/// ```
+#[must_use = "a peer's part does nothing until it is called"]
+pub struct Peer<'q> {
+    queue: &'q mut RequestQueue,
+    number: u32,
+}
+
 /// A request that was issued.
 ///
 /// ```
 /// use fordtrumpet::{Issued, RequestQueue};
 ///
-/// let issued = RequestQueue::open().issue("default", "a", 0, 5, &[7; 32], &mut [0; 100])?;
+/// let mut queue = RequestQueue::open();
+/// let issued = queue.peer(1).issue("default", "a", 0, 5, &[7; 32], &mut [0; 100])?;
 /// assert_eq!(issued, Issued { id: 0, written: 72 });
 /// # Ok::<(), fordtrumpet::Refusal>(())
 /// ```
@@ -54,8 +85,8 @@ pub struct Issued {
 /// use fordtrumpet::{Answered, Outcome, RequestQueue};
 ///
 /// let mut queue = RequestQueue::open();
-/// let _ = queue.issue("default", "a", 0, 5, &[7; 32], &mut [0; 100])?;
-/// let answered = queue.answer(&[0, 0, 3, 0, 0, 0, 0, 0])?;
+/// let _ = queue.peer(1).issue("default", "a", 0, 5, &[7; 32], &mut [0; 100])?;
+/// let answered = queue.peer(1).answer(&[0, 0, 3, 0, 0, 0, 0, 0])?;
 /// assert_eq!(answered, Answered { id: 0, length: 5, outcome: Outcome::NotAvailable });
 /// # Ok::<(), fordtrumpet::Refusal>(())
 /// ```
@@ -76,8 +107,8 @@ pub struct Answered<'a> {
 /// use fordtrumpet::{Outcome, RequestQueue};
 ///
 /// let mut queue = RequestQueue::open();
-/// let _ = queue.issue("default", "a", 0, 5, &[7; 32], &mut [0; 100])?;
-/// match queue.answer(&[0, 0, 3, 0, 0, 0, 0, 1, b'x', 0, 0, 0])?.outcome {
+/// let _ = queue.peer(1).issue("default", "a", 0, 5, &[7; 32], &mut [0; 100])?;
+/// match queue.peer(1).answer(&[0, 0, 3, 0, 0, 0, 0, 1, b'x', 0, 0, 0])?.outcome {
 ///     Outcome::Data(data) => println!("{} bytes to be written", data.len()),
 ///     Outcome::NotAvailable => println!("ask another peer"),
 ///     Outcome::WrongSize => println!("one byte for five"),
@@ -98,86 +129,175 @@ pub enum Outcome<'a> {
 }
 
 impl RequestQueue {
+    /// The number of peers, which are numbered from 1 on.
+    ///
+    /// ```
+    /// use fordtrumpet::RequestQueue;
+    ///
+    /// let all_alike = [Some(RequestQueue::MAX_WINDOW); RequestQueue::PEERS];
+    /// assert!(RequestQueue::open_with(all_alike).is_ok());
+    /// ```
+    pub const PEERS: usize = ffi::PEERS;
+
     /// The largest window: for a link whose other side is known to take as many, and for a bulk copy.
     ///
     /// ```
     /// use fordtrumpet::RequestQueue;
     ///
-    /// assert!(RequestQueue::open_with(RequestQueue::MAX_WINDOW).is_ok());
-    /// assert!(RequestQueue::open_with(RequestQueue::MAX_WINDOW + 1).is_err());
+    /// let with = |window| RequestQueue::open_with([None, Some(window), None, None]);
+    /// assert!(with(RequestQueue::MAX_WINDOW).is_ok());
+    /// assert!(with(RequestQueue::MAX_WINDOW + 1).is_err());
     /// ```
     pub const MAX_WINDOW: u32 = 16;
 
-    /// An empty queue with the default window, which is 4: some devices stall with more requests open.
+    /// An empty queue with the default window for each peer, which is 4: some devices stall with more
+    /// requests open.
     ///
-    /// The queue doesn't know whether its window was stated.
+    /// The queue doesn't know whether a window was stated.
     ///
     /// ```
     /// use fordtrumpet::{Refusal, RequestQueue};
     ///
     /// let mut queue = RequestQueue::open();
-    /// assert_eq!(queue, RequestQueue::open_with(4)?);
+    /// assert_eq!(queue, RequestQueue::open_with([Some(4); 4])?);
     /// let mut out = [0; 100];
     /// for _ in 0..4 {
-    ///     queue.issue("default", "a", 0, 131_072, &[0xA7; 32], &mut out)?;
+    ///     queue.peer(1).issue("default", "a", 0, 131_072, &[0xA7; 32], &mut out)?;
     /// }
-    /// let fifth = queue.issue("default", "a", 0, 131_072, &[0xA7; 32], &mut out);
+    /// let fifth = queue.peer(1).issue("default", "a", 0, 131_072, &[0xA7; 32], &mut out);
     /// assert_eq!(fifth, Err(Refusal::WindowFull));
     /// # Ok::<(), fordtrumpet::Refusal>(())
     /// ```
     pub fn open() -> Self {
-        let (mut words, mut hashes) = ([0; ffi::QUEUE_WORDS], [0; ffi::QUEUE_HASHES]);
-        // SAFETY: words and hashes have the sizes asked for.
-        let number = unsafe { ffi::bep_queue_open_default(&mut words, &mut hashes) };
-        assert_eq!(number, 0, "the default window is one of those there are");
-        RequestQueue { words, hashes }
+        Self::open_with([None; Self::PEERS]).expect("the default window is one of those there are")
     }
 
-    /// An empty queue with this window.
+    /// An empty queue with a window for each of peers 1 to 4: the stated one, or the default.
     ///
     /// # Errors
     ///
-    /// 22 if the window isn't 1 to 16.
+    /// 22 if a stated window isn't 1 to 16.
     ///
     /// ```
     /// use fordtrumpet::{Refusal, RequestQueue};
     ///
-    /// let mut queue = RequestQueue::open_with(16)?;
+    /// let mut queue = RequestQueue::open_with([None, None, Some(16), None])?;
     /// let mut out = [0; 100];
     /// for _ in 0..4 {
-    ///     queue.issue("default", "a", 0, 131_072, &[0xA7; 32], &mut out)?;
+    ///     queue.peer(3).issue("default", "a", 0, 131_072, &[0xA7; 32], &mut out)?;
     /// }
-    /// let fifth = queue.issue("default", "a", 0, 131_072, &[0xA7; 32], &mut out);
+    /// let fifth = queue.peer(3).issue("default", "a", 0, 131_072, &[0xA7; 32], &mut out);
     /// assert_eq!(fifth, Err(Refusal::AllowanceFull));
     ///
-    /// assert_eq!(RequestQueue::open_with(17).unwrap_err().number(), 22);
+    /// let none = RequestQueue::open_with([Some(16), Some(17), None, None]);
+    /// assert_eq!(none.unwrap_err().number(), 22);
     /// # Ok::<(), fordtrumpet::Refusal>(())
     /// ```
-    pub fn open_with(window: u32) -> Result<Self, Refusal> {
+    pub fn open_with(windows: [Option<u32>; Self::PEERS]) -> Result<Self, Refusal> {
+        let stated = windows.iter().map(Option::is_some).rev();
+        let stated = stated.fold(0, |bits, stated| bits << 1 | u32::from(stated));
+        let windows = windows.map(Option::unwrap_or_default);
         let (mut words, mut hashes) = ([0; ffi::QUEUE_WORDS], [0; ffi::QUEUE_HASHES]);
-        // SAFETY: words and hashes have the sizes asked for.
-        let number = unsafe { ffi::bep_queue_open(&mut words, &mut hashes, window) };
+        // SAFETY: words, hashes and windows have the sizes asked for.
+        let number = unsafe { ffi::bep_queue_open(&mut words, &mut hashes, &windows, stated) };
         accepted(number, 0).map(|()| RequestQueue { words, hashes })
     }
 
-    /// Writes a Request with the next ID into `out` and appends it to the queue.
+    /// The part of the peer with this number, 1 to 4.
+    ///
+    /// Any number may be given: where there is no such peer each call is refused with 23, and nothing is
+    /// outstanding.
+    ///
+    /// ```
+    /// use fordtrumpet::{Refusal, RequestQueue};
+    ///
+    /// let mut queue = RequestQueue::open();
+    /// let mut out = [0; 100];
+    /// for number in 1..=4 {
+    ///     // Each peer has IDs of its own.
+    ///     let mut peer = queue.peer(number);
+    ///     assert_eq!(peer.issue("default", "a", 0, 5, &[0xA7; 32], &mut out)?.id, 0);
+    ///     assert_eq!(peer.issue("default", "a", 5, 5, &[0xA8; 32], &mut out)?.id, 1);
+    /// }
+    /// assert_eq!((queue.outstanding(), queue.outstanding_bytes()), (8, 40));
+    ///
+    /// let mut peer = queue.peer(5);
+    /// let refused = peer.issue("default", "a", 0, 5, &[0xA7; 32], &mut out);
+    /// assert_eq!(refused, Err(Refusal::NoSuchPeer));
+    /// assert_eq!(peer.outstanding(), 0);
+    /// # Ok::<(), fordtrumpet::Refusal>(())
+    /// ```
+    pub fn peer(&mut self, number: u32) -> Peer<'_> {
+        let queue = self;
+        Peer { queue, number }
+    }
+
+    /// How many requests are outstanding, of all peers.
+    ///
+    /// ```
+    /// # use fordtrumpet::RequestQueue;
+    /// # let mut queue = RequestQueue::open();
+    /// # let mut out = [0; 100];
+    /// queue.peer(1).issue("default", "a", 0, 5, &[0xA7; 32], &mut out)?;
+    /// queue.peer(4).issue("default", "b", 0, 7, &[0xA7; 32], &mut out)?;
+    /// assert_eq!((queue.outstanding(), queue.outstanding_bytes()), (2, 12));
+    /// # Ok::<(), fordtrumpet::Refusal>(())
+    /// ```
+    pub fn outstanding(&self) -> usize {
+        size(self.totals()[0])
+    }
+
+    /// The sum of their lengths, which stays within the common allowance.
+    ///
+    /// ```
+    /// # use fordtrumpet::RequestQueue;
+    /// assert_eq!(RequestQueue::open().outstanding_bytes(), 0);
+    /// ```
+    pub fn outstanding_bytes(&self) -> u64 {
+        self.totals()[1]
+    }
+
+    /// Requests and bytes of all peers, and then of each.
+    fn totals(&self) -> [u64; ffi::TOTALS_WORDS] {
+        let mut answer = [0; ffi::TOTALS_WORDS];
+        // SAFETY: words and answer have the sizes asked for.
+        let number = unsafe { ffi::bep_queue_totals(&self.words, &mut answer) };
+        assert_eq!(number, 0, "any queue has totals");
+        answer
+    }
+
+    /// The lists of peers 1 to 4.
+    fn lists(&self) -> impl Iterator<Item = List<'_>> {
+        self.words.as_chunks().0.iter().map(List)
+    }
+}
+
+impl Peer<'_> {
+    /// Writes a Request with the peer's next ID into `out` and appends it to the peer's list.
     ///
     /// IDs start at 0 and rise by one; 0 follows 4095.
     ///
     /// # Errors
     ///
-    /// What reading such a Request would give (24 for a name that isn't a plain path below its folder);
-    /// 16 if the window is full; 17 if the bytes outstanding and `length` exceed the allowance; 14 if
-    /// `out` is too short. The ID isn't used then, and nothing is written.
+    /// 23 if there is no such peer; what reading such a Request would give (24 for a name that isn't a plain
+    /// path below its folder); 16 if the peer's window is full; 17 if the bytes outstanding of all peers and
+    /// `length` exceed the allowance; 14 if `out` is too short. The ID isn't used then, and nothing is
+    /// written.
     ///
     /// ```
-    /// use fordtrumpet::RequestQueue;
+    /// use fordtrumpet::{Refusal, RequestQueue};
     ///
-    /// let mut queue = RequestQueue::open_with(1)?;
+    /// let mut queue = RequestQueue::open_with([Some(1), Some(16), None, None])?;
     /// let mut out = [0; 100];
-    /// queue.issue("default", "a", 0, 131_072, &[0xA7; 32], &mut out)?;
-    /// let again = queue.issue("default", "a", 131_072, 5, &[0xA8; 32], &mut out);
-    /// assert_eq!(again.unwrap_err().number(), 16);
+    /// let mut ask = |peer: u32, length| {
+    ///     let issued = queue.peer(peer).issue("default", "a", 0, length, &[0xA7; 32], &mut out);
+    ///     issued.map(|issued| issued.id)
+    /// };
+    /// assert_eq!(ask(1, 131_072), Ok(0));
+    /// // The window is the peer's own; the allowance is common.
+    /// assert_eq!(ask(1, 131_072), Err(Refusal::WindowFull));
+    /// assert_eq!([ask(2, 131_072), ask(2, 131_072), ask(2, 131_072)], [Ok(0), Ok(1), Ok(2)]);
+    /// assert_eq!(ask(3, 1), Err(Refusal::AllowanceFull));
     /// # Ok::<(), fordtrumpet::Refusal>(())
     /// ```
     pub fn issue(
@@ -197,8 +317,9 @@ impl RequestQueue {
             ffi::bep_queue_issue(
                 out.as_mut_ptr(),
                 out.len(),
-                &mut self.words,
-                &mut self.hashes,
+                &mut self.queue.words,
+                &mut self.queue.hashes,
+                self.number,
                 repository.as_ptr(),
                 repository.len(),
                 name.as_ptr(),
@@ -217,28 +338,28 @@ impl RequestQueue {
         })
     }
 
-    /// Releases the oldest request by the Response to it, whatever that brought.
+    /// Releases the peer's oldest request by the Response to it, whatever that brought.
     ///
     /// Data as long as asked for are hashed, all others aren't looked at.
     ///
     /// # Errors
     ///
-    /// What reading the message gives; 18 if it isn't a Response; 20 if its ID isn't that of the oldest
-    /// request, or none is outstanding.
+    /// 23 if there is no such peer; what reading the message gives; 18 if it isn't a Response; 20 if its ID
+    /// isn't that of the peer's oldest request, or the peer has none outstanding.
     ///
     /// ```
     /// use fordtrumpet::{sha256, write_response, Outcome, RequestQueue};
     ///
     /// let mut queue = RequestQueue::open();
     /// let (hash, mut out) = (sha256(b"hello"), [0; 100]);
-    /// let id = queue.issue("default", "a", 0, 5, &hash, &mut out)?.id;
+    /// let id = queue.peer(1).issue("default", "a", 0, 5, &hash, &mut out)?.id;
     /// let length = write_response(id, b"hullo", &mut out)?;
-    /// assert_eq!(queue.answer(&out[..length])?.outcome, Outcome::WrongContent);
+    /// assert_eq!(queue.peer(1).answer(&out[..length])?.outcome, Outcome::WrongContent);
     /// // The request is released, so that the block is asked for again, here or elsewhere.
-    /// assert_eq!(queue.answer(&out[..length]).unwrap_err().number(), 20);
-    /// let id = queue.issue("default", "a", 0, 5, &hash, &mut out)?.id;
+    /// assert_eq!(queue.peer(1).answer(&out[..length]).unwrap_err().number(), 20);
+    /// let id = queue.peer(2).issue("default", "a", 0, 5, &hash, &mut out)?.id;
     /// let length = write_response(id, b"hello", &mut out)?;
-    /// assert_eq!(queue.answer(&out[..length])?.outcome, Outcome::Data(b"hello"));
+    /// assert_eq!(queue.peer(2).answer(&out[..length])?.outcome, Outcome::Data(b"hello"));
     /// # Ok::<(), fordtrumpet::Refusal>(())
     /// ```
     pub fn answer<'a>(&mut self, message: &'a [u8]) -> Result<Answered<'a>, Refusal> {
@@ -247,8 +368,9 @@ impl RequestQueue {
         // asked for.
         let number = unsafe {
             ffi::bep_queue_answer(
-                &mut self.words,
-                &mut self.hashes,
+                &mut self.queue.words,
+                &mut self.queue.hashes,
+                self.number,
                 message.as_ptr(),
                 message.len(),
                 &mut answer,
@@ -268,32 +390,38 @@ impl RequestQueue {
         })
     }
 
-    /// Releases all requests: the link is gone. The next ID goes on.
+    /// Releases all requests of the peer and no others: its link is gone. Its next ID goes on.
+    ///
+    /// # Errors
+    ///
+    /// 23 if there is no such peer.
     ///
     /// ```
     /// # use fordtrumpet::RequestQueue;
     /// # let mut queue = RequestQueue::open();
     /// # let mut out = [0; 100];
-    /// queue.issue("default", "a", 0, 5, &[0xA7; 32], &mut out)?;
-    /// queue.drop_link();
-    /// assert_eq!(queue.outstanding_bytes(), 0);
-    /// assert_eq!(queue.issue("default", "a", 0, 5, &[0xA7; 32], &mut out)?.id, 1);
+    /// queue.peer(1).issue("default", "a", 0, 5, &[0xA7; 32], &mut out)?;
+    /// queue.peer(2).issue("default", "b", 0, 7, &[0xA7; 32], &mut out)?;
+    /// queue.peer(1).drop_link()?;
+    /// assert_eq!(queue.outstanding_bytes(), 7);
+    /// assert_eq!(queue.peer(1).issue("default", "a", 0, 5, &[0xA7; 32], &mut out)?.id, 1);
     /// # Ok::<(), fordtrumpet::Refusal>(())
     /// ```
-    pub fn drop_link(&mut self) {
+    pub fn drop_link(&mut self) -> Result<(), Refusal> {
+        let RequestQueue { words, hashes } = &mut *self.queue;
         // SAFETY: words and hashes have the sizes asked for.
-        let number = unsafe { ffi::bep_queue_drop(&mut self.words, &mut self.hashes) };
-        assert_eq!(number, 0, "a queue that was opened is sound");
+        let number = unsafe { ffi::bep_queue_drop(words, hashes, self.number) };
+        accepted(number, 0)
     }
 
-    /// How many requests are outstanding.
+    /// How many requests of the peer are outstanding: 0 if there is no such peer.
     ///
     /// ```
     /// # use fordtrumpet::RequestQueue;
     /// # let mut queue = RequestQueue::open();
     /// # let mut out = [0; 100];
-    /// queue.issue("default", "a", 0, 5, &[0xA7; 32], &mut out)?;
-    /// assert_eq!((queue.outstanding(), queue.outstanding_bytes()), (1, 5));
+    /// queue.peer(1).issue("default", "a", 0, 5, &[0xA7; 32], &mut out)?;
+    /// assert_eq!([0, 1, 2].map(|peer| queue.peer(peer).outstanding()), [0, 1, 0]);
     /// # Ok::<(), fordtrumpet::Refusal>(())
     /// ```
     pub fn outstanding(&self) -> usize {
@@ -304,18 +432,28 @@ impl RequestQueue {
     ///
     /// ```
     /// # use fordtrumpet::RequestQueue;
-    /// assert_eq!(RequestQueue::open().outstanding_bytes(), 0);
+    /// # let mut queue = RequestQueue::open();
+    /// # let mut out = [0; 100];
+    /// queue.peer(4).issue("default", "a", 0, 5, &[0xA7; 32], &mut out)?;
+    /// assert_eq!([3, 4, 5].map(|peer| queue.peer(peer).outstanding_bytes()), [0, 5, 0]);
+    /// # Ok::<(), fordtrumpet::Refusal>(())
     /// ```
     pub fn outstanding_bytes(&self) -> u64 {
         self.totals()[1]
     }
 
+    /// Requests and bytes.
     fn totals(&self) -> [u64; 2] {
-        let mut answer = [0; 2];
-        // SAFETY: words and answer have the sizes asked for.
-        let number = unsafe { ffi::bep_queue_totals(&self.words, &mut answer) };
-        assert_eq!(number, 0, "any queue has totals");
-        answer
+        let totals = self.queue.totals();
+        let [_common, peers @ ..] = totals.as_chunks().0 else {
+            unreachable!("the common totals come first")
+        };
+        self.of(peers.iter()).copied().unwrap_or_default()
+    }
+
+    /// Of what there is for each peer, what belongs to this one.
+    fn of<T>(&self, mut each: impl Iterator<Item = T>) -> Option<T> {
+        each.nth(self.number.checked_sub(1)? as usize)
     }
 }
 
@@ -326,7 +464,7 @@ fn accepted(number: u32, place: u64) -> Result<(), Refusal> {
     }
 }
 
-/// With the default window, as [`RequestQueue::open`].
+/// With the default window for each peer, as [`RequestQueue::open`].
 ///
 /// ```
 /// use fordtrumpet::RequestQueue;
@@ -339,16 +477,46 @@ impl Default for RequestQueue {
     }
 }
 
-/// Shows the requests, the oldest first, as ID and length.
+/// Shows the list of each peer.
+///
+/// ```
+/// use fordtrumpet::RequestQueue;
+///
+/// let mut queue = RequestQueue::open();
+/// queue.peer(3).issue("default", "a", 0, 5, &[0xA7; 32], &mut [0; 100])?;
+/// let shown = format!("{queue:?}");
+/// assert!(shown.contains("3: List { window: 4, next_id: 1, outstanding: {0: 5} }"), "{shown}");
+/// # Ok::<(), fordtrumpet::Refusal>(())
+/// ```
 impl fmt::Debug for RequestQueue {
     fn fmt(&self, f: &mut fmt::Formatter<'_>) -> fmt::Result {
-        let [window, next, _, entries @ ..] = &self.words;
+        f.write_str("RequestQueue ")?;
+        f.debug_map().entries((1..).zip(self.lists())).finish()
+    }
+}
+
+/// Shows the number and the list.
+impl fmt::Debug for Peer<'_> {
+    fn fmt(&self, f: &mut fmt::Formatter<'_>) -> fmt::Result {
+        f.debug_struct("Peer")
+            .field("number", &self.number)
+            .field("list", &self.of(self.queue.lists()))
+            .finish()
+    }
+}
+
+/// The words of a peer's list.
+struct List<'a>(&'a [u32; ffi::PEER_WORDS]);
+
+/// Shows the requests, the oldest first, as ID and length.
+impl fmt::Debug for List<'_> {
+    fn fmt(&self, f: &mut fmt::Formatter<'_>) -> fmt::Result {
+        let [window, next, count, entries @ ..] = self.0;
         let requests: &[[u32; 2]] = entries.as_chunks().0;
-        let requests = &requests[..self.outstanding()];
-        f.debug_struct("RequestQueue")
+        f.debug_struct("List")
             .field("window", window)
             .field("next_id", next)
-            .field("outstanding", &Outstanding(requests))
+            .field("outstanding", &Outstanding(&requests[..*count as usize]))
             .finish()
     }
 }

@@ -78,8 +78,17 @@ pub enum Refusal {
     NotOldest,
     /// 21: the message is for another Repository than the call names.
     OtherRepository,
-    /// 22: the window isn't 1 to 16, or the outstanding requests or the feed given aren't sound.
+    /// 22: a window isn't 1 to 16, or the outstanding requests or the feed given aren't sound.
     Unsound,
+    /// 23: the number of the peer isn't 1 to 4.
+    ///
+    /// ```
+    /// use fordtrumpet::{Refusal, RequestQueue};
+    ///
+    /// let mut queue = RequestQueue::open();
+    /// assert_eq!(queue.peer(5).drop_link(), Err(Refusal::NoSuchPeer));
+    /// ```
+    NoSuchPeer,
     /// 24: the Name isn't a plain path below its folder. It begins or ends with a slash, has two
     /// slashes together, a part that is exactly `.` or `..`, or a zero byte.
     UnsafeName(usize),
@@ -113,6 +122,7 @@ impl Refusal {
             20 => Refusal::NotOldest,
             21 => Refusal::OtherRepository,
             22 => Refusal::Unsound,
+            23 => Refusal::NoSuchPeer,
             24 => Refusal::UnsafeName(place),
             _ => unreachable!("the library has no number {number}"),
         }
@@ -157,15 +167,16 @@ impl Refusal {
             Refusal::Unsound => (
                 22,
                 0,
-                "the window isn't 1 to 16, or the queue or the feed isn't sound",
+                "a window isn't 1 to 16, or the queue or the feed isn't sound",
             ),
+            Refusal::NoSuchPeer => (23, 0, "the peer isn't 1 to 4"),
             Refusal::UnsafeName(place) => {
                 (24, place, "the Name isn't a plain path below its folder")
             }
         }
     }
 
-    /// The number: 1 to 22, or 24.
+    /// The number: 1 to 24.
     ///
     /// ```
     /// assert_eq!(fordtrumpet::Refusal::HashLength(60).number(), 9);
@@ -174,7 +185,7 @@ impl Refusal {
         self.parts().0
     }
 
-    /// Where the field at fault begins, for 6 and 7 where the bad byte is; 0 for the numbers 14 to 22.
+    /// Where the field at fault begins, for 6 and 7 where the bad byte is; 0 for the numbers 14 to 23.
     ///
     /// ```
     /// use fordtrumpet::Refusal;
@@ -200,7 +211,7 @@ impl Refusal {
 impl fmt::Display for Refusal {
     fn fmt(&self, f: &mut fmt::Formatter<'_>) -> fmt::Result {
         match self.parts() {
-            (number @ 14..=22, _, meaning) => write!(f, "{meaning} ({number})"),
+            (number @ 14..=23, _, meaning) => write!(f, "{meaning} ({number})"),
             (number, place, meaning) => write!(f, "{meaning} ({number}), at byte {place}"),
         }
     }
@@ -238,7 +249,7 @@ mod tests {
     use std::collections::HashSet;
 
     /// The numbers as document 01 has them in its table, and then those of later requests.
-    const TABLE: [(&str, Refusal); 23] = [
+    const TABLE: [(&str, Refusal); 24] = [
         ("the field isn't wholly there", Refusal::Incomplete(12)),
         ("version not 0", Refusal::Version(12)),
         ("type not 1 to 7", Refusal::Type(12)),
@@ -291,24 +302,24 @@ mod tests {
             "window not 1 to 16, or a desk that isn't sound",
             Refusal::Unsound,
         ),
+        ("peer number not 1 to 4", Refusal::NoSuchPeer),
         ("a Name that climbs out", Refusal::UnsafeName(12)),
     ];
 
     #[test]
     fn each_number_is_a_case_with_a_sentence_of_its_own() {
         let mut sentences = HashSet::new();
-        let numbers = (1..=22).chain([24]);
-        for ((meaning, refusal), number) in TABLE.into_iter().zip(numbers) {
+        for ((meaning, refusal), number) in TABLE.into_iter().zip(1..) {
             assert_eq!(Refusal::new(number, 12), refusal, "{meaning}");
             assert_eq!(refusal.number(), number);
-            let has_place = !(14..=22).contains(&number);
+            let has_place = !(14..=23).contains(&number);
             assert_eq!(refusal.place(), if has_place { 12 } else { 0 });
             let said = refusal.to_string();
             assert!(said.contains(&format!("({number})")));
             assert_eq!(said.ends_with("at byte 12"), has_place);
             sentences.insert(said);
         }
-        assert_eq!(sentences.len(), 23);
+        assert_eq!(sentences.len(), 24);
         let said = |number| Refusal::new(number, 12).to_string();
         assert_eq!(said(8), "the Name is empty (8), at byte 12");
         assert_eq!(said(15), "the bytes aren't a good table (15)");

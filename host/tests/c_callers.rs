@@ -252,7 +252,7 @@ fn a_result_that_nobody_looks_at_is_warned_of() {
              int main(void)\n{{\n    \
              uint32_t number = 0, queue[BEP_QUEUE_WORDS] = {{0}};\n    \
              uint8_t hashes[BEP_QUEUE_HASHES] = {{0}};\n    \
-             {result}bep_queue_drop(queue, hashes);\n    \
+             {result}bep_queue_drop(queue, hashes, 1);\n    \
              return (int)number;\n}}\n"
         );
         fs::write(&source, text).unwrap();
@@ -300,6 +300,7 @@ fn the_header_has_the_refusals_and_their_sentences() {
         Refusal::NotOldest,
         Refusal::OtherRepository,
         Refusal::Unsound,
+        Refusal::NoSuchPeer,
         Refusal::UnsafeName(0),
     ];
     let mut names = vec!["BEP_ACCEPTED".to_string()];
@@ -310,7 +311,7 @@ fn the_header_has_the_refusals_and_their_sentences() {
         names.push(format!("BEP_REFUSED_{}", name_in_c(refusal)));
         expected += &format!("{number} {sentence}\n");
     }
-    for unknown in ["23", "25", "4294967295"] {
+    for unknown in ["25", "26", "4294967295"] {
         names.push(unknown.to_string());
         expected += &format!("{unknown} unknown number\n");
     }
@@ -387,6 +388,7 @@ fn the_header_has_the_sizes_and_the_version() {
         ("MAX_BLOCKS", MAX_BLOCKS),
         ("MAX_FILES", MAX_FILES),
         ("MAX_RECORDS", MAX_RECORDS),
+        ("PEERS", RequestQueue::PEERS),
         ("MAX_WINDOW", RequestQueue::MAX_WINDOW as usize),
         ("MAX_TABLE", MAX_TABLE),
         ("MAX_INDEX", MAX_INDEX),

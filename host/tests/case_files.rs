@@ -3,16 +3,19 @@
 mod reference;
 mod support;
 
-use reference::{Edition, Reason};
-use std::fmt;
+use reference::{Edition, List, Reason, PEERS};
 use std::io::Write;
+use std::{fmt, iter};
 use support::case_file::{bytes, cases, number, Case};
 use support::compare::{expected, read_words};
 use support::draft::{Body, Draft};
 use support::encode::{Encoding, File};
 use support::feeding::{self, told_words};
 use support::library::{Answer as Words, LIBRARY};
-use support::queue_calls::{answered_words, as_lent, queue_of, Lent as Queue, Wanted, QUEUE_CALLS};
+use support::queue_calls::{
+    as_lent, place_of, queue_of, Lent as Queue, QueueCalls, Wanted, Windows, QUEUE_CALLS,
+    REFERENCE_CALLS,
+};
 use support::table_calls::TABLE_CALLS;
 use support::why_calls::{self, details_words};
 
@@ -40,8 +43,9 @@ enum Answer {
     Why(Reason),
     /// The entries of a request list: file, block, offset, length, peer.
     Entries(Vec<[u64; 5]>),
-    /// What each call at a queue gets, and the queue that the last one hands back.
-    Calls(Vec<Called>, Box<Queue>),
+    /// What each call at a queue gets, and the lists of the queue that the last one hands back: those of
+    /// all peers, or that of one.
+    Calls(Vec<Called>, Vec<List>),
     /// The hash of some bytes.
     Hash([u8; 32]),
 }
@@ -107,17 +111,12 @@ impl fmt::Display for Answer {
                     write!(f, " {}", words.join(","))
                 })
             }
-            Answer::Calls(calls, queue) => {
+            Answer::Calls(calls, lists) => {
                 calls.iter().try_for_each(|called| write!(f, "{called} "))?;
-                let [window, next, count, ..] = queue.words;
-                write!(f, "desk:{window}:{next}")?;
-                let requests = queue_of(queue).requests;
-                requests[..requests.len().min(count as usize)]
-                    .iter()
-                    .try_for_each(|request| {
-                        write!(f, ":{},{},", request.id, request.length)?;
-                        write_hex(f, &request.hash)
-                    })
+                f.write_str("desk")?;
+                let between = iter::once(":").chain(iter::repeat("/"));
+                let mut lists = between.zip(lists);
+                lists.try_for_each(|(between, list)| write_list(f, between, list))
             }
             Answer::Hash(hash) => write_hex(f, hash),
         }
@@ -126,6 +125,14 @@ impl fmt::Display for Answer {
 
 fn write_hex(f: &mut fmt::Formatter<'_>, bytes: &[u8]) -> fmt::Result {
     bytes.iter().try_for_each(|byte| write!(f, "{byte:02x}"))
+}
+
+fn write_list(f: &mut fmt::Formatter<'_>, between: &str, list: &List) -> fmt::Result {
+    write!(f, "{between}{}:{}", list.window, list.next)?;
+    list.outstanding().iter().try_for_each(|request| {
+        write!(f, ":{},{},", request.id, request.length)?;
+        write_hex(f, &request.hash)
+    })
 }
 
 impl fmt::Display for Called {
@@ -194,29 +201,65 @@ fn called(word: &str, rules: Rules) -> Result<Called, String> {
 /// The hash that a file without hashes asks for.
 const ONES: [u8; 32] = [0x11; 32];
 
-/// The queue that `desk:WINDOW:NEXT:ID,LENGTH,HASH:..` stands for. Entries that aren't used are zeros.
-fn desk(word: &str, rules: Rules) -> Result<Queue, String> {
-    let parts: Vec<&str> = word.split(':').collect();
-    let ["desk", window, next, requests @ ..] = &parts[..] else {
-        return Err(format!("{word} is no desk"));
+/// The lists that `desk:LIST/LIST/LIST/LIST` stands for, or `desk:LIST` in a file of one peer.
+fn desk(word: &str, rules: Rules) -> Result<Vec<List>, String> {
+    let told = || format!("{word} is no desk");
+    let words = word.strip_prefix("desk:").ok_or_else(told)?;
+    let lists: Option<Vec<List>> = words.split('/').map(|word| list(word, rules)).collect();
+    let count = match rules {
+        Rules::FourPeers => PEERS,
+        _ => 1,
     };
-    let mut queue = queue_of(&Queue::filled(0));
-    (queue.window, queue.next) = (number(window)?, number(next)?);
-    queue.count = requests.len() as u32;
-    let mut entries = queue.requests.iter_mut();
+    lists.filter(|lists| lists.len() == count).ok_or_else(told)
+}
+
+/// The list that `WINDOW:NEXT:ID,LENGTH,HASH:..` stands for. Entries that aren't used are zeros.
+fn list(word: &str, rules: Rules) -> Option<List> {
+    let parts: Vec<&str> = word.split(':').collect();
+    let [window, next, requests @ ..] = &parts[..] else {
+        return None;
+    };
+    let mut list = List {
+        window: number(window).ok()?,
+        next: number(next).ok()?,
+        count: requests.len() as u32,
+        ..List::default()
+    };
+    let mut entries = list.requests.iter_mut();
     for request in requests {
         let fields: Vec<&str> = request.split(',').collect();
         let (id, length, hash) = match *fields {
-            [id, length, hash] if rules == Rules::Hashes => (id, length, whole_hash(hash)?),
+            [id, length, hash] if rules >= Rules::Hashes => (id, length, whole_hash(hash).ok()?),
             [id, length] if rules < Rules::Hashes => (id, length, ONES),
-            _ => return Err(format!("{word} is no desk")),
+            _ => return None,
         };
-        let Some(entry) = entries.next() else {
-            return Err(format!("{word} is no desk"));
-        };
-        (entry.id, entry.length, entry.hash) = (number(id)?, number(length)?, hash);
+        let entry = entries.next()?;
+        (entry.id, entry.length, entry.hash) = (number(id).ok()?, number(length).ok()?, hash);
     }
-    Ok(as_lent(&queue))
+    Some(list)
+}
+
+/// The windows that `open:W,W,W,W` states; or `open` and `open:W` in a file of one peer, which is given.
+fn opening(word: &str, only: Option<u32>) -> Result<Windows, String> {
+    let windows: Vec<&str> = match word.split_once(':') {
+        Some((_, windows)) => windows.split(',').collect(),
+        None => Vec::new(),
+    };
+    let mut stated = [None; PEERS];
+    match (only, &windows[..]) {
+        (Some(_), []) => {}
+        (Some(peer), [window]) => stated[place_of(peer)] = Some(number(window)?),
+        (None, windows) if windows.len() == PEERS => {
+            for (stated, window) in stated.iter_mut().zip(windows) {
+                *stated = match *window {
+                    "-" => None,
+                    window => Some(number(window)?),
+                };
+            }
+        }
+        _ => return Err(format!("{word} is no opening")),
+    }
+    Ok(Windows::new(stated))
 }
 
 fn whole_hash(word: &str) -> Result<[u8; 32], String> {
@@ -233,7 +276,7 @@ fn answer(words: &[&str], rules: Rules) -> Result<Answer, String> {
         }
         [ref calls @ .., last] if last.starts_with("desk:") => {
             let calls: Result<_, _> = calls.iter().map(|word| called(word, rules)).collect();
-            Answer::Calls(calls?, Box::new(desk(last, rules)?))
+            Answer::Calls(calls?, desk(last, rules)?)
         }
         ["no-name"] => Answer::Why(Reason::NoSuchName),
         ["deleted"] => Answer::Why(Reason::Deleted),
@@ -275,8 +318,10 @@ enum Rules {
     /// Before request §6: their place is at the bad byte. A queue keeps no hashes: each request asks for the
     /// same one, which no data have that come.
     BadByte,
-    /// A queue keeps hashes.
+    /// Before request §7: a queue keeps hashes. It has one peer, whom any of the four can stand for.
     Hashes,
+    /// A queue has four peers.
+    FourPeers,
 }
 
 impl Rules {
@@ -320,11 +365,7 @@ struct Side {
     details: fn([&[u8]; 5], u32, u32) -> Words<6>,
     /// Table, repository, message, buffer. Where the Request is served it fills none.
     serve: OfThree,
-    /// Queue, and the window if one is stated.
-    open: fn(&mut Queue, Option<u32>) -> u32,
-    issue: fn(&mut Queue, &Wanted, &mut [u8]) -> Words<2>,
-    answer: fn(&mut Queue, &[u8]) -> Words<5>,
-    drop_link: fn(&mut Queue) -> u32,
+    queue: QueueCalls,
     hash: fn(&[u8]) -> [u8; 32],
     /// Bytes, and how many of them come in a run.
     hash_in_runs: fn(&[u8], usize) -> [u8; 32],
@@ -360,13 +401,7 @@ const SIDES: [Side; 2] = [
             Ok(fordtrumpet::Serving::Replied(len)) => (0, [len as u64]),
             Err(refusal) => (refusal.number(), [refusal.place() as u64]),
         },
-        open: |queue, window| match window {
-            None => (QUEUE_CALLS.open_default)(queue),
-            Some(window) => (QUEUE_CALLS.open)(queue, window),
-        },
-        issue: QUEUE_CALLS.issue,
-        answer: QUEUE_CALLS.answer,
-        drop_link: QUEUE_CALLS.drop_link,
+        queue: QUEUE_CALLS,
         hash: fordtrumpet::sha256,
         hash_in_runs: |bytes, len| {
             let mut hash = fordtrumpet::Sha256::new();
@@ -404,27 +439,7 @@ const SIDES: [Side; 2] = [
                 reference::Serving::Replied(len) => len,
             }))
         },
-        open: |lent, window| {
-            let (queue, opened) = match window {
-                None => reference::Queue::open_default(),
-                Some(window) => reference::Queue::open(window),
-            };
-            *lent = as_lent(&queue);
-            opened.map_or_else(|refusal| refusal.number, |()| 0)
-        },
-        issue: issue_by_reference,
-        answer: |lent, message| {
-            let mut queue = queue_of(lent);
-            let answered = answered_words(queue.answer(message));
-            *lent = as_lent(&queue);
-            answered
-        },
-        drop_link: |lent| {
-            let mut queue = queue_of(lent);
-            let dropped = queue.drop_link();
-            *lent = as_lent(&queue);
-            dropped.map_or_else(|refusal| refusal.number, |()| 0)
-        },
+        queue: REFERENCE_CALLS,
         hash: reference::sha256,
         hash_in_runs: |bytes, len| {
             let mut hash = reference::Sha256::new();
@@ -440,24 +455,6 @@ fn run_of(number: u32, first: u64, taken: u64) -> Run {
         0 => Run::End(first, taken),
         1 => Run::Wait(taken),
         _ => Run::No(number, first, taken),
-    }
-}
-
-fn issue_by_reference(lent: &mut Queue, wanted: &Wanted, out: &mut [u8]) -> Words<2> {
-    let mut queue = queue_of(lent);
-    let id = queue.next;
-    let issued = queue.issue(
-        &wanted.repository,
-        &wanted.name,
-        wanted.offset,
-        wanted.length,
-        &wanted.hash,
-        out,
-    );
-    *lent = as_lent(&queue);
-    match issued {
-        Ok(len) => (0, [len as u64, u64::from(id)]),
-        Err(refusal) => (refusal.number, [refusal.place as u64, 0]),
     }
 }
 
@@ -624,44 +621,92 @@ impl Side {
     /// A queue just opened, without a stated window.
     fn opened(&self) -> Queue {
         let mut queue = Queue::filled(0xD7);
-        assert_eq!((self.open)(&mut queue, None), 0);
+        let number = (self.queue.open)(&mut queue, &Windows::new([None; PEERS]));
+        assert_eq!(number, 0);
         queue
     }
 
-    /// Calls at one queue, which is opened or handed in first. One that is refused must leave it as it was.
+    /// Calls at one queue, by all peers; or in a file of one peer by each of them.
     fn calls(&self, first: &str, calls: &[&str], rules: Rules) -> Result<Answer, String> {
-        let mut queue = Queue::filled(0xD7);
-        let mut answers = Vec::new();
-        match first.split_once(':') {
-            None => answers.push(verdict((self.open)(&mut queue, None))),
-            Some(("open", window)) => {
-                let window = number(window)?;
-                answers.push(verdict((self.open)(&mut queue, Some(window))));
-            }
-            Some(_) => queue = desk(first, rules)?,
+        match rules {
+            Rules::FourPeers => self.calls_by(None, first, calls, rules),
+            _ => each_peer(|peer| self.calls_by(Some(peer), first, calls, rules)),
         }
-        for call in calls {
-            let before = queue;
-            let parts: Vec<&str> = call.split(':').collect();
-            let answer = match (rules, &parts[..]) {
-                (_, ["drop"]) => verdict((self.drop_link)(&mut queue)),
-                (Rules::Hashes, parts) => self.call(&mut queue, parts)?,
-                (_, parts) => self.call_without_hash(&mut queue, parts)?,
-            };
-            if matches!(answer, Called::No(..)) && queue != before {
-                return Err(format!("{answer}, but the queue is {queue:?}"));
-            }
-            answers.push(answer);
-        }
-        Ok(Answer::Calls(answers, Box::new(queue)))
     }
 
-    /// A call at a queue.
-    fn call(&self, queue: &mut Queue, parts: &[&str]) -> Result<Called, String> {
+    /// Calls at one queue, which is opened or handed in first. They are all by one peer, or each tells by
+    /// whom it is.
+    fn calls_by(
+        &self,
+        only: Option<u32>,
+        first: &str,
+        calls: &[&str],
+        rules: Rules,
+    ) -> Result<Answer, String> {
+        let mut queue = self.opened();
+        let mut answers = Vec::new();
+        if before_colon(first) == "open" {
+            queue = Queue::filled(0xD7);
+            let opened = (self.queue.open)(&mut queue, &opening(first, only)?);
+            answers.push(verdict(opened));
+        } else {
+            let mut given = queue_of(&queue);
+            let lists = desk(first, rules)?;
+            match only {
+                Some(peer) => given.lists[place_of(peer)] = lists[0],
+                None => given.lists.copy_from_slice(&lists),
+            }
+            queue = as_lent(&given);
+        }
+        for call in calls {
+            answers.push(self.call_by(only, &mut queue, call, rules)?);
+        }
+        let lists = queue_of(&queue).lists;
+        let lists = match only {
+            Some(peer) => vec![lists[place_of(peer)]],
+            None => lists.to_vec(),
+        };
+        Ok(Answer::Calls(answers, lists))
+    }
+
+    /// A call at a queue. One that is refused must leave it as it was, and another one the lists of the
+    /// other peers.
+    fn call_by(
+        &self,
+        only: Option<u32>,
+        queue: &mut Queue,
+        call: &str,
+        rules: Rules,
+    ) -> Result<Called, String> {
+        let before = *queue;
+        let mut parts: Vec<&str> = call.split(':').collect();
+        let peer = match only {
+            Some(peer) => peer,
+            None if parts.len() > 1 => number(parts.remove(1))?,
+            None => return Err(format!("{call} has no peer")),
+        };
+        let answer = match (rules, &parts[..]) {
+            (_, ["drop"]) => verdict((self.queue.drop_link)(queue, peer)),
+            (Rules::Hashes | Rules::FourPeers, parts) => self.call(queue, peer, parts)?,
+            (_, parts) => self.call_without_hash(queue, peer, parts)?,
+        };
+        let mut expected = before;
+        if !matches!(answer, Called::No(..)) {
+            *expected.list(peer) = *queue.list(peer);
+            *expected.hashes(peer) = *queue.hashes(peer);
+        }
+        match *queue == expected {
+            true => Ok(answer),
+            false => Err(format!("{answer}, but the queue is {queue:?}")),
+        }
+    }
+
+    /// A call of a peer at a queue.
+    fn call(&self, queue: &mut Queue, peer: u32, parts: &[&str]) -> Result<Called, String> {
         match *parts {
             ["issue", length, hash] => {
                 let wanted = short_request(number(length)?, bytes(hash)?);
-                let issued = self.issue_at(queue, wanted, 68)?;
+                let issued = self.issue_at(queue, peer, wanted, 68)?;
                 Ok(issued.map_or_else(|refused| refused, |(id, _)| Called::Id(id)))
             }
             ["request", repository, name, offset, length, hash, room] => {
@@ -672,7 +717,7 @@ impl Side {
                     length: number(length)?,
                     hash: bytes(hash)?,
                 };
-                let issued = self.issue_at(queue, wanted, number(room)?)?;
+                let issued = self.issue_at(queue, peer, wanted, number(room)?)?;
                 Ok(issued.map_or_else(
                     |refused| refused,
                     |(id, request)| Called::Request(id, request),
@@ -681,26 +726,31 @@ impl Side {
             ["answer", id, data] => {
                 let data = bytes(data)?;
                 let response = Draft::new(number(id)?, Body::Response { data });
-                Ok(self.answer_at(queue, &response.encode().bytes))
+                Ok(self.answer_at(queue, peer, &response.encode().bytes))
             }
-            ["message", message] => Ok(self.answer_at(queue, &bytes(message)?)),
+            ["message", message] => Ok(self.answer_at(queue, peer, &bytes(message)?)),
             _ => Err(format!("{} is no call at a desk", parts.join(":"))),
         }
     }
 
     /// A call as the files have it that know of no hashes: zeros come in answer.
-    fn call_without_hash(&self, queue: &mut Queue, parts: &[&str]) -> Result<Called, String> {
+    fn call_without_hash(
+        &self,
+        queue: &mut Queue,
+        peer: u32,
+        parts: &[&str],
+    ) -> Result<Called, String> {
         match *parts {
             ["issue", length, ref room @ ..] if room.len() < 2 => {
                 let wanted = short_request(number(length)?, ONES.to_vec());
                 let room = room.first().map_or(Ok(68), |room| number(room))?;
-                let issued = self.issue_at(queue, wanted, room)?;
+                let issued = self.issue_at(queue, peer, wanted, room)?;
                 Ok(issued.map_or_else(|refused| refused, |(id, _)| Called::Id(id)))
             }
             ["answer", id, size] => {
                 let data = vec![0; number(size)?];
                 let response = Draft::new(number(id)?, Body::Response { data });
-                Ok(self.answer_at(queue, &response.encode().bytes))
+                Ok(self.answer_at(queue, peer, &response.encode().bytes))
             }
             _ => Err(format!("{} is no call at a desk", parts.join(":"))),
         }
@@ -711,12 +761,13 @@ impl Side {
     fn issue_at(
         &self,
         queue: &mut Queue,
+        peer: u32,
         wanted: Wanted,
         room: usize,
     ) -> Result<Result<(u64, Vec<u8>), Called>, String> {
         let mut id = 0;
         let answer = fill(room, |out| {
-            let (number, [first, second]) = (self.issue)(queue, &wanted, out);
+            let (number, [first, second]) = (self.queue.issue)(queue, peer, &wanted, out);
             id = second;
             (number, [first])
         })?;
@@ -736,8 +787,8 @@ impl Side {
         }
     }
 
-    fn answer_at(&self, queue: &mut Queue, message: &[u8]) -> Called {
-        match (self.answer)(queue, message) {
+    fn answer_at(&self, queue: &mut Queue, peer: u32, message: &[u8]) -> Called {
+        match (self.queue.answer)(queue, peer, message) {
             (0, [0, ..]) => Called::Data,
             (0, [1, ..]) => Called::NotAvailable,
             (0, [2, ..]) => Called::WrongSize,
@@ -746,7 +797,7 @@ impl Side {
         }
     }
 
-    /// Issues at a queue just opened. Where that is refused, the queue must stay as it was.
+    /// Issues at a queue just opened, by each peer. Where that is refused, the queue must stay as it was.
     fn issue(&self, request: Body, room: usize) -> Result<Answer, String> {
         let Body::Request {
             repository,
@@ -766,41 +817,46 @@ impl Side {
             hash,
         };
         let opened = self.opened();
-        let mut queue = opened;
-        let answer = fill(room, |out| {
-            let (number, [first, _]) = (self.issue)(&mut queue, &wanted, out);
-            (number, [first])
-        })?;
-        match (queue == opened) == matches!(answer, Answer::Refused(..)) {
-            true => Ok(answer),
-            false => Err(format!("{answer}, but the queue is {queue:?}")),
-        }
+        each_peer(|peer| {
+            let mut queue = opened;
+            let answer = fill(room, |out| {
+                let (number, [first, _]) = (self.queue.issue)(&mut queue, peer, &wanted, out);
+                (number, [first])
+            })?;
+            match (queue == opened) == matches!(answer, Answer::Refused(..)) {
+                true => Ok(answer),
+                false => Err(format!("{answer}, but the queue is {queue:?}")),
+            }
+        })
     }
 
-    /// Answers at a queue with one request, of ID 0 and Length 5, that asks for `abcde`. It is released, or
-    /// where the answer is refused the queue must stay as it was.
+    /// Answers by each peer at a queue where it has one request, of ID 0 and Length 5, that asks for `abcde`.
+    /// It is released, or where the answer is refused the queue must stay as it was.
     fn answer(&self, message: &[u8]) -> Result<Answer, String> {
-        let mut before = queue_of(&self.opened());
-        (before.next, before.count) = (1, 1);
-        before.requests[0].length = 5;
-        before.requests[0].hash = (self.hash)(b"abcde");
-        let before = as_lent(&before);
-        let mut queue = before;
-        let answer = match self.answer_at(&mut queue, message) {
-            Called::No(number, place) => Answer::Refused(number, place),
-            Called::NotAvailable => Answer::NotAvailable,
-            Called::WrongSize => Answer::WrongSize,
-            Called::WrongContent => Answer::WrongContent,
-            _ => Answer::Data,
-        };
-        let left = match answer {
-            Answer::Refused(..) => 1,
-            _ => 0,
-        };
-        match (queue.words[2] == left, queue == before) {
-            (true, same) if same == (left == 1) => Ok(answer),
-            _ => Err(format!("{answer}, but the queue is {queue:?}")),
-        }
+        each_peer(|peer| {
+            let mut before = queue_of(&self.opened());
+            let list = &mut before.lists[place_of(peer)];
+            (list.next, list.count) = (1, 1);
+            list.requests[0].length = 5;
+            list.requests[0].hash = (self.hash)(b"abcde");
+            let before = as_lent(&before);
+            let mut queue = before;
+            let answer = match self.answer_at(&mut queue, peer, message) {
+                Called::No(number, place) => Answer::Refused(number, place),
+                Called::NotAvailable => Answer::NotAvailable,
+                Called::WrongSize => Answer::WrongSize,
+                Called::WrongContent => Answer::WrongContent,
+                _ => Answer::Data,
+            };
+            let left = match answer {
+                Answer::Refused(..) => 1,
+                _ => 0,
+            };
+            match (queue.list(peer)[2] == left, queue == before) {
+                (true, same) if same == (left == 1) => Ok(answer),
+                _ => Err(format!("{answer}, but the queue is {queue:?}")),
+            }
+        })
     }
 
     /// The hash of some bytes, which is the same however they are cut.
@@ -854,6 +910,18 @@ impl Side {
             (good, refused) => Err(format!("{good}, and {refused} of 19 calls give 15")),
         }
     }
+}
+
+/// What a call answers whichever of the four peers makes it.
+fn each_peer(mut call: impl FnMut(u32) -> Result<Answer, String>) -> Result<Answer, String> {
+    let first = call(1)?;
+    for peer in 2..=PEERS as u32 {
+        let other = call(peer)?;
+        if other != first {
+            return Err(format!("{first} for peer 1, {other} for peer {peer}"));
+        }
+    }
+    Ok(first)
 }
 
 /// The fields of a Request where only Length and hash are given.
@@ -1101,6 +1169,12 @@ fn sha256() {
 }
 
 #[test]
+fn four_peers() {
+    let file = include_str!("cases/four_peers.txt");
+    check_file("four_peers.txt", file, Rules::FourPeers, 117);
+}
+
+#[test]
 fn in_a_file_from_before_the_bad_byte_its_string_counts() {
     // The pad byte at 15, and the lead at 13, of the string whose length word stands at 8.
     for (given, number, place) in [
@@ -1126,6 +1200,17 @@ fn in_a_file_from_before_the_bad_byte_its_string_counts() {
         }
         assert!(run_file(&line(13 - number, 8), Rules::LengthWord).is_err());
     }
+}
+
+/// A line that gives a hash its name.
+const HASH: &str =
+    "let Habc ba7816bf.8f01cfea.414140de.5dae2223.b00361a3.96177a9c.b410ff61.f20015ad";
+
+/// Checks that a file with this line, between others that pass, fails at it alone.
+#[track_caller]
+fn is_told(before: &str, line: &str, after: &str, rules: Rules) {
+    let told = run_file(&format!("{before}\n{line}\n{after}\n"), rules).unwrap_err();
+    assert!(told.starts_with(&format!("{line}\n")), "{told}");
 }
 
 #[test]
@@ -1244,11 +1329,8 @@ fn a_line_that_is_not_understood_or_has_another_answer_is_told() {
         "why 00000000 00000000 00000000 00000000 - 61 0 = no-name",
         "why 00000000 00000000 00000000 00000000 00000000 61 4294967296 = no-name",
     ] {
-        let file = format!("text 61 = yes\n{line}\ntext - = yes\n");
-        let told = run_file(&file, Rules::BadByte).unwrap_err();
-        assert!(told.starts_with(&format!("{line}\n")), "{told}");
+        is_told("text 61 = yes", line, "text - = yes", Rules::BadByte);
     }
-    let hashes = "let Habc ba7816bf.8f01cfea.414140de.5dae2223.b00361a3.96177a9c.b410ff61.f20015ad";
     for line in [
         "open issue:3 = ok id:0 desk:4:1",
         "open issue:3:68 = ok id:0 desk:4:1:0,3",
@@ -1269,14 +1351,43 @@ fn a_line_that_is_not_understood_or_has_another_answer_is_told() {
         "open request:72:6e:7:3:00:68 = ok no:9:28 desk:4:0",
         "desk:4:1:0,3,00*32 drop = no:22:0 desk:4:1:0,3,00*32",
     ] {
-        let file = format!("{hashes}\n{line}\n");
-        let told = run_file(&file, Rules::Hashes).unwrap_err();
-        assert!(told.starts_with(&format!("{line}\n")), "{told}");
+        is_told(HASH, line, "", Rules::Hashes);
     }
     // Where another answer may be right too, it is no fault.
     let open = "text c0af = yes # open\n";
     assert_eq!(run_file(open, Rules::BadByte), Ok((1, 1)));
     assert!(run_file("text c0af = yes # opened\n", Rules::BadByte).is_err());
+}
+
+#[test]
+fn a_line_of_four_peers_that_is_not_understood_or_has_another_answer_is_told() {
+    for line in [
+        "open = ok desk:4:0/4:0/4:0/4:0",
+        "open:4 = ok desk:4:0/4:0/4:0/4:0",
+        "open:-,-,- = ok desk:4:0/4:0/4:0/4:0",
+        "open:-,-,-,-,- = ok desk:4:0/4:0/4:0/4:0",
+        "open:-,-,-,x = ok desk:4:0/4:0/4:0/4:0",
+        "open:-,-,-,- = ok desk:4:0",
+        "open:-,-,-,- = ok desk:4:0/4:0/4:0",
+        "open:-,-,-,- = ok desk:4:0/4:0/4:0/4:0/4:0",
+        "open:-,-,-,- drop = ok ok desk:4:0/4:0/4:0/4:0",
+        "open:-,-,-,- drop:x = ok ok desk:4:0/4:0/4:0/4:0",
+        "open:-,-,-,- drop:1:1 = ok ok desk:4:0/4:0/4:0/4:0",
+        "open:-,-,-,- issue:3:Habc = ok id:0 desk:4:0/4:0/4:1:0,3,Habc/4:0",
+        "open:-,-,-,- answer:0:- = ok no:20:0 desk:4:0/4:0/4:0/4:0",
+        "desk:4:0 drop:1 = ok desk:4:0/4:0/4:0/4:0",
+        // Understood, but the answer is another.
+        "open:-,-,-,- = ok desk:4:0/4:0/4:0/5:0",
+        "open:1,2,3,4 = ok desk:4:0/3:0/2:0/1:0",
+        "open:0,-,-,- = no:22:0 desk:0:0/4:0/4:0/4:0",
+        "open:-,-,-,- drop:5 = ok ok desk:4:0/4:0/4:0/4:0",
+        "open:0,-,-,- drop:5 = no:22:0 no:22:0 desk:0:0/0:0/0:0/0:0",
+        "open:-,-,-,- issue:2:3:Habc = ok id:0 desk:4:1:0,3,Habc/4:0/4:0/4:0",
+        "open:-,-,-,- issue:2:3:Habc issue:3:3:Habc drop:2 = ok id:0 id:0 ok desk:4:0/4:1/4:1/4:0",
+        "open:-,-,-,- issue:2:3:Habc answer:3:0:616263 = ok id:0 data desk:4:0/4:1/4:0/4:0",
+    ] {
+        is_told(HASH, line, "", Rules::FourPeers);
+    }
 }
 
 #[test]
@@ -1301,6 +1412,12 @@ fn names_stand_for_bytes() {
     let case = cases(&file).next().unwrap().unwrap();
     assert_eq!(case.given, ["open", "issue:3:616161c3a4"]);
     assert_eq!(case.answer, ["ok", "desk:4:1:0,3,a4616161c3a4:1,3,62"]);
+    let file = format!("{let_two}open:-,4 = desk:4:1:0,3,Bb/4:0/4:1:1,3,A.None\n");
+    let case = cases(&file).next().unwrap().unwrap();
+    assert_eq!(
+        case.answer,
+        ["desk:4:1:0,3,a4616161c3a4/4:0/4:1:1,3,616161c3"]
+    );
     assert!(run("let A 61\nlet A 62\n").is_err());
     assert!(run("text A = yes\nlet A 61\n").is_err());
     assert_eq!(run("let A 61\ntext A = yes\n"), Ok((1, 0)));

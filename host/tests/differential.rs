@@ -6,7 +6,6 @@
 mod reference;
 mod support;
 
-use std::env;
 use std::io::Write;
 use support::compare::{laid_out, same, same_bytes, short, Comparison, READING, WRITING};
 use support::damage;
@@ -14,6 +13,7 @@ use support::draft::Body;
 use support::generate;
 use support::library::{Library, LIBRARY};
 use support::random::Random;
+use support::settings::setting;
 
 const INPUTS: u64 = 200_000;
 const SEED: u64 = 0xF04D_7E57_0000_0000;
@@ -51,15 +51,6 @@ fn hex(bytes: &[u8]) -> String {
 /// Says something even when the test passes.
 fn say(text: &str) {
     let _ = writeln!(std::io::stderr(), "{text}");
-}
-
-fn setting(name: &str) -> Option<u64> {
-    let value = env::var(name).ok()?;
-    Some(
-        value
-            .parse()
-            .unwrap_or_else(|_| panic!("{name} isn't a number: {value}")),
-    )
 }
 
 #[test]

@@ -11,13 +11,13 @@ use fordtrumpet::{
     FilesBuilder, Flags, Outcome, RequestQueue, Serving, Table, REPLY,
 };
 use reference::Edition;
-use std::env;
 use std::io::Write;
 use support::compare::{laid_out, Compared, Comparison, READING, WRITING};
 use support::damage;
 use support::generate;
 use support::library::{Answer, Library, LIBRARY};
 use support::random::Random;
+use support::settings::setting;
 
 const INPUTS: u64 = 250_000;
 const SEED: u64 = 0x01D0_ED17_0000_0000;
@@ -65,15 +65,6 @@ fn compare_input(comparison: &mut Comparison, edition: Edition, number: u64) -> 
 /// Says something even when the test passes.
 fn say(text: &str) {
     let _ = writeln!(std::io::stderr(), "{text}");
-}
-
-fn setting(name: &str) -> Option<u64> {
-    let value = env::var(name).ok()?;
-    Some(
-        value
-            .parse()
-            .unwrap_or_else(|_| panic!("{name} isn't a number: {value}")),
-    )
 }
 
 /// Compares generated messages. In a usual run every number has to be met.
@@ -207,7 +198,9 @@ fn a_block_comes_over_an_old_link() {
     let theirs = accept(Table::EMPTY, &new[..length], "default", &mut out).unwrap();
     assert_eq!(theirs.as_bytes(), files.as_bytes());
     let mut queue = RequestQueue::open();
-    let issued = queue.issue("default", "notes.txt", 0, 5, &hash, &mut new);
+    let issued = queue
+        .peer(3)
+        .issue("default", "notes.txt", 0, 5, &hash, &mut new);
     let length = downgrade(&new[..issued.unwrap().written], &mut wire).unwrap();
 
     let length = upgrade(&wire[..length], "default", &mut new).unwrap();
@@ -218,7 +211,7 @@ fn a_block_comes_over_an_old_link() {
     };
     let length = write_response(id, &data, &mut wire).unwrap();
 
-    let answered = queue.answer(&wire[..length]).unwrap();
+    let answered = queue.peer(3).answer(&wire[..length]).unwrap();
     assert_eq!(answered.outcome, Outcome::Data(&data));
 }
 

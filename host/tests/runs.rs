@@ -6,7 +6,6 @@ mod reference;
 mod support;
 
 use reference::{read_as, Edition};
-use std::env;
 use std::io::Write;
 use support::compare::{Compared, Comparison, READING};
 use support::damage;
@@ -16,6 +15,7 @@ use support::feeding::{self, call, feed, header, Words};
 use support::generate;
 use support::library::{ffi, Library, LIBRARY};
 use support::random::Random;
+use support::settings::setting;
 
 const INPUTS: u64 = 5_000;
 const SEED: u64 = 0x4A0_7E57_0000_0000;
@@ -72,15 +72,6 @@ fn cut<'a>(bytes: &'a [u8], most: usize, random: &mut Random) -> Vec<&'a [u8]> {
 /// Says something even when the test passes.
 fn say(text: &str) {
     let _ = writeln!(std::io::stderr(), "{text}");
-}
-
-fn setting(name: &str) -> Option<u64> {
-    let value = env::var(name).ok()?;
-    Some(
-        value
-            .parse()
-            .unwrap_or_else(|_| panic!("{name} isn't a number: {value}")),
-    )
 }
 
 /// Compares generated messages. In a usual run every number has to be met.

@@ -7,25 +7,17 @@ mod reference;
 mod support;
 
 use fordtrumpet::{sha256, Sha256};
+use std::fs;
 use std::io::Write;
 use std::path::Path;
 use std::process::Command;
-use std::{env, fs};
 use support::random::Random;
+use support::settings::setting;
 use support::sha_calls::{compare, ShaCalls, ShaComparison, State, SHA_CALLS};
 
 const MESSAGES: u64 = 50_000;
 const FORGED: u64 = 20_000;
 const SEED: u64 = 0x54A2_5600_0000_0000;
-
-fn setting(name: &str) -> Option<u64> {
-    let value = env::var(name).ok()?;
-    Some(
-        value
-            .parse()
-            .unwrap_or_else(|_| panic!("{name} isn't a number: {value}")),
-    )
-}
 
 fn random(number: u64) -> Random {
     Random::new(SEED ^ number.wrapping_mul(0xD134_2543_DE82_EF95))

@@ -7,7 +7,6 @@ mod support;
 
 use std::cmp::Ordering;
 use std::collections::{BTreeMap, BTreeSet};
-use std::env;
 use std::io::Write;
 use std::ops::Range;
 use support::compare::{same, same_bytes, Compared};
@@ -15,6 +14,7 @@ use support::encode::{Block, Encoding, File};
 use support::generate::text;
 use support::library::ffi;
 use support::random::Random;
+use support::settings::setting;
 use support::table_calls::{TableCalls, TableComparison, TABLE_CALLS};
 use support::tables::{encode, full, Pool};
 
@@ -28,15 +28,6 @@ fn random_of(number: u64) -> Random {
 /// Says something even when the test passes.
 fn say(text: &str) {
     let _ = writeln!(std::io::stderr(), "{text}");
-}
-
-fn setting(name: &str) -> Option<u64> {
-    let value = env::var(name).ok()?;
-    Some(
-        value
-            .parse()
-            .unwrap_or_else(|_| panic!("{name} isn't a number: {value}")),
-    )
 }
 
 fn compare_input(comparison: &mut TableComparison, number: u64) -> Compared {

@@ -6,7 +6,6 @@ mod reference;
 mod support;
 
 use std::collections::BTreeMap;
-use std::env;
 use std::io::Write;
 use std::ops::Range;
 use support::alike;
@@ -17,6 +16,7 @@ use support::encode::{Block, File};
 use support::generate;
 use support::library::{ffi, Answer};
 use support::random::Random;
+use support::settings::setting;
 use support::table_calls::{TableComparison, TABLE_CALLS};
 use support::tables::{encode, Pool};
 
@@ -205,15 +205,6 @@ fn random_of(number: u64) -> Random {
 /// Says something even when the test passes.
 fn say(text: &str) {
     let _ = writeln!(std::io::stderr(), "{text}");
-}
-
-fn setting(name: &str) -> Option<u64> {
-    let value = env::var(name).ok()?;
-    Some(
-        value
-            .parse()
-            .unwrap_or_else(|_| panic!("{name} isn't a number: {value}")),
-    )
 }
 
 fn compare_input(

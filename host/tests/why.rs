@@ -10,7 +10,6 @@ mod support;
 use fordtrumpet::{Table, MAX_REQUEST_LIST};
 use reference::{File, Reason};
 use std::collections::{BTreeMap, BTreeSet};
-use std::env;
 use std::io::Write;
 use support::alike;
 use support::compare::{same, Compared};
@@ -18,6 +17,7 @@ use support::encode::{self, Block};
 use support::library::Answer;
 use support::names::spoil;
 use support::random::Random;
+use support::settings::setting;
 use support::tables::{encode, Pool};
 use support::why_calls::{by_reason, details, details_words, why, why_words};
 
@@ -329,15 +329,6 @@ fn random_of(number: u64) -> Random {
 /// Says something even when the test passes.
 fn say(text: &str) {
     let _ = writeln!(std::io::stderr(), "{text}");
-}
-
-fn setting(name: &str) -> Option<u64> {
-    let value = env::var(name).ok()?;
-    Some(
-        value
-            .parse()
-            .unwrap_or_else(|_| panic!("{name} isn't a number: {value}")),
-    )
 }
 
 /// Tables that share names and blocks. Bad ones are seldom, since one of five is enough for 15.

@@ -3,7 +3,5 @@ mod FillingLaws
 mod TableLaws
 mod StepLaws
 mod DetailsLaws
-pub mod PackLaws
 pub mod HasherLaws
 mod RequestLaws
-pub mod Unchanged

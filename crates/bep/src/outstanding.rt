@@ -1,69 +1,42 @@
-// The outstanding requests of a link, lent as 35 words (the window, the next ID, the count, and the ID and the Length of each of 16 entries)
-// and 512 bytes (the hash of each entry).
+// The outstanding requests of four peers, lent as 140 words (for each peer the window, the next ID, the count, and the ID and the Length of each of
+// 16 entries) and 2,048 bytes (for each peer the hash of each entry).
 //
-// Any words may be given: those of a queue that is not sound are refused with 22 and left as they were. The hashes stay where they are
-// lent: a call changes only those that it has to.
+// Any words may be given: those of a queue that is not sound are refused with 22 and left as they were.
+ghost use Prim.Native.Nat.{_/_, _%_};
 ghost use mathlib.Core.Path.{_≡_};
-ghost use lib.Seq.{paste};
+ghost use mathlib.Core.List.{[]};
 ghost use Rattle.message_write.specs.Writing.{requestBytes};
-ghost use Rattle.queue.specs.Queue.{defaultWindow};
-ghost use Rattle.queue.specs.Checked.{checkedOpening, checkedDrop};
+ghost use Rattle.queue.specs.Queue.{opening, dropOf};
+ghost use Rattle.queue_lent.specs.Words.{queueOf};
+ghost use Rattle.queue_lent.specs.Calls.{totalsOf};
 ghost use Rattle.bep.specs.Filling.{fillingNumber};
-ghost use Rattle.bep.specs.Queues.{queueOf, pairs, wordsOf, checkedOf, verdictNumber, Becomes, issuedWords, QueueIssues, arrivalNumber, arrivalWords, QueueAnswers, totalWords};
+ghost use Rattle.bep.specs.Queues.{windowIn, windowsIn, verdictNumber, Becomes, issuedWords, QueueIssues, arrivalNumber, arrivalWords, QueueAnswers};
 use link::Arrival;
-use link::Link;
-use link::Request;
 use message::Edition;
-use queue::RequestQueue;
 use queue::Verdict;
+use queue::Window;
 use xdr::Filling;
 
-// The queue that words are.
-fn unpacked(words: &[u32; 35]) -> RequestQueue
-    ensures { λ r. ⌜ r ≡ queueOf (now (words .entry)) ⌝ }
+// A window, which counts only where its bit is set.
+fn window_in(window: u32, bit: u32) -> Window
+    ensures { λ r. ⌜ r ≡ windowIn window bit ⌝ }
 {
-    let mut entries = [Request { id: 0, size: 0 }; 16];
-    for i in 0..16 {
-        let e = Request {
-            id: words[3 + 2 * i],
-            size: words[4 + 2 * i],
-        };
-        entries[i] = e;
-    }
-    RequestQueue {
-        link: Link {
-            window: words[0],
-            next: words[1],
-            count: words[2],
-            entries,
-        },
+    if bit == 1 {
+        Window::Stated(window)
+    } else {
+        Window::Default
     }
 }
 
-// The entries from word 3 on, an ID and a Length each.
-fn put_entries(words: [u32; 35], entries: [Request; 16]) -> [u32; 35]
-    ensures { λ r. ⌜ r ≡ paste words 3 (pairs entries) 32 ⌝ }
+// The windows of the four peers.
+fn windows_in(windows: &[u32; 4], stated: u32) -> [Window; 4]
+    ensures { λ r. ⌜ r ≡ windowsIn (now (windows .entry)) stated ⌝ }
 {
-    let mut out = words;
-    for i in 0..16 {
-        let e = entries[i];
-        out[3 + 2 * i] = e.id;
-        out[4 + 2 * i] = e.size;
-    }
-    out
-}
-
-// The words of a queue.
-fn packed(queue: RequestQueue) -> [u32; 35]
-    ensures { λ r. ⌜ r ≡ wordsOf queue ⌝ }
-{
-    let mut words = [0u32; 35];
-    let link = queue.link;
-    words[0] = link.window;
-    words[1] = link.next;
-    words[2] = link.count;
-    let entries = link.entries;
-    put_entries(words, entries)
+    let a = window_in(windows[0], stated % 2);
+    let b = window_in(windows[1], stated / 2 % 2);
+    let c = window_in(windows[2], stated / 4 % 2);
+    let d = window_in(windows[3], stated / 8 % 2);
+    [a, b, c, d]
 }
 
 // The number that an opening or a drop returns.
@@ -120,39 +93,28 @@ fn give_arrival(o: Arrival, answer: &mut [u64; 5]) -> u32
     }
 }
 
-// Opens an empty queue with a window. A window not 1 to 16 is refused (22) and leaves a queue of window 0, which every call but the totals
-// refuses.
+// Opens an empty queue with a window for each peer, where its bit in `stated` is set (1 for peer 1, then 2, 4 and 8), and the default for the
+// others. If one is not 1 to 16, all are refused (22): four empty lists of window 0 are left, which every call but the totals refuses.
 #[no_mangle]
-pub extern "C" fn bep_queue_open(queue: &mut [u32; 35], hashes: &mut [u8; 512], window: u32) -> u32
-    ensures { λ r. ⌜ Becomes (checkedOpening window) r (now (queue .exit)) (now (hashes .exit)) ⌝ }
+pub extern "C" fn bep_queue_open(
+    queue: &mut [u32; 140],
+    hashes: &mut [u8; 2048],
+    windows: &[u32; 4],
+    stated: u32,
+) -> u32
+    ensures { λ r. ⌜ Becomes (opening (windowsIn (now (windows .entry)) stated)) r (now (queue .exit)) (now (hashes .exit)) ⌝ }
 {
-    let d = RequestQueue::open_with(window);
-    let q = d.queue;
-    *queue = packed(q);
-    *hashes = [0u8; 512];
-    let o = d.verdict;
-    verdict_number(o)
+    let ws = windows_in(windows, stated);
+    verdict_number(queue_lent::open(queue, hashes, ws))
 }
 
-// Opens an empty queue with the default window.
-#[no_mangle]
-pub extern "C" fn bep_queue_open_default(queue: &mut [u32; 35], hashes: &mut [u8; 512]) -> u32
-    ensures { λ r. ⌜ Becomes (checkedOpening defaultWindow) r (now (queue .exit)) (now (hashes .exit)) ⌝ }
-{
-    let d = RequestQueue::open();
-    let q = d.queue;
-    *queue = packed(q);
-    *hashes = [0u8; 512];
-    let o = d.verdict;
-    verdict_number(o)
-}
-
-// Issues a Request with the next ID: the answer is the number of bytes written and the ID, or the place and 0.
+// Issues a Request for a peer with its next ID: the answer is the number of bytes written and the ID, or the place and 0.
 #[no_mangle]
 pub extern "C" fn bep_queue_issue(
     out: &mut [u8],
-    queue: &mut [u32; 35],
-    hashes: &mut [u8; 512],
+    queue: &mut [u32; 140],
+    hashes: &mut [u8; 2048],
+    peer: u32,
     repository: &[u8],
     name: &[u8],
     offset: u64,
@@ -160,60 +122,55 @@ pub extern "C" fn bep_queue_issue(
     hash: &[u8],
     answer: &mut [u64; 2],
 ) -> u32
-    ensures { λ r. ⌜ QueueIssues (now (queue .entry)) (now (hashes .entry))
+    ensures { λ r. ⌜ QueueIssues (now (queue .entry)) (now (hashes .entry)) peer
         (requestBytes Edition.New (now (repository .entry)) (now (name .entry)) offset size (now (hash .entry))) size (now (hash .entry))
         (now (out .entry)) r (now (answer .exit)) (now (queue .exit)) (now (hashes .exit)) (now (out .exit)) ⌝ }
 {
-    let before = unpacked(queue);
-    let d = before.issue(repository, name, offset, size, hash, out);
-    let q = d.queue;
-    *queue = packed(q);
+    let d = queue_lent::issue(
+        queue,
+        hashes,
+        peer,
+        repository,
+        name,
+        offset,
+        size,
+        hash,
+        out,
+    );
     let w = d.filling;
-    link::keep(hashes, before.link.count, hash, w);
     give_issued(d.id, w, answer)
 }
 
-// Releases the oldest request by the Response to it: the answer is 0 where it brought the data, 1 where they are not available, 2 where their
-// size is wrong and 3 where their hash is not the one asked for; the request's ID and Length; and the data's start and length in the message.
+// Releases the oldest request of a peer by the Response to it: the answer is 0 where it brought the data, 1 where they are not available, 2 where
+// their size is wrong and 3 where their hash is not the one asked for; the request's ID and Length; and the data's start and length in the message.
 #[no_mangle]
 pub extern "C" fn bep_queue_answer(
-    queue: &mut [u32; 35],
-    hashes: &mut [u8; 512],
+    queue: &mut [u32; 140],
+    hashes: &mut [u8; 2048],
+    peer: u32,
     message: &[u8],
     answer: &mut [u64; 5],
 ) -> u32
-    ensures { λ r. ⌜ QueueAnswers (now (queue .entry)) (now (hashes .entry)) (now (message .entry))
+    ensures { λ r. ⌜ QueueAnswers (now (queue .entry)) (now (hashes .entry)) peer (now (message .entry))
         r (now (answer .exit)) (now (queue .exit)) (now (hashes .exit)) ⌝ }
 {
-    let before = unpacked(queue);
-    let d = before.answer(message);
-    let q = d.queue;
-    *queue = packed(q);
-    let o = d.release;
-    let a = link::settle(hashes, message, o);
+    let a = queue_lent::answer(queue, hashes, peer, message);
     give_arrival(a, answer)
 }
 
-// Releases everything: the link is gone.
+// Releases everything of a peer, and nothing of the others: its link is gone.
 #[no_mangle]
-pub extern "C" fn bep_queue_drop(queue: &mut [u32; 35], hashes: &mut [u8; 512]) -> u32
-    ensures { λ r. ⌜ Becomes (checkedDrop (checkedOf (now (queue .entry)) (now (hashes .entry)))) r (now (queue .exit)) (now (hashes .exit)) ⌝ }
+pub extern "C" fn bep_queue_drop(queue: &mut [u32; 140], hashes: &mut [u8; 2048], peer: u32) -> u32
+    ensures { λ r. ⌜ Becomes (dropOf (queueOf (now (queue .entry)) (now (hashes .entry))) peer) r (now (queue .exit)) (now (hashes .exit)) ⌝ }
 {
-    let before = unpacked(queue);
-    let d = before.drop_link();
-    let q = d.queue;
-    *queue = packed(q);
-    let o = d.verdict;
-    queue::forget(hashes, o);
-    verdict_number(o)
+    verdict_number(queue_lent::drop_link(queue, hashes, peer))
 }
 
-// How many requests are outstanding, and their bytes. Any queue has them.
+// How many requests are outstanding and their bytes, over all four peers and then of each. Any queue has them.
 #[no_mangle]
-pub extern "C" fn bep_queue_totals(queue: &[u32; 35], answer: &mut [u64; 2]) -> u32
-    ensures { λ r. ⌜ (r ≡ 0) × (now (answer .exit) ≡ totalWords (queueOf (now (queue .entry)))) ⌝ }
+pub extern "C" fn bep_queue_totals(queue: &[u32; 140], answer: &mut [u64; 10]) -> u32
+    ensures { λ r. ⌜ (r ≡ 0) × (now (answer .exit) ≡ totalsOf (queueOf (now (queue .entry)) [])) ⌝ }
 {
-    let q = unpacked(queue);
-    *answer = [q.outstanding() as u64, q.outstanding_bytes()];
+    *answer = queue_lent::all_totals(queue);
     0
 }

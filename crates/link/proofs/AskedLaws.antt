@@ -50,9 +50,16 @@ hashes-appended rs r hs h n e f room =
       ap length there ∙ length-over hs at h fits,
     )
 
--- a hash fewer: there are as many bytes as before
+-- a hash fewer
+pub without-first : (hs : List ℕ) → 32 ≤ length hs → withoutFirst hs ≡ drop 32 hs ++ replicate 32 0
+without-first hs h = ap (λ (t : Bool). cond t (drop 32 hs ++ replicate 32 0) hs) (le-leb 32 (length hs) h)
+
+-- there are as many bytes as before
 pub length-hashes : (hs : List ℕ) → length hs ≡ 512 → length (withoutFirst hs) ≡ 512
-length-hashes hs l = length-append (drop 32 hs) (replicate 32 0) ∙ ap (λ (n : ℕ). n + 32) (length-drop 32 hs ∙ ap (λ (n : ℕ). n - 32) l)
+length-hashes hs l =
+    ap length (without-first hs (omega (arith, l)))
+    ∙ length-append (drop 32 hs) (replicate 32 0)
+    ∙ ap (λ (n : ℕ). n + 32) (length-drop 32 hs ∙ ap (λ (n : ℕ). n - 32) l)
 
 -- as many as there are requests, and their Lengths
 pub length-asked : (rs : List Request) (hs : List ℕ) → length (withHashes rs hs) ≡ length rs

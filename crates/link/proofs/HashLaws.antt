@@ -10,6 +10,7 @@ use borrow.Author.Tests.{le-leb}
 use Rattle.xdr.specs.Buffer.{put, over, filled}
 use Rattle.xdr.proofs.BufferLaws.{filled-whole}
 use Rattle.link.specs.Hashes.{withoutFirst}
+use Rattle.link.proofs.AskedLaws.{without-first}
 use Rattle.link.proofs.ShiftLaws.{moved, moved-more, moved-all}
 
 -- the bytes that a span has
@@ -42,17 +43,18 @@ hash-turn hs now i h e =
     ∙ moved-more 0 32 hs i h
 
 -- the last is blank then
-pub hash-last : (hs now : List ℕ) → length hs ≡ 512 → now ≡ moved 0 32 hs 480 → put now 480 (replicate 32 0) ≡ withoutFirst hs
-hash-last hs now l e =
+pub hash-last : (hs now : List ℕ) (n : ℕ) → length hs ≡ n + 32 → now ≡ moved 0 32 hs n → put now n (replicate 32 0) ≡ withoutFirst hs
+hash-last hs now n l e =
     let zeros : List ℕ = replicate 32 0 in
-    let front : length (drop 32 hs) ≡ 480 = length-drop 32 hs ∙ ap (λ (k : ℕ). k - 32) l in
-    let back : length (drop 480 hs) ≡ 32 = length-drop 480 hs ∙ ap (λ (k : ℕ). k - 480) l in
-    let is : now ≡ drop 32 hs ++ drop 480 hs = e ∙ moved-all 0 32 hs 480 l in
-    let long : length now ≡ 512 = ap length is ∙ length-append (drop 32 hs) (drop 480 hs) ∙ omega (arith, front, back) in
-    let first : take 480 now ≡ drop 32 hs = ap (take 480) is ∙ ap (λ (k : ℕ). take k (drop 32 hs ++ drop 480 hs)) (sym front) ∙ take-append-seam (drop 32 hs) (drop 480 hs) in
-    let here : 480 ≡ length (drop 32 hs) + 0 = omega (arith, front) in
-    let rest : drop 480 now ≡ drop 480 hs = ap (drop 480) is ∙ ap (λ (k : ℕ). drop k (drop 32 hs ++ drop 480 hs)) here ∙ drop-append-add (drop 32 hs) (drop 480 hs) 0 in
-    ap (λ (t : Bool). cond t (over now 480 zeros) now) (le-leb 512 (length now) (omega (arith, long)))
-    ∙ ap (λ (x : List ℕ). x ++ filled (drop 480 now) zeros) first
+    let front : length (drop 32 hs) ≡ n = length-drop 32 hs ∙ omega (arith, l) in
+    let back : length (drop n hs) ≡ 32 = length-drop n hs ∙ omega (arith, l) in
+    let is : now ≡ drop 32 hs ++ drop n hs = e ∙ moved-all 0 32 hs n l in
+    let long : length now ≡ n + 32 = ap length is ∙ length-append (drop 32 hs) (drop n hs) ∙ omega (arith, front, back) in
+    let first : take n now ≡ drop 32 hs = ap (take n) is ∙ ap (λ (k : ℕ). take k (drop 32 hs ++ drop n hs)) (sym front) ∙ take-append-seam (drop 32 hs) (drop n hs) in
+    let here : n ≡ length (drop 32 hs) + 0 = omega (arith, front) in
+    let rest : drop n now ≡ drop n hs = ap (drop n) is ∙ ap (λ (k : ℕ). drop k (drop 32 hs ++ drop n hs)) here ∙ drop-append-add (drop 32 hs) (drop n hs) 0 in
+    ap (λ (t : Bool). cond t (over now n zeros) now) (le-leb (n + 32) (length now) (omega (arith, long)))
+    ∙ ap (λ (x : List ℕ). x ++ filled (drop n now) zeros) first
     ∙ ap (λ (x : List ℕ). drop 32 hs ++ filled x zeros) rest
-    ∙ ap (λ (x : List ℕ). drop 32 hs ++ x) (filled-whole (drop 480 hs) zeros (sym back))
+    ∙ ap (λ (x : List ℕ). drop 32 hs ++ x) (filled-whole (drop n hs) zeros (sym back))
+    ∙ sym (without-first hs (omega (arith, l)))

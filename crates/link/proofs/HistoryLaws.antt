@@ -32,7 +32,7 @@ use Rattle.link.proofs.LinkLaws.{Orderly, orderly-facts, orderly-made}
 use Rattle.link.proofs.IssueLaws.{issuing-tells}
 use Rattle.link.proofs.AnswerLaws.{AnswerWas, kept as refusedSo, freed, answer-was}
 use Rattle.link.proofs.Moves.{Good, nextRequest, outstanding-appended, good-appended, outstanding-without, good-without, good-emptied, Apart, first-apart}
-use Rattle.link.proofs.AskedLaws.{hashes-appended, hashes-behind, length-hashes}
+use Rattle.link.proofs.AskedLaws.{hashes-appended, hashes-behind, without-first, length-hashes}
 
 -- what is kept of some requests
 
@@ -140,7 +140,7 @@ module _ (q : Hashed) (m : List ℕ) (id : ℕ) (x : ResponseSpan) (r : Request)
       let o : isConsecutive (r ∷ rs) (k .next) ≡ true = ap (λ (l : List Request). isConsecutive l (k .next)) (sym e) ∙ s .ordered in
       let d : Apart id rs = subst (λ (i : ℕ). Apart i rs) same (first-apart r rs (k .next) o few) in
       let st : (i : ℕ) → settles i was ≡ eqb id i = λ i. settles-arrived i id x r hs m (eqb (x .«data» .length) 0) (eqb (x .«data» .length) (r .size)) (isContent hs m (x .«data»)) refl refl refl in
-      let rest : askedIn then ≡ withHashes rs (list.drop 32 hs) = ap (λ (l : List Request). withHashes l (withoutFirst hs)) out ∙ hashes-behind rs (list.drop 32 hs) (replicate 32 0) (omega (arith, few, length-drop 32 hs, g .hashed)) in
+      let rest : askedIn then ≡ withHashes rs (list.drop 32 hs) = ap (λ (l : List Request). withHashes l (withoutFirst hs)) out ∙ ap (withHashes rs) (without-first hs (omega (arith, g .hashed))) ∙ hashes-behind rs (list.drop 32 hs) (replicate 32 0) (omega (arith, few, length-drop 32 hs, g .hashed)) in
       record {
         sound = record { good = good-without k r rs (g .good) e; hashed = length-hashes hs (g .hashed) };
         keeps = λ es.

@@ -3,7 +3,8 @@
 use Prim.Native.Nat.{ℕ, _+_, _*_}
 use mathlib.Core.Bool.{Bool, cond}
 use mathlib.Core.List.{List, [], _∷_, _++_}
-use lib.ListN.{take, drop, replicate}
+use lib.ListN.{length, take, drop, replicate}
+use lib.Dec.{leb}
 use Rattle.xdr.specs.Buffer.{put}
 use Rattle.xdr.specs.Filling.{Outcome, gives, refuses}
 use Rattle.order.specs.Order.{isEqual, compareLists}
@@ -47,9 +48,9 @@ abbrev pub hashesIssued : (hashes : List ℕ) (entry : ℕ) (hash : List ℕ) �
 hashesIssued hs i h (gives l) = put hs (32 * i) h
 hashesIssued hs i h (refuses k p) = hs
 
--- the hashes without that of the oldest request: they move down by one, and the last is blank
+-- the hashes without that of the oldest request: they move down by one, and the last is blank; where there is none, nothing moves
 abbrev pub withoutFirst : (hashes : List ℕ) → List ℕ
-withoutFirst hs = drop 32 hs ++ replicate 32 0
+withoutFirst hs = cond (leb 32 (length hs)) (drop 32 hs ++ replicate 32 0) hs
 
 -- an answer that released the oldest request takes its hash away
 abbrev pub hashesReleased : (hashes : List ℕ) → Release → List ℕ

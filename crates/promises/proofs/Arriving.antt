@@ -4,7 +4,7 @@ use native.Mathlib.Omega.{arith}
 use mathlib.Core.Path.{_≡_, refl, sym, ap, subst, _∙_}
 use mathlib.Core.Bool.{Bool, true, false}
 use mathlib.Core.List.{List, [], _∷_}
-use lib.ListN.{take, drop}
+use lib.ListN.{length, take, drop}
 use lib.Dec.{eqb}
 use borrow.Author.Tests.{eqb-true}
 use Rattle.order.specs.Order.{isEqual, compareLists}
@@ -21,19 +21,21 @@ use Rattle.message.specs.declared.kind.ResponseIn.the-variants as P
 use Rattle.message.specs.declared.edition.Edition.the-variants as E
 use Rattle.link.specs.OneLink.{outstanding, released, answeredBy}
 use Rattle.link.specs.Hashes.{Asked, withHashes, isContent, arrivalOf}
-use Rattle.link.specs.History.{standing}
+use Rattle.link.specs.History.{isTaken}
 use Rattle.link.specs.declared.request.Request.{Request}
 use Rattle.link.specs.declared.outcome.LinkAnswered.{LinkAnswered}
 use Rattle.link.specs.declared.outcome.Arrival.{Arrival}
 use Rattle.link.specs.declared.outcome.Arrival.the-variants as A
 use Rattle.link.proofs.AnswerLaws.{AnswerWas, kept, freed, answer-was, settled-oldest}
-use Rattle.queue.specs.Queue.{opening}
-use Rattle.queue.specs.Checked.{checkedOpening, withArrival, checkedAnswer}
-use Rattle.queue.specs.declared.checked.CheckedQueue.{CheckedQueue}
+use Rattle.queue.specs.Queue.{opening, isPeer, linkOf, hashesOf, answerOf}
+use Rattle.queue.specs.declared.window.Window.{Window}
+use Rattle.queue.specs.declared.queue.RequestQueue.{RequestQueue}
 use Rattle.queue.specs.declared.outcome.Answered.{Answered}
 use Rattle.queue.specs.declared.outcome.Verdict.the-variants as Ruled
-use Rattle.promises.specs.History.{Call, queueFinal, queueHistory, Answers, Differs, broughtTo, Brought}
-use Rattle.promises.proofs.Requests.{same-answer, held}
+use Rattle.queue.proofs.CallLaws.{same-answer}
+use Rattle.promises.specs.History.{PeerCall, reached, standingFor, Answers, Differs, broughtTo, Brought}
+use Rattle.promises.proofs.PeerRuns.{admit}
+use Rattle.promises.proofs.Requests.{ended, held}
 
 -- what the test of a hash tells
 
@@ -111,58 +113,75 @@ module _ (hs m : List ℕ) (r : Request) (d : Span) where
       chosen-wrong (eqb (d .length) 0) (eqb (d .length) (r .size)) (isContent hs m d) id size refl refl
       (sym (arrives (eqb (d .length) 0) (eqb (d .length) (r .size)) (isContent hs m d) refl refl refl) ∙ e)
 
-pub brought : (window : ℕ) (calls : List Call) (m : List ℕ) → opening window .verdict ≡ Ruled.Accepted → Brought window calls m
-brought window calls m accepted = record { brings = brings; right = right; wrong = wrong }
-  where
-    q : CheckedQueue
-    q = queueFinal (checkedOpening window .queue) calls
+-- an answer from a peer after any calls from an accepted opening
+module _ (ws : List Window) (four : length ws ≡ 4) (accepted : opening ws .verdict ≡ Ruled.Accepted) (cs : List PeerCall) (p : ℕ) (peer : isPeer p ≡ true) (m : List ℕ) where
+  abbrev q : RequestQueue
+  q = reached ws cs
 
-    y : ResponseIn
-    y = responseIn (messageIn E.New m)
+  abbrev hs : List ℕ
+  hs = hashesOf q p
 
-    is : checkedAnswer q m .arrival ≡ arrivalOf (q .hashes) m (answeredBy (q .queue .link) y .release)
-    is = ap (λ (x : Answered). withArrival q m x .arrival) (same-answer (q .queue) (held window calls accepted .sound) (messageIn E.New m))
+  abbrev y : ResponseIn
+  y = responseIn (messageIn E.New m)
 
-    oldest : (r : Request) (rs : List Request) → outstanding (q .queue .link) ≡ r ∷ rs → standing (queueHistory (checkedOpening window .queue) calls) ≡ withHashes (r ∷ rs) (q .hashes)
-    oldest r rs o = sym (held window calls accepted .exact) ∙ ap (λ (l : List Request). withHashes l (q .hashes)) o
+  is : answerOf q p m .arrival ≡ arrivalOf hs m (answeredBy (linkOf q p) y .release)
+  is = ap (λ (x : Answered). x .arrival) (same-answer q p (admit q (ended ws four accepted cs) p peer) m)
 
-    brings : (r : Asked) (rs : List Asked) (x : ResponseSpan) → standing (queueHistory (checkedOpening window .queue) calls) ≡ r ∷ rs → y ≡ P.Taken (r .id) x
-        → checkedAnswer q m .arrival ≡ broughtTo r m (x .«data»)
-    brings r rs x e f = go (outstanding (q .queue .link)) refl
-      where
-        go : (l : List Request) → outstanding (q .queue .link) ≡ l → checkedAnswer q m .arrival ≡ broughtTo r m (x .«data»)
-        go [] o =
-            let z : withHashes [] (q .hashes) ≡ r ∷ rs = ap (λ (l : List Request). withHashes l (q .hashes)) (sym o) ∙ held window calls accepted .exact ∙ e in
-            let n : _≡_ {A = ℕ} 0 1 = cc in
-            absurd (omega arith)
-        go (a ∷ rest) o =
-            let z : withHashes (a ∷ rest) (q .hashes) ≡ r ∷ rs = sym (oldest a rest o) ∙ e in
-            let same : first (q .hashes) m a (x .«data») ≡ r = cc in
-            let id : a .id ≡ r .id = ap (λ (k : Asked). k .id) same in
-            is
-            ∙ ap (λ (v : ResponseIn). arrivalOf (q .hashes) m (answeredBy (q .queue .link) v .release)) f
-            ∙ ap (λ (v : LinkAnswered). arrivalOf (q .hashes) m (v .release)) (sym (settled-oldest (q .queue .link) (r .id) (x .«data») a rest o id))
-            ∙ as-brought (q .hashes) m a (x .«data»)
-            ∙ ap (λ (k : Asked). broughtTo k m (x .«data»)) same
+  stands : (rs : List Request) → outstanding (linkOf q p) ≡ rs → standingFor ws cs p ≡ withHashes rs hs
+  stands rs o = sym (held ws four accepted cs .exact p peer) ∙ ap (λ (k : List Request). withHashes k hs) o
 
-    right : (id size : ℕ) (d : Span) → checkedAnswer q m .arrival ≡ A.Data id size d
-        → (r : Asked) × (rs : List Asked) × (x : ResponseSpan) × (standing (queueHistory (checkedOpening window .queue) calls) ≡ r ∷ rs) × (y ≡ P.Taken id x) × (x .«data» ≡ d) × Answers r id size d m
-    right id size d e = go (answeredBy (q .queue .link) y) (answer-was (q .queue .link) y) (sym is ∙ e)
-      where
-        go : (a : LinkAnswered) → AnswerWas (q .queue .link) y a → arrivalOf (q .hashes) m (a .release) ≡ A.Data id size d
-            → (r : Asked) × (rs : List Asked) × (x : ResponseSpan) × (standing (queueHistory (checkedOpening window .queue) calls) ≡ r ∷ rs) × (y ≡ P.Taken id x) × (x .«data» ≡ d) × Answers r id size d m
-        go a (kept f) e = let z : _≡_ {A = ℕ} 0 1 = cc in absurd (omega arith)
-        go a (freed i x r rs k o s) e =
-            let w = brings-data (q .hashes) m r (x .«data») id size d e in
-            (first (q .hashes) m r (x .«data»), withHashes rs (drop 32 (q .hashes)), x, oldest r rs o, k ∙ ap (λ (n : ℕ). P.Taken n x) (sym s ∙ w .1 .same-id), w .0, w .1)
+  brings : (k : List Request) → outstanding (linkOf q p) ≡ k → (r : Asked) (rs : List Asked) (x : ResponseSpan) → standingFor ws cs p ≡ r ∷ rs → y ≡ P.Taken (r .id) x
+      → answerOf q p m .arrival ≡ broughtTo r m (x .«data»)
+  brings [] o r rs x e f =
+      let z : withHashes [] hs ≡ r ∷ rs = sym (stands [] o) ∙ e in
+      let n : _≡_ {A = ℕ} 0 1 = cc in
+      absurd (omega arith)
+  brings (a ∷ rest) o r rs x e f =
+      let z : withHashes (a ∷ rest) hs ≡ r ∷ rs = sym (stands (a ∷ rest) o) ∙ e in
+      let same : first hs m a (x .«data») ≡ r = cc in
+      let id : a .id ≡ r .id = ap (λ (k : Asked). k .id) same in
+      is
+      ∙ ap (λ (v : ResponseIn). arrivalOf hs m (answeredBy (linkOf q p) v .release)) f
+      ∙ ap (λ (v : LinkAnswered). arrivalOf hs m (v .release)) (sym (settled-oldest (linkOf q p) (r .id) (x .«data») a rest o id))
+      ∙ as-brought hs m a (x .«data»)
+      ∙ ap (λ (k : Asked). broughtTo k m (x .«data»)) same
 
-    wrong : (id size : ℕ) → checkedAnswer q m .arrival ≡ A.WrongContent id size
-        → (r : Asked) × (rs : List Asked) × (x : ResponseSpan) × (standing (queueHistory (checkedOpening window .queue) calls) ≡ r ∷ rs) × (y ≡ P.Taken id x) × Differs r id size (x .«data») m
-    wrong id size e = go (answeredBy (q .queue .link) y) (answer-was (q .queue .link) y) (sym is ∙ e)
-      where
-        go : (a : LinkAnswered) → AnswerWas (q .queue .link) y a → arrivalOf (q .hashes) m (a .release) ≡ A.WrongContent id size
-            → (r : Asked) × (rs : List Asked) × (x : ResponseSpan) × (standing (queueHistory (checkedOpening window .queue) calls) ≡ r ∷ rs) × (y ≡ P.Taken id x) × Differs r id size (x .«data») m
-        go a (kept f) e = let z : _≡_ {A = ℕ} 0 1 = cc in absurd (omega arith)
-        go a (freed i x r rs k o s) e =
-            let w : Differs (first (q .hashes) m r (x .«data»)) id size (x .«data») m = brings-wrong (q .hashes) m r (x .«data») id size e in
-            (first (q .hashes) m r (x .«data»), withHashes rs (drop 32 (q .hashes)), x, oldest r rs o, k ∙ ap (λ (n : ℕ). P.Taken n x) (sym s ∙ w .same-id), w)
+  -- an answer that was taken is a Response to the oldest request
+  record Oldest (v : Arrival) : Type 0 where
+    request : Request
+    later : List Request
+    span : ResponseSpan
+    first-of : standingFor ws cs p ≡ withHashes (request ∷ later) hs
+    response : y ≡ P.Taken (request .id) span
+    arrived : arrivalOf hs m (released request (span .«data»)) ≡ v
+
+  taken-from : (v : Arrival) → isTaken v ≡ true → (a : LinkAnswered) → AnswerWas (linkOf q p) y a → arrivalOf hs m (a .release) ≡ v → Oldest v
+  taken-from v t a (kept f) e =
+      let n : false ≡ true = ap isTaken e ∙ t in
+      let z : _≡_ {A = ℕ} 0 1 = cc in
+      absurd (omega arith)
+  taken-from v t a (freed id x r rs k o s) e =
+      record { request = r; later = rs; span = x; first-of = stands (r ∷ rs) o; response = k ∙ ap (λ (n : ℕ). P.Taken n x) (sym s); arrived = e }
+
+  oldest : (v : Arrival) → isTaken v ≡ true → answerOf q p m .arrival ≡ v → Oldest v
+  oldest v t e = taken-from v t (answeredBy (linkOf q p) y) (answer-was (linkOf q p) y) (sym is ∙ e)
+
+  abbrev firstAsked : {v : Arrival} → Oldest v → Asked
+  firstAsked w = first hs m (w .request) (w .span .«data»)
+
+  abbrev laterAsked : {v : Arrival} → Oldest v → List Asked
+  laterAsked w = withHashes (w .later) (drop 32 hs)
+
+  pub brought : Brought ws cs p m
+  brought =
+      record {
+        brings = brings (outstanding (linkOf q p)) refl;
+        right = λ id size d e.
+            let w : Oldest (A.Data id size d) = oldest (A.Data id size d) refl e in
+            let b = brings-data hs m (w .request) (w .span .«data») id size d (w .arrived) in
+            (firstAsked w, laterAsked w, w .span, w .first-of, w .response ∙ ap (λ (n : ℕ). P.Taken n (w .span)) (b .1 .same-id), b .0, b .1);
+        wrong = λ id size e.
+            let w : Oldest (A.WrongContent id size) = oldest (A.WrongContent id size) refl e in
+            let b = brings-wrong hs m (w .request) (w .span .«data») id size (w .arrived) in
+            (firstAsked w, laterAsked w, w .span, w .first-of, w .response ∙ ap (λ (n : ℕ). P.Taken n (w .span)) (b .same-id), b);
+      }

@@ -4,7 +4,9 @@ pub mod Messages
 mod MemoryLaws
 pub mod Merges
 pub mod SampleMerges
+mod PeerRuns
 pub mod Requests
+pub mod LentRuns
 pub mod Arriving
 mod HeldLaws
 pub mod RequestList

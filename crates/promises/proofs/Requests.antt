@@ -1,219 +1,226 @@
--- After any calls from an accepted opening the queue holds exactly the requests issued and since then neither answered nor dropped, each with the
--- hash asked for; its calls are those of its link, which is told its own total, and the allowance. And data that arrive are those asked for.
-use Prim.Native.Nat.{ℕ, _+_, _≤_, _<_}
+-- After any calls from an accepted opening each peer's list is exactly the requests issued for it and since then neither answered nor dropped for it,
+-- each with the hash asked for; a peer's own calls and the totals that it finds decide what it is told; and freed room can be issued by anyone.
+use Prim.Native.Nat.{ℕ, zero, suc, _+_, _-_, _≤_, _<_}
 use native.Mathlib.Omega.{arith}
 use mathlib.Core.Path.{_≡_, refl, sym, ap, subst, _∙_}
-use mathlib.Core.Bool.{Bool, true, false, cond}
-use mathlib.Core.List.{List, [], _∷_, _++_}
-use lib.ListN.{length}
+use mathlib.Core.Bool.{Bool, true, false, _||_}
+use mathlib.Core.List.{List, [], _∷_, _++_, map}
+use lib.ListN.{length, getD}
 use lib.Seq.{length-take-le}
-use borrow.Author.Tests.{le-leb, lt-leb}
+use lib.Dec.{eqb}
+use borrow.Author.Tests.{le-leb, lt-leb, eqb-true, eqb-false}
 use Rattle.xdr.specs.Answers.{atStart}
-use Rattle.xdr.specs.Filling.{Outcome, gives, refuses, inRoom}
+use Rattle.xdr.specs.Filling.{Outcome, refuses, inRoom}
 use Rattle.message.specs.Message.{message}
-use Rattle.message.specs.declared.answer.Message.{Message}
 use Rattle.message.specs.Answers.{messageIn}
 use Rattle.message.specs.Kinds.{responseIn}
-use Rattle.message.specs.declared.kind.ResponseIn.{ResponseIn}
 use Rattle.message.specs.declared.edition.Edition.the-variants as E
 use Rattle.message_write.specs.Writing.{requestBytes, writing}
-use Rattle.xdr.proofs.FillingLaws.{given-room}
 use Rattle.link.specs.Requests.{total}
-use Rattle.link.specs.OneLink.{windowFits, outstanding, emptyLink, issuing, appended, issuedLink, answeredBy, emptied}
-use Rattle.link.specs.Hashes.{Asked, withHashes, totalAsked, noHashes}
+use Rattle.link.specs.OneLink.{windowFits, outstanding, emptyLink}
+use Rattle.link.specs.Hashes.{Asked, withHashes, totalAsked}
 use Rattle.link.specs.History as link
-use Rattle.link.specs.History.{Hashed, hashedIssued, LinkCall, Event, issueWas, answerWas, dropWas, standing, issuedIds, idsFrom}
-use Rattle.link.specs.declared.request.Request.{Request}
+use Rattle.link.specs.History.{Hashed, LinkCall, Event, issueWas, answerWas, dropWas, standing, issuedIds, idsFrom}
 use Rattle.link.specs.declared.list.Link.{Link}
-use Rattle.link.specs.declared.outcome.LinkAnswered.{LinkAnswered}
-use Rattle.link.specs.declared.outcome.Release.the-variants as R
+use Rattle.link.specs.declared.outcome.Arrival.the-variants as A
+use Rattle.link.proofs.RequestLaws.{both}
 use Rattle.link.proofs.LinkLaws.{Orderly, orderly-facts}
-use Rattle.link.proofs.IssueLaws.{issuing-tells}
-use Rattle.link.proofs.AnswerLaws.{AnswerWas, kept, freed, answer-was}
-use Rattle.link.proofs.Moves.{Good, nextRequest, outstanding-appended, total-append, outstanding-without}
+use Rattle.link.proofs.Moves.{Good}
 use Rattle.link.proofs.AskedLaws.{length-asked, total-asked}
-use Rattle.link.proofs.HistoryLaws.{Sound, askedIn, link-run, opened-good, windows-kept, ids-follow}
-use Rattle.queue.specs.Queue.{allowance, isSound, opening, issueOutcome, fromLink, answerOf, dropOf}
-use Rattle.queue.specs.Checked.{checkedOpening, withArrival, withoutHashes}
+use Rattle.link.proofs.HistoryLaws.{askedIn, link-run, opened-good, windows-kept, ids-follow}
+use Rattle.queue.specs.Queue.{allowance, windowOf, allFit, unused, opening, isPeer, linkOf, hashesOf, peerOf, common, isSound, issueOutcome, idOf, answerOf, dropOf}
+use Rattle.queue.specs.declared.window.Window.{Window}
+use Rattle.queue.specs.declared.window.Window.the-variants.{Default}
 use Rattle.queue.specs.declared.queue.RequestQueue.{RequestQueue}
-use Rattle.queue.specs.declared.checked.CheckedQueue.{CheckedQueue}
 use Rattle.queue.specs.declared.outcome.Emptied.{Emptied}
 use Rattle.queue.specs.declared.outcome.Verdict.the-variants as Ruled
 use Rattle.queue.specs.declared.outcome.Answered.{Answered}
-use Rattle.queue.proofs.QueueLaws.{sound-facts, sound-made}
-use Rattle.bep.proofs.PackLaws.{queue-back}
-use Rattle.promises.specs.History.{Call, issue, answer, drop, isAccepted, queueAfter, queueEvent, queueFinal, queueHistory, askedOf, Held, Lent, lentOf, queueIn, lentAfter, lentFinal, lentHistory, HeldLent}
-
--- the link of a queue, with the hashes
-abbrev hashedOf : CheckedQueue → Hashed
-hashedOf q = record { link = q .queue .link; hashes = q .hashes }
-
--- a call as the link sees it
-abbrev linkCall : CheckedQueue → Call → LinkCall
-linkCall q (issue r n o size h room) = link.issue (total (outstanding (q .queue .link))) allowance r n o size h room
-linkCall q (answer s) = link.answer s
-linkCall q drop = link.drop
-
-module _ (q : RequestQueue) (s : isSound q ≡ true) where
-  -- 22 has passed
-  past-22 : {A : Type 0} (a b : A) → cond (isSound q) a b ≡ a
-  past-22 a b = ap (λ (t : Bool). cond t a b) s
-
-  same-issue : (b : List ℕ) (size : ℕ) → issueOutcome q b size ≡ issuing (total (outstanding (q .link))) allowance (q .link) b size
-  same-issue b size = past-22 (issuing (total (outstanding (q .link))) allowance (q .link) b size) (refuses 22 0)
-
-  pub same-answer : (m : Message) → answerOf q m ≡ fromLink (answeredBy (q .link) (responseIn m))
-  same-answer m = past-22 (fromLink (answeredBy (q .link) (responseIn m))) (record { queue = q; release = R.Refused (atStart 22) })
-
-  same-drop : dropOf q ≡ record { queue = record { link = emptied (q .link) }; verdict = Ruled.Accepted }
-  same-drop = past-22 (record { queue = record { link = emptied (q .link) }; verdict = Ruled.Accepted }) (record { queue = q; verdict = Ruled.Refused (atStart 22) })
-
-module _ (q : CheckedQueue) (s : isSound (q .queue) ≡ true) where
-  same-after : (c : Call) → hashedOf (queueAfter q c) ≡ link.afterCall (hashedOf q) (linkCall q c)
-  same-after (issue r n o size h room) = ap (λ (x : Outcome). hashedIssued (hashedOf q) size h (inRoom room x)) (same-issue (q .queue) s (requestBytes E.New r n o size h) size)
-  same-after (answer m) = ap (λ (x : Answered). hashedOf (withArrival q m x .queue)) (same-answer (q .queue) s (messageIn E.New m))
-  same-after drop = ap (λ (x : Emptied). hashedOf (withoutHashes q x .queue)) (same-drop (q .queue) s)
-
-  same-event : (c : Call) → queueEvent q c ≡ link.event (hashedOf q) (linkCall q c)
-  same-event (issue r n o size h room) = ap (λ (x : Outcome). issueWas (q .queue .link .next) size h (inRoom room x)) (same-issue (q .queue) s (requestBytes E.New r n o size h) size)
-  same-event (answer m) = ap (λ (x : Answered). answerWas (responseIn (messageIn E.New m)) (withArrival q m x .arrival)) (same-answer (q .queue) s (messageIn E.New m))
-  same-event drop = ap (λ (x : Emptied). dropWas (isAccepted (x .verdict))) (same-drop (q .queue) s)
-
--- the total stays within the allowance
-
-issue-within : (q : Link) (r n : List ℕ) (o size : ℕ) (h : List ℕ) (room : ℕ) (x : Outcome)
-    → inRoom room (issuing (total (outstanding q)) allowance q (requestBytes E.New r n o size h) size) ≡ x → Good q
-    → total (outstanding q) ≤ allowance → total (outstanding (issuedLink q size x)) ≤ allowance
-issue-within q r n o size h room (gives l) e g t =
-    let s : Orderly q = orderly-facts q (g .orderly) in
-    let a = issuing-tells (total (outstanding q)) allowance q r n o size h l s (given-room room (issuing (total (outstanding q)) allowance q (requestBytes E.New r n o size h) size) l e .0) in
-    let out : outstanding (appended q size) ≡ outstanding q ++ (nextRequest q size ∷ []) = outstanding-appended q size (omega (arith, g .long, a .0, s .high)) in
-    rw (out, total-append (outstanding q) (nextRequest q size)) (a .2)
-issue-within q r n o size h room (refuses k p) e g t = t
-
-answer-within : (q : Link) (m : ResponseIn) → Good q → total (outstanding q) ≤ allowance → total (outstanding (answeredBy q m .link)) ≤ allowance
-answer-within q m g t = go (answeredBy q m) (answer-was q m)
-  where
-    go : (a : LinkAnswered) → AnswerWas q m a → total (outstanding (a .link)) ≤ allowance
-    go a (kept r) = t
-    go a (freed id x r rs k o s) =
-        let u : total (r ∷ rs) ≤ allowance = subst (λ (l : List Request). total l ≤ allowance) o t in
-        rw (outstanding-without q r rs g o) (omega arith)
-
-within : (q : CheckedQueue) (c : Call) → Good (q .queue .link) → total (outstanding (q .queue .link)) ≤ allowance → total (outstanding (link.afterCall (hashedOf q) (linkCall q c) .link)) ≤ allowance
-within q (issue r n o size h room) g t =
-    issue-within (q .queue .link) r n o size h room (inRoom room (issuing (total (outstanding (q .queue .link))) allowance (q .queue .link) (requestBytes E.New r n o size h) size)) refl g t
-within q (answer s) g t = answer-within (q .queue .link) (responseIn (messageIn E.New s)) g t
-within q drop g t = omega arith
-
-record Same (q : CheckedQueue) (cs : List Call) : Type 0 where
-  calls : List LinkCall
-  finals : hashedOf (queueFinal q cs) ≡ link.final (hashedOf q) calls
-  histories : queueHistory q cs ≡ link.history (hashedOf q) calls
-  inside : total (outstanding (queueFinal q cs .queue .link)) ≤ allowance
-
--- a call leaves the link in order and the total within the allowance
-stays : (q : CheckedQueue) (c : Call) → Sound (hashedOf q) → total (outstanding (q .queue .link)) ≤ allowance
-    → Sound (hashedOf (queueAfter q c)) × (total (outstanding (queueAfter q c .queue .link)) ≤ allowance)
-stays q c g t =
-    let l : LinkCall = linkCall q c in
-    let a : hashedOf (queueAfter q c) ≡ link.afterCall (hashedOf q) l = same-after q (sound-made (q .queue) (g .good .orderly) t) c in
-    (subst Sound (sym a) (link-run (l ∷ []) (hashedOf q) g .0), subst (λ (x : Hashed). total (outstanding (x .link)) ≤ allowance) (sym a) (within q c (g .good) t))
-
-same : (cs : List Call) (q : CheckedQueue) → Sound (hashedOf q) → total (outstanding (q .queue .link)) ≤ allowance → Same q cs
-same [] q g t = record { calls = []; finals = refl; histories = refl; inside = t }
-same (c ∷ cs) q g t =
-    let l : LinkCall = linkCall q c in
-    let s : isSound (q .queue) ≡ true = sound-made (q .queue) (g .good .orderly) t in
-    let a : hashedOf (queueAfter q c) ≡ link.afterCall (hashedOf q) l = same-after q s c in
-    let h : Same (queueAfter q c) cs =
-    let k = stays q c g t in same cs (queueAfter q c) (k .0) (k .1) in
-    record {
-      calls = l ∷ h .calls;
-      finals = h .finals ∙ ap (λ (x : Hashed). link.final x (h .calls)) a;
-      histories = ap (λ (es : List Event). queueEvent q c ∷ es) (h .histories)
-          ∙ ap (λ (e : Event). e ∷ link.history (hashedOf (queueAfter q c)) (h .calls)) (same-event q s c)
-          ∙ ap (λ (x : Hashed). link.event (hashedOf q) l ∷ link.history x (h .calls)) a;
-      inside = h .inside;
-    }
+use Rattle.queue.proofs.QueueLaws.{at-23, Admitted, orderly-link}
+use Rattle.queue.proofs.CallLaws.{same-issue, issue-23, answer-23, drop-23}
+use Rattle.queue.proofs.PeerLaws.{hashes-long, common-four, opened-fits, opened-none, opened-sized, opened-peer}
+use Rattle.promises.specs.History.{Call, issue, answer, drop, PeerCall, isAccepted, queueAfter, queueEvent, queueFinal, FoundCall, callsOf, eventsOf}
+use Rattle.promises.specs.History.{windowAt, reached, askedOf, standingFor, Held, SameRuns, drops, among}
+use Rattle.promises.proofs.PeerRuns.{linkCalls, Well, well-sound, own, others-stay, well-after, well-final, PeerRun, next, callsBy, eventsBy, peer-run}
 
 -- an accepted opening
-module _ (window : ℕ) where
-  abbrev openedBy : Bool → Emptied
-  openedBy t = cond t (record { queue = record { link = emptyLink window }; verdict = Ruled.Accepted }) (record { queue = record { link = emptyLink 0 }; verdict = Ruled.Refused (atStart 22) })
 
-  accepted-is : (t : Bool) → openedBy t .verdict ≡ Ruled.Accepted → t ≡ true
-  accepted-is true e = refl
-  accepted-is false e = let z : _≡_ {A = ℕ} 0 1 = cc in absurd (omega arith)
+-- each window fits, and so does the default
+fits-at : (ws : List Window) (i : ℕ) → allFit ws ≡ true → windowFits (windowOf (getD ws i Default)) ≡ true
+fits-at [] i f = refl
+fits-at (w ∷ ws) zero f = both (windowFits (windowOf w)) (allFit ws) f .0
+fits-at (w ∷ ws) (suc i) f = fits-at ws i (both (windowFits (windowOf w)) (allFit ws) f .1)
 
-  abbrev start : CheckedQueue
-  start = checkedOpening window .queue
+module _ (ws : List Window) (four : length ws ≡ 4) (accepted : opening ws .verdict ≡ Ruled.Accepted) where
+  abbrev start : RequestQueue
+  start = opening ws .queue
 
-  opens-empty : opening window .verdict ≡ Ruled.Accepted → start .queue .link ≡ emptyLink window
-  opens-empty e = ap (λ (t : Bool). openedBy t .queue .link) (accepted-is (windowFits window) e)
+  opened-link : (p : ℕ) → isPeer p ≡ true → linkOf start p ≡ emptyLink (windowAt ws p)
+  opened-link p e = ap (λ (x : Hashed). x .link) (opened-peer ws accepted four p e)
 
-  opened : opening window .verdict ≡ Ruled.Accepted → Sound (hashedOf start) × (total (outstanding (start .queue .link)) ≤ allowance)
-  opened e =
-      let fits : windowFits window ≡ true = accepted-is (windowFits window) e in
-      let empty : start .queue .link ≡ emptyLink window = opens-empty e in
-      (record { good = subst Good (sym empty) (opened-good window fits); hashed = refl }, rw (ap outstanding empty) (omega arith))
+  pub opened-well : Well start
+  opened-well =
+      record {
+        sized = opened-sized ws accepted four;
+        sound = λ p e. record {
+          good = subst Good (sym (opened-link p e)) (opened-good (windowAt ws p) (fits-at ws (p - 1) (opened-fits ws accepted)));
+          hashed = hashes-long start (opened-sized ws accepted four) p e;
+        };
+        within = omega (arith, opened-none ws accepted);
+      }
 
-pub held : (window : ℕ) (calls : List Call) → opening window .verdict ≡ Ruled.Accepted → Held window calls
-held window calls e =
-    let q : CheckedQueue = checkedOpening window .queue in
-    let empty : q .queue .link ≡ emptyLink window = opens-empty window e in
-    let o = opened window e in
-    let none : askedOf q ≡ [] = ap (λ (l : Link). withHashes (outstanding l) noHashes) empty in
-    let h : Same q calls = same calls q (o .0) (o .1) in
-    let r = link-run (h .calls) (hashedOf q) (o .0) in
-    let p : CheckedQueue = queueFinal q calls in
-    let f : Link = p .queue .link in
-    let g : Good f = subst Sound (sym (h .finals)) (r .0) .good in
-    let exact : askedOf p ≡ standing (queueHistory q calls) =
-    ap askedIn (h .finals) ∙ r .1 ∙ ap (λ (l : List Asked). link.kept (link.history (hashedOf q) (h .calls)) l ++ standing (link.history (hashedOf q) (h .calls))) none
-    ∙ ap standing (sym (h .histories)) in
-    let s : Orderly f = orderly-facts f (g .orderly) in
-    let w : f .window ≡ window = ap (λ (x : Hashed). x .link .window) (h .finals) ∙ windows-kept (h .calls) (hashedOf q) ∙ ap (λ (x : Link). x .window) empty in
-    let long : length (askedOf p) ≡ f .count = length-asked (outstanding f) (p .hashes) ∙ length-take-le (f .count) (f .entries) (omega (arith, g .long)) in
-    let sum : totalAsked (askedOf p) ≡ total (outstanding f) = total-asked (outstanding f) (p .hashes) in
-    record {
-      exact = exact;
-      sound = sound-made (p .queue) (g .orderly) (h .inside);
-      counted = subst (λ (l : List Asked). length l ≤ window) exact (omega (arith, long, w, s .held));
-      summed = subst (λ (l : List Asked). totalAsked l ≤ allowance) exact (omega (arith, sum, h .inside));
-      ids = let es : List Event = link.history (hashedOf q) (h .calls) in
-          subst (λ (l : List Event). issuedIds l ≡ idsFrom 0 (length (issuedIds l))) (sym (h .histories))
-          (ids-follow (h .calls) (hashedOf q) ∙ ap (λ (x : Link). idsFrom (x .next) (length (issuedIds es))) empty);
-    }
+  module _ (cs : List PeerCall) where
+    abbrev end : RequestQueue
+    end = reached ws cs
 
--- a queue that is laid out after each call and taken up before the next goes the same way
+    pub ended : Well end
+    ended = well-final cs start opened-well
 
-lent-back : (q : CheckedQueue) → Good (q .queue .link) → queueIn (lentOf q) ≡ q
-lent-back q g = ap (λ (x : RequestQueue). record { queue = x; hashes = q .hashes }) (queue-back (q .queue) (g .long))
+    module _ (p : ℕ) (e : isPeer p ≡ true) where
+      abbrev told : List LinkCall
+      told = linkCalls (callsOf p start cs)
 
-lent-same : (cs : List Call) (q : CheckedQueue) → Sound (hashedOf q) → total (outstanding (q .queue .link)) ≤ allowance
-    → (lentFinal (lentOf q) cs ≡ lentOf (queueFinal q cs)) × (queueIn (lentFinal (lentOf q) cs) ≡ queueFinal q cs) × (lentHistory (lentOf q) cs ≡ queueHistory q cs)
-lent-same [] q g t = (refl, lent-back q (g .good), refl)
-lent-same (c ∷ cs) q g t =
-    let back : queueIn (lentOf q) ≡ q = lent-back q (g .good) in
-    let on : lentAfter (lentOf q) c ≡ lentOf (queueAfter q c) = ap (λ (x : CheckedQueue). lentOf (queueAfter x c)) back in
-    let k = stays q c g t in
-    let h = lent-same cs (queueAfter q c) (k .0) (k .1) in (
-      ap (λ (l : Lent). lentFinal l cs) on ∙ h .0,
-      ap (λ (l : Lent). queueIn (lentFinal l cs)) on ∙ h .1,
-      ap (λ (x : CheckedQueue). queueEvent x c ∷ lentHistory (lentAfter (lentOf q) c) cs) back ∙ ap (λ (l : Lent). queueEvent q c ∷ lentHistory l cs) on ∙ ap (λ (es : List Event). queueEvent q c ∷ es) (h .2),
-    )
+      run : PeerRun p start cs
+      run = peer-run p e cs start opened-well
 
-pub held-lent : (window : ℕ) (calls : List Call) → opening window .verdict ≡ Ruled.Accepted → HeldLent window calls
-held-lent window calls e =
-    let o = opened window e in
-    let w = lent-same calls (checkedOpening window .queue) (o .0) (o .1) in
-    record { lent = w .0; queue = w .1; events = w .2; exact = ap askedOf (w .1) ∙ held window calls e .exact ∙ ap standing (sym (w .2)) }
+      exactly : askedOf end p ≡ standingFor ws cs p
+      exactly =
+          ap askedIn (run .ends)
+          ∙ link-run told (peerOf start p) (opened-well .sound p e) .1
+          ∙ ap (λ (l : Link). link.kept (link.history (peerOf start p) told) (withHashes (outstanding l) (hashesOf start p)) ++ standing (link.history (peerOf start p) told)) (opened-link p e)
+          ∙ ap standing (sym (run .tells))
 
--- freed room can be issued again: wherever the count and the bytes allow, an issue is what writing alone gives
-pub issued-again : (q : RequestQueue) (b : List ℕ) (size : ℕ) → isSound q ≡ true → q .link .count < q .link .window → total (outstanding (q .link)) + size ≤ allowance
-    → issueOutcome q b size ≡ writing (message E.New) (q .link .next) 2 b
-issued-again q b size s below bytes =
-    let f : Orderly (q .link) = orderly-facts (q .link) (sound-facts q s .0) in
-    same-issue q s b size
-    ∙ simp (lt-leb (q .link .window) (q .link .count) below, lt-leb 16 (q .link .count) (omega arith), le-leb (total (outstanding (q .link)) + size) allowance bytes)
+      few : length (standingFor ws cs p) ≤ windowAt ws p
+      few =
+          let l : Link = linkOf end p in
+          let g : Good l = ended .sound p e .good in
+          let s : Orderly l = orderly-facts l (g .orderly) in
+          let n : length (askedOf end p) ≡ l .count = length-asked (outstanding l) (hashesOf end p) ∙ length-take-le (l .count) (l .entries) (omega (arith, g .long)) in
+          let w : l .window ≡ windowAt ws p = ap (λ (x : Hashed). x .link .window) (run .ends) ∙ windows-kept told (peerOf start p) ∙ ap (λ (x : Link). x .window) (opened-link p e) in
+          subst (λ (rs : List Asked). length rs ≤ windowAt ws p) exactly (omega (arith, n, w, s .held))
+
+      numbered : issuedIds (eventsOf p start cs) ≡ idsFrom 0 (length (issuedIds (eventsOf p start cs)))
+      numbered =
+          subst (λ (es : List Event). issuedIds es ≡ idsFrom 0 (length (issuedIds es))) (sym (run .tells))
+          (ids-follow told (peerOf start p) ∙ ap (λ (l : Link). idsFrom (l .next) (length (issuedIds (link.history (peerOf start p) told)))) (opened-link p e))
+
+      bytes : total (outstanding (linkOf end p)) ≡ totalAsked (standingFor ws cs p)
+      bytes = sym (total-asked (outstanding (linkOf end p)) (hashesOf end p)) ∙ ap totalAsked exactly
+
+    pub held : Held ws cs
+    held =
+        record {
+          exact = exactly;
+          counted = few;
+          ids = numbered;
+          summed = common-four end (ended .sized) ∙ rw (bytes 1 refl, bytes 2 refl, bytes 3 refl, bytes 4 refl) refl;
+          within = ended .within;
+          sound = well-sound end ended;
+        }
+
+-- a number that is no peer's is told 23 by any queue, which stays as it is
+pub no-peer-told : (q : RequestQueue) (p : ℕ) → isPeer p ≡ false
+    → ((b : List ℕ) (size : ℕ) → issueOutcome q p b size ≡ refuses 23 0)
+    × ((m : List ℕ) → answerOf q p m ≡ record { queue = q; arrival = A.Refused (atStart 23) }) × (dropOf q p ≡ record { queue = q; verdict = Ruled.Refused (atStart 23) })
+no-peer-told q p h = (issue-23 q p h, answer-23 q p h, drop-23 q p h)
+
+abbrev toldNo : Call → Event
+toldNo (issue r n o size i room) = issueWas 0 size i (refuses 23 0)
+toldNo (answer s) = answerWas (responseIn (messageIn E.New s)) (A.Refused (atStart 23))
+toldNo drop = dropWas false
+
+module _ (p : ℕ) (h : isPeer p ≡ false) where
+  no-event : (q : RequestQueue) (c : Call) → queueEvent q p c ≡ toldNo c
+  no-event q (issue r n o size i room) =
+      ap (λ (x : Outcome). issueWas (idOf q p) size i (inRoom room x)) (issue-23 q p h (requestBytes E.New r n o size i) size)
+      ∙ ap (λ (k : ℕ). issueWas k size i (refuses 23 0)) (at-23 p (linkOf q p .next) 0 h)
+  no-event q (answer s) = ap (λ (x : Answered). answerWas (responseIn (messageIn E.New s)) (x .arrival)) (answer-23 q p h s)
+  no-event q drop = ap (λ (x : Emptied). dropWas (isAccepted (x .verdict))) (drop-23 q p h)
+
+  no-events : (cs : List PeerCall) (q : RequestQueue) → eventsOf p q cs ≡ map (λ (c : FoundCall). toldNo (c .call)) (callsOf p q cs)
+  no-events [] q = refl
+  no-events (c ∷ cs) q = go (eqb (c .peer) p) refl (no-events cs (next q c))
+    where
+      go : (t : Bool) → eqb (c .peer) p ≡ t → eventsOf p (next q c) cs ≡ map (λ (k : FoundCall). toldNo (k .call)) (callsOf p (next q c) cs)
+          → eventsBy p c cs q t ≡ map (λ (k : FoundCall). toldNo (k .call)) (callsBy p c cs q t)
+      go true f ih =
+          ap (λ (i : ℕ). queueEvent q i (c .call) ∷ eventsOf p (next q c) cs) (eqb-true (c .peer) p f)
+          ∙ ap (λ (v : Event). v ∷ eventsOf p (next q c) cs) (no-event q (c .call))
+          ∙ ap (λ (vs : List Event). toldNo (c .call) ∷ vs) ih
+      go false f ih = ih
+
+-- two runs: the same window, the same calls, the same totals found, and so the same answers and written bytes
+
+-- from any two such queues in which the peer has the same link and hashes
+pub same-told : (p : ℕ) → isPeer p ≡ true → (q s : RequestQueue) → Well q → Well s → peerOf q p ≡ peerOf s p → (cs ds : List PeerCall)
+    → callsOf p q cs ≡ callsOf p s ds → eventsOf p q cs ≡ eventsOf p s ds
+same-told p e q s w v l cs ds a =
+    peer-run p e cs q w .tells
+    ∙ ap (λ (x : Hashed). link.history x (linkCalls (callsOf p q cs))) l
+    ∙ ap (λ (x : List FoundCall). link.history (peerOf s p) (linkCalls x)) a
+    ∙ sym (peer-run p e ds s v .tells)
+
+-- the number may be any, a peer's or not
+pub two-runs : (v w : List Window) → length v ≡ 4 → length w ≡ 4 → opening v .verdict ≡ Ruled.Accepted → opening w .verdict ≡ Ruled.Accepted
+    → (cs ds : List PeerCall) (p : ℕ) → SameRuns v w cs ds p → eventsOf p (opening v .queue) cs ≡ eventsOf p (opening w .queue) ds
+two-runs v w lv lw av aw cs ds p s = go (isPeer p) refl
+  where
+    go : (t : Bool) → isPeer p ≡ t → eventsOf p (opening v .queue) cs ≡ eventsOf p (opening w .queue) ds
+    go true e =
+        let alike : peerOf (opening v .queue) p ≡ peerOf (opening w .queue) p =
+        opened-peer v av lv p e ∙ ap (λ (k : ℕ). record { link = emptyLink k; hashes = hashesOf (unused []) p }) (s .window) ∙ sym (opened-peer w aw lw p e) in
+        same-told p e (opening v .queue) (opening w .queue) (opened-well v lv av) (opened-well w lw aw) alike cs ds (s .calls)
+    go false h =
+        no-events p h cs (opening v .queue) ∙ ap (map (λ (k : FoundCall). toldNo (k .call))) (s .calls) ∙ sym (no-events p h ds (opening w .queue))
+
+-- a drop frees the peer's requests, and no others (`others-stay`)
+pub drop-frees : (q : RequestQueue) → Well q → (p : ℕ) → isPeer p ≡ true → askedOf (queueAfter q p drop) p ≡ []
+drop-frees q w p e = ap askedIn (own q w p drop e)
+
+-- after a drop of every peer the whole allowance is free
+
+module _ (p : ℕ) (e : isPeer p ≡ true) where
+  abbrev gone : RequestQueue → Type 0
+  gone q = askedOf q p ≡ []
+
+  frees : (q : RequestQueue) → Well q → (s : ℕ) → eqb s p ≡ true → gone (queueAfter q s drop)
+  frees q w s f = subst (λ (i : ℕ). gone (queueAfter q i drop)) (sym (eqb-true s p f)) (drop-frees q w p e)
+
+  stays : (q : RequestQueue) → Well q → (s : ℕ) → gone q → gone (queueAfter q s drop)
+  stays q w s h = go (eqb s p) refl
+    where
+      go : (t : Bool) → eqb s p ≡ t → gone (queueAfter q s drop)
+      go true f = frees q w s f
+      go false f = ap askedIn (others-stay q w p s drop e (eqb-false s p f)) ∙ h
+
+  -- gone before, or dropped among them
+  dropped : (ps : List ℕ) (t : Bool) (q : RequestQueue) → Well q → (t ≡ true → gone q) → (t || among p ps) ≡ true → gone (queueFinal q (drops ps))
+  dropped [] true q w h a = h refl
+  dropped [] false q w h a = let z : _≡_ {A = ℕ} 0 1 = cc in absurd (omega arith)
+  dropped (s ∷ ps) true q w h a = dropped ps true (queueAfter q s drop) (well-after q w s drop) (λ z. stays q w s (h refl)) refl
+  dropped (s ∷ ps) false q w h a = dropped ps (eqb s p) (queueAfter q s drop) (well-after q w s drop) (frees q w s) a
+
+-- after any calls from an accepted opening, drops of any numbers in any order and as often as one likes, among which 1, 2, 3 and 4 stand
+pub whole-allowance-free : (ws : List Window) → length ws ≡ 4 → opening ws .verdict ≡ Ruled.Accepted → (cs : List PeerCall) (ps : List ℕ)
+    → among 1 ps ≡ true → among 2 ps ≡ true → among 3 ps ≡ true → among 4 ps ≡ true → common (queueFinal (reached ws cs) (drops ps) .links) ≡ 0
+whole-allowance-free ws four accepted cs ps a b c d =
+    common-four end (well-final (drops ps) (reached ws cs) begun .sized) ∙ rw (none 1 refl a, none 2 refl b, none 3 refl c, none 4 refl d) refl
+  where
+    begun : Well (reached ws cs)
+    begun = ended ws four accepted cs
+
+    end : RequestQueue
+    end = queueFinal (reached ws cs) (drops ps)
+
+    none : (p : ℕ) → isPeer p ≡ true → among p ps ≡ true → total (outstanding (linkOf end p)) ≡ 0
+    none p e f =
+        sym (total-asked (outstanding (linkOf end p)) (hashesOf end p))
+        ∙ ap totalAsked (dropped p e ps false (reached ws cs) begun (λ z. let y : _≡_ {A = ℕ} 0 1 = cc in absurd (omega arith)) f)
+
+-- free room can be issued by any peer whose window has a place: neither 16 nor 17 stands against it, and the writing alone decides
+pub anyone-may-issue : (q : RequestQueue) (p : ℕ) (b : List ℕ) (size : ℕ) → length (q .links) ≡ 4 → isPeer p ≡ true → isSound q ≡ true
+    → linkOf q p .count < linkOf q p .window → common (q .links) + size ≤ allowance → issueOutcome q p b size ≡ writing (message E.New) (linkOf q p .next) 2 b
+anyone-may-issue q p b size four e s below bytes =
+    let h : Admitted q p = record { peer = e; sound = s } in
+    let f : Orderly (linkOf q p) = orderly-facts (linkOf q p) (orderly-link q p h four) in
+    same-issue q p h b size
+    ∙ simp (lt-leb (linkOf q p .window) (linkOf q p .count) below, lt-leb 16 (linkOf q p .count) (omega (arith, below, f .high)), le-leb (common (q .links) + size) allowance bytes)

@@ -73,7 +73,7 @@ module _ (ed : Edition) where
           end-is = refl;
         }
 
-    response-fields : {l : List ℕ} → Reads response s 4 (taken l next) → ResponseFields s (responseSpan l next) l next
+    pub response-fields : {l : List ℕ} → Reads response s 4 (taken l next) → ResponseFields s (responseSpan l next) l next
     response-fields h = record { data-is = string-there h; end-is = refl }
 
     options-fields : {l : List KeyValue} → IsBytes s → Reads (body ed isOptions) s 4 (taken l next) → OptionsFields s (optionsSpan l next) l next

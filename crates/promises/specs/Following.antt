@@ -23,7 +23,7 @@ pub record Unchanged (s t : List ℕ) : Type 0 where
   pub reading : messageIn E.New (s ++ t) ≡ messageIn E.New s
   pub turning : downgrading (s ++ t) ≡ downgrading s
   pub accepting : (old repository : List ℕ) → acceptOutcome old (s ++ t) repository ≡ acceptOutcome old s repository
-  pub answering : (q : RequestQueue) → answerOf q (messageIn E.New (s ++ t)) ≡ answerOf q (messageIn E.New s)
+  pub answering : (q : RequestQueue) (peer : ℕ) → answerOf q peer (s ++ t) ≡ answerOf q peer s
   pub serving : (table repository : List ℕ) → rulingOf table repository (s ++ t) ≡ rulingOf table repository s
 
 -- those that are given an old one too

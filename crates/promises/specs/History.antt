@@ -1,9 +1,10 @@
--- Calls on a queue in a row, each given the queue that the one before handed back, and what holds after them; events are as in link's History.
-use Prim.Native.Nat.{ℕ, _≤_}
-use mathlib.Core.Bool.{Bool, true, false, cond}
+-- Calls for peers in a row on one queue, each given the queue that the one before handed back, the part that one peer has in them, and what holds after
+-- them; events are as in link's History.
+use Prim.Native.Nat.{ℕ, _+_, _-_, _≤_}
+use mathlib.Core.Bool.{Bool, true, false, cond, _||_}
 use mathlib.Core.List.{List, [], _∷_}
 use mathlib.Core.Path.{_≡_}
-use lib.ListN.{length}
+use lib.ListN.{length, getD}
 use lib.Dec.{eqb}
 use Rattle.xdr.specs.Filling.{inRoom}
 use Rattle.message.specs.Answers.{messageIn, spanBytes}
@@ -15,70 +16,107 @@ use Rattle.message.specs.declared.edition.Edition.the-variants as E
 use Rattle.message_write.specs.Writing.{requestBytes}
 use Rattle.order.specs.Order.{isEqual, compareLists}
 use Rattle.sha256.specs.Hash.{digest}
-use Rattle.link.specs.OneLink.{issuedLink}
-use Rattle.link.specs.Hashes.{Asked, asked, totalAsked, hashesIssued}
+use Rattle.link.specs.Hashes.{Asked, asked, totalAsked}
 use Rattle.link.specs.History.{Event, issueWas, answerWas, dropWas, standing, issuedIds, idsFrom}
 use Rattle.link.specs.declared.outcome.Arrival.{Arrival}
 use Rattle.link.specs.declared.outcome.Arrival.the-variants as A
-use Rattle.queue.specs.Queue.{allowance, isSound, issueOutcome}
-use Rattle.queue.specs.Checked.{checkedOpening, checkedAnswer, checkedDrop}
-use Rattle.queue.specs.declared.checked.CheckedQueue.{CheckedQueue}
+use Rattle.queue.specs.Queue.{allowance, windowOf, opening, isPeer, linkOf, hashesOf, common, isSound, issueOutcome, issuedQueue, idOf, answerOf, dropOf}
+use Rattle.queue.specs.declared.window.Window.{Window}
+use Rattle.queue.specs.declared.window.Window.the-variants.{Default}
+use Rattle.queue.specs.declared.queue.RequestQueue.{RequestQueue}
 use Rattle.queue.specs.declared.outcome.Verdict.{Verdict}
 use Rattle.queue.specs.declared.outcome.Verdict.the-variants as Ruled
-use Rattle.bep.specs.Queues.{wordsOf, checkedOf}
 
--- a call, with what it is given besides the queue: of a buffer, its length
+-- a call, with what it is given besides the queue and the peer: of a buffer, its length
 pub data Call : Type 0 where
   issue : (repository name : List ℕ) (offset size : ℕ) (hash : List ℕ) (room : ℕ) → Call
   answer : (bytes : List ℕ) → Call
   drop : Call
+
+-- a call for a peer, which may be any number
+pub record PeerCall : Type 0 where
+  pub peer : ℕ
+  pub call : Call
 
 -- whether a drop was accepted
 abbrev pub isAccepted : Verdict → Bool
 isAccepted Ruled.Accepted = true
 isAccepted (Ruled.Refused r) = false
 
--- the queue that a call hands back
-abbrev pub queueAfter : CheckedQueue → Call → CheckedQueue
-queueAfter q (issue r n o size h room) =
-    record {
-      queue = record { link = issuedLink (q .queue .link) size (inRoom room (issueOutcome (q .queue) (requestBytes E.New r n o size h) size)) };
-      hashes = hashesIssued (q .hashes) (q .queue .link .count) h (inRoom room (issueOutcome (q .queue) (requestBytes E.New r n o size h) size));
-    }
-queueAfter q (answer s) = checkedAnswer q s .queue
-queueAfter q drop = checkedDrop q .queue
+-- the queue that a call for a peer hands back
+abbrev pub queueAfter : RequestQueue → (peer : ℕ) → Call → RequestQueue
+queueAfter q p (issue r n o size h room) = issuedQueue q p size h (inRoom room (issueOutcome q p (requestBytes E.New r n o size h) size))
+queueAfter q p (answer s) = answerOf q p s .queue
+queueAfter q p drop = dropOf q p .queue
 
--- the event of a call; an issue's ID is the one that it hands back (`Issues.id`, link's OneLink)
-abbrev pub queueEvent : CheckedQueue → Call → Event
-queueEvent q (issue r n o size h room) = issueWas (q .queue .link .next) size h (inRoom room (issueOutcome (q .queue) (requestBytes E.New r n o size h) size))
-queueEvent q (answer s) = answerWas (responseIn (messageIn E.New s)) (checkedAnswer q s .arrival)
-queueEvent q drop = dropWas (isAccepted (checkedDrop q .verdict))
+-- the event of a call for a peer: what it is answered, and the bytes written; an issue's ID is the one that it hands back (`PeerIssues.id`, queue's Queue)
+abbrev pub queueEvent : RequestQueue → (peer : ℕ) → Call → Event
+queueEvent q p (issue r n o size h room) = issueWas (idOf q p) size h (inRoom room (issueOutcome q p (requestBytes E.New r n o size h) size))
+queueEvent q p (answer s) = answerWas (responseIn (messageIn E.New s)) (answerOf q p s .arrival)
+queueEvent q p drop = dropWas (isAccepted (dropOf q p .verdict))
 
 -- the queue after some calls
-abbrev pub queueFinal : CheckedQueue → List Call → CheckedQueue
+abbrev pub queueFinal : RequestQueue → List PeerCall → RequestQueue
 queueFinal q [] = q
-queueFinal q (c ∷ cs) = queueFinal (queueAfter q c) cs
+queueFinal q (c ∷ cs) = queueFinal (queueAfter q (c .peer) (c .call)) cs
 
--- the events of some calls
-abbrev pub queueHistory : CheckedQueue → List Call → List Event
-queueHistory q [] = []
-queueHistory q (c ∷ cs) = queueEvent q c ∷ queueHistory (queueAfter q c) cs
+-- a peer's call, and the total that it finds before it
+pub record FoundCall : Type 0 where
+  pub found : ℕ
+  pub call : Call
 
--- the requests that a queue holds, with the hashes asked for, the oldest first
-abbrev pub askedOf : CheckedQueue → List Asked
-askedOf q = asked (q .queue .link) (q .hashes)
+-- the calls of one peer, in order, each with the total that it finds
+abbrev pub callsOf : (peer : ℕ) → RequestQueue → List PeerCall → List FoundCall
+callsOf p q [] = []
+callsOf p q (c ∷ cs) =
+    cond (eqb (c .peer) p)
+    (record { found = common (q .links); call = c .call } ∷ callsOf p (queueAfter q (c .peer) (c .call)) cs)
+    (callsOf p (queueAfter q (c .peer) (c .call)) cs)
+
+-- the events of one peer's calls, in order
+abbrev pub eventsOf : (peer : ℕ) → RequestQueue → List PeerCall → List Event
+eventsOf p q [] = []
+eventsOf p q (c ∷ cs) =
+    cond (eqb (c .peer) p)
+    (queueEvent q (c .peer) (c .call) ∷ eventsOf p (queueAfter q (c .peer) (c .call)) cs)
+    (eventsOf p (queueAfter q (c .peer) (c .call)) cs)
+
+-- the window that an opening gives a peer
+abbrev pub windowAt : List Window → (peer : ℕ) → ℕ
+windowAt ws p = windowOf (getD ws (p - 1) Default)
+
+-- the queue after some calls from an opening
+abbrev pub reached : List Window → List PeerCall → RequestQueue
+reached ws cs = queueFinal (opening ws .queue) cs
+
+-- the requests that a queue holds for a peer, with the hashes asked for, the oldest first
+abbrev pub askedOf : RequestQueue → (peer : ℕ) → List Asked
+askedOf q p = asked (linkOf q p) (hashesOf q p)
+
+-- the requests issued for a peer after an opening and since then neither answered nor dropped for it
+abbrev pub standingFor : List Window → List PeerCall → (peer : ℕ) → List Asked
+standingFor ws cs p = standing (eventsOf p (opening ws .queue) cs)
 
 -- what holds after any calls from an accepted opening
-pub record Held (window : ℕ) (calls : List Call) : Type 0 where
-  -- the queue holds exactly the requests issued and since then neither answered nor dropped, each with its hash
-  pub exact : askedOf (queueFinal (checkedOpening window .queue) calls) ≡ standing (queueHistory (checkedOpening window .queue) calls)
-  -- it is sound
-  pub sound : isSound (queueFinal (checkedOpening window .queue) calls .queue) ≡ true
-  -- so their number is within the window, and their bytes within the allowance
-  pub counted : length (standing (queueHistory (checkedOpening window .queue) calls)) ≤ window
-  pub summed : totalAsked (standing (queueHistory (checkedOpening window .queue) calls)) ≤ allowance
-  -- the IDs issued are 0, 1, 2 and so on, and 0 again after 4095
-  pub ids : issuedIds (queueHistory (checkedOpening window .queue) calls) ≡ idsFrom 0 (length (issuedIds (queueHistory (checkedOpening window .queue) calls)))
+pub record Held (windows : List Window) (calls : List PeerCall) : Type 0 where
+  -- each peer's list is exactly the requests issued for it and since then neither answered nor dropped for it, each with its hash
+  pub exact : (p : ℕ) → isPeer p ≡ true → askedOf (reached windows calls) p ≡ standingFor windows calls p
+  -- their number is within the peer's window
+  pub counted : (p : ℕ) → isPeer p ≡ true → length (standingFor windows calls p) ≤ windowAt windows p
+  -- the IDs issued for a peer are 0, 1, 2 and so on, and 0 again after 4095
+  pub ids : (p : ℕ) → isPeer p ≡ true
+      → issuedIds (eventsOf p (opening windows .queue) calls) ≡ idsFrom 0 (length (issuedIds (eventsOf p (opening windows .queue) calls)))
+  -- the total is the sum of the Lengths over all four lists, and within the allowance
+  pub summed : common (reached windows calls .links)
+      ≡ totalAsked (standingFor windows calls 1) + (totalAsked (standingFor windows calls 2) + (totalAsked (standingFor windows calls 3) + totalAsked (standingFor windows calls 4)))
+  pub within : common (reached windows calls .links) ≤ allowance
+  -- the queue is sound
+  pub sound : isSound (reached windows calls) ≡ true
+
+-- two runs from openings in which a peer has the same window, makes the same calls in the same order, and finds the same total before each
+pub record SameRuns (v w : List Window) (cs ds : List PeerCall) (peer : ℕ) : Type 0 where
+  pub window : windowAt v peer ≡ windowAt w peer
+  pub calls : callsOf peer (opening v .queue) cs ≡ callsOf peer (opening w .queue) ds
 
 -- data with the Length and the hash that a request asked for
 pub record Answers (r : Asked) (id size : ℕ) (d : Span) (message : List ℕ) : Type 0 where
@@ -101,58 +139,27 @@ broughtTo r m d =
     (cond (eqb (d .length) (r .size)) (cond (isEqual (compareLists (digest (spanBytes m d)) (r .hash))) (A.Data (r .id) (r .size) d) (A.WrongContent (r .id) (r .size)))
     (A.WrongSize (r .id) (r .size)))
 
--- what an answer brings after any calls from an accepted opening, by the oldest of the requests issued and since then neither answered nor dropped
-pub record Brought (window : ℕ) (calls : List Call) (message : List ℕ) : Type 0 where
+-- what an answer from a peer brings after any calls from an accepted opening, by the oldest of the requests issued for it and since then neither
+-- answered nor dropped for it
+pub record Brought (windows : List Window) (calls : List PeerCall) (peer : ℕ) (message : List ℕ) : Type 0 where
   -- a Response to it brings exactly this
-  pub brings : (r : Asked) (rs : List Asked) (x : ResponseSpan) → standing (queueHistory (checkedOpening window .queue) calls) ≡ r ∷ rs
-      → responseIn (messageIn E.New message) ≡ P.Taken (r .id) x
-      → checkedAnswer (queueFinal (checkedOpening window .queue) calls) message .arrival ≡ broughtTo r message (x .«data»)
+  pub brings : (r : Asked) (rs : List Asked) (x : ResponseSpan) → standingFor windows calls peer ≡ r ∷ rs → responseIn (messageIn E.New message) ≡ P.Taken (r .id) x
+      → answerOf (reached windows calls) peer message .arrival ≡ broughtTo r message (x .«data»)
   -- so data are those of the Response to it, as long as asked, with the hash asked for
-  pub right : (id size : ℕ) (d : Span) → checkedAnswer (queueFinal (checkedOpening window .queue) calls) message .arrival ≡ A.Data id size d
-      → (r : Asked) × (rs : List Asked) × (x : ResponseSpan) × (standing (queueHistory (checkedOpening window .queue) calls) ≡ r ∷ rs)
+  pub right : (id size : ℕ) (d : Span) → answerOf (reached windows calls) peer message .arrival ≡ A.Data id size d
+      → (r : Asked) × (rs : List Asked) × (x : ResponseSpan) × (standingFor windows calls peer ≡ r ∷ rs)
       × (responseIn (messageIn E.New message) ≡ P.Taken id x) × (x .«data» ≡ d) × Answers r id size d message
   -- and wrong content is data as long as asked with another hash
-  pub wrong : (id size : ℕ) → checkedAnswer (queueFinal (checkedOpening window .queue) calls) message .arrival ≡ A.WrongContent id size
-      → (r : Asked) × (rs : List Asked) × (x : ResponseSpan) × (standing (queueHistory (checkedOpening window .queue) calls) ≡ r ∷ rs)
+  pub wrong : (id size : ℕ) → answerOf (reached windows calls) peer message .arrival ≡ A.WrongContent id size
+      → (r : Asked) × (rs : List Asked) × (x : ResponseSpan) × (standingFor windows calls peer ≡ r ∷ rs)
       × (responseIn (messageIn E.New message) ≡ P.Taken id x) × Differs r id size (x .«data») message
 
--- the same of a queue that a host lends as words and hashes, and gets back so, from call to call: what it takes up is the queue, so that all of the
--- above is said of it
+-- drops for some numbers, one after the other
+abbrev pub drops : List ℕ → List PeerCall
+drops [] = []
+drops (p ∷ ps) = record { peer = p; call = drop } ∷ drops ps
 
--- a queue as it is lent
-pub record Lent : Type 0 where
-  pub words : List ℕ
-  pub hashes : List ℕ
-
--- a queue laid out, and taken up
-abbrev pub lentOf : CheckedQueue → Lent
-lentOf q = record { words = wordsOf (q .queue); hashes = q .hashes }
-
-abbrev pub queueIn : Lent → CheckedQueue
-queueIn l = checkedOf (l .words) (l .hashes)
-
--- what an opening fills in, by its contract
-abbrev pub lentOpened : (window : ℕ) → Lent
-lentOpened window = lentOf (checkedOpening window .queue)
-
--- what a call hands back, by the contract of each
-abbrev pub lentAfter : Lent → Call → Lent
-lentAfter l c = lentOf (queueAfter (queueIn l) c)
-
--- after some calls
-abbrev pub lentFinal : Lent → List Call → Lent
-lentFinal l [] = l
-lentFinal l (c ∷ cs) = lentFinal (lentAfter l c) cs
-
--- the events of some calls
-abbrev pub lentHistory : Lent → List Call → List Event
-lentHistory l [] = []
-lentHistory l (c ∷ cs) = queueEvent (queueIn l) c ∷ lentHistory (lentAfter l c) cs
-
--- what holds after any calls from an accepted opening: what is lent is the queue laid out, and the events are its events
-pub record HeldLent (window : ℕ) (calls : List Call) : Type 0 where
-  pub lent : lentFinal (lentOpened window) calls ≡ lentOf (queueFinal (checkedOpening window .queue) calls)
-  pub queue : queueIn (lentFinal (lentOpened window) calls) ≡ queueFinal (checkedOpening window .queue) calls
-  pub events : lentHistory (lentOpened window) calls ≡ queueHistory (checkedOpening window .queue) calls
-  -- so it holds exactly the requests issued and since then neither answered nor dropped, each with its hash
-  pub exact : askedOf (queueIn (lentFinal (lentOpened window) calls)) ≡ standing (lentHistory (lentOpened window) calls)
+-- a number is among some
+abbrev pub among : ℕ → List ℕ → Bool
+among p [] = false
+among p (s ∷ ps) = eqb s p || among p ps

@@ -3,6 +3,7 @@ pub mod Vectors
 pub mod Memory
 pub mod Merges
 pub mod History
+pub mod LentHistory
 pub mod RequestList
 pub mod Why
 pub mod Details

@@ -1,4 +1,5 @@
--- Laws of queues.
+pub mod ShareLaws
 pub mod QueueLaws
-pub mod CheckedLaws
+pub mod CallLaws
+pub mod PeerLaws
 pub mod Unchanged

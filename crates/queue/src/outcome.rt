@@ -1,8 +1,6 @@
 // What a call hands back: the queue, and what came of the call.
-use crate::checked::CheckedQueue;
 use crate::queue::RequestQueue;
 use link::Arrival;
-use link::Release;
 use xdr::Filling;
 use xdr::Refusal;
 
@@ -25,25 +23,8 @@ pub struct Issued {
     pub filling: Filling,
 }
 
-// The queue after an answer.
+// The queue after an answer, and what it brought.
 pub struct Answered {
     pub queue: RequestQueue,
-    pub release: Release,
-}
-
-// The same of a queue with its hashes.
-pub struct CheckedEmptied {
-    pub queue: CheckedQueue,
-    pub verdict: Verdict,
-}
-
-pub struct CheckedIssued {
-    pub queue: CheckedQueue,
-    pub id: u32,
-    pub filling: Filling,
-}
-
-pub struct CheckedAnswered {
-    pub queue: CheckedQueue,
     pub arrival: Arrival,
 }

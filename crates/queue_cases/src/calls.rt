@@ -1,77 +1,27 @@
 // The calls, each with its line.
-use link::Arrival;
-use queue::CheckedQueue;
-use queue::Verdict;
+use crate::line;
+use queue::RequestQueue;
+use queue::Window;
 use xdr::Filling;
 
-// What is outstanding, and the end of the line.
-fn outstanding(checked: CheckedQueue) {
-    let q = checked.queue;
-    lines::text(b"; outstanding ");
-    lines::number(q.outstanding() as u64);
-    lines::text(b" of ");
-    lines::number(q.outstanding_bytes());
-    lines::text(b" bytes\n");
-}
-
-fn verdict(o: Verdict) {
-    match o {
-        Verdict::Accepted => lines::text(b"made"),
-        Verdict::Refused(r) => refused(r.number, r.place),
-    }
-}
-
-fn refused(number: u32, place: usize) {
-    lines::text(b"refused ");
-    lines::number(number as u64);
-    lines::text(b" at ");
-    lines::number(place as u64);
-}
-
-// No window is stated.
-pub fn open() -> CheckedQueue {
-    lines::text(b"open: ");
-    let d = CheckedQueue::open();
+pub fn open(windows: [Window; 4]) -> RequestQueue {
+    line::opening(windows);
+    let d = RequestQueue::open(windows);
     let o = d.verdict;
-    verdict(o);
+    line::verdict(o);
     let q = d.queue;
-    outstanding(q);
+    line::opened(q);
     q
 }
 
-pub fn open_with(window: u32) -> CheckedQueue {
-    lines::text(b"open with window ");
-    lines::number(window as u64);
-    lines::text(b": ");
-    let d = CheckedQueue::open_with(window);
+pub fn drop_link(q: RequestQueue, peer: u32) -> RequestQueue {
+    line::call(peer, b" drop: ");
+    let d = q.drop_link(peer);
     let o = d.verdict;
-    verdict(o);
+    line::verdict(o);
     let q = d.queue;
-    outstanding(q);
+    line::outstanding(q, peer);
     q
-}
-
-pub fn drop_link(q: CheckedQueue) -> CheckedQueue {
-    lines::text(b"drop: ");
-    let d = q.drop_link();
-    let o = d.verdict;
-    verdict(o);
-    let q = d.queue;
-    outstanding(q);
-    q
-}
-
-fn issued(id: u32, w: Filling) {
-    match w {
-        Filling::Filled(n) => {
-            lines::text(b"ID ");
-            lines::number(id as u64);
-            lines::text(b" in ");
-            lines::number(n as u64);
-            lines::text(b" bytes");
-        }
-        Filling::Refused(r) => refused(r.number, r.place),
-    }
 }
 
 // The hash of so many bytes 0xd7, which `answer` brings. More than 16 are never answered with data: for those it is any hash.
@@ -85,8 +35,13 @@ fn asked(size: u32) -> [u8; 32] {
 }
 
 // Asks for the first bytes of the file "a" in the repository "r".
-pub fn issue(q: CheckedQueue, size: u32, room: usize) -> CheckedQueue {
-    lines::text(b"issue ");
+pub fn issue(q: RequestQueue, peer: u32, size: u32) -> RequestQueue {
+    issue_into(q, peer, size, 68)
+}
+
+// The same with so much room for the Request, which is 68 bytes long.
+pub fn issue_into(q: RequestQueue, peer: u32, size: u32, room: usize) -> RequestQueue {
+    line::call(peer, b" issue ");
     lines::number(size as u64);
     lines::text(b" bytes: ");
     let mut out = [0u8; 68];
@@ -94,51 +49,34 @@ pub fn issue(q: CheckedQueue, size: u32, room: usize) -> CheckedQueue {
         return q;
     }
     let hash = asked(size);
-    let d = q.issue(b"r", b"a", 0, size, &hash, &mut out[0..room]);
+    let d = q.issue(peer, b"r", b"a", 0, size, &hash, &mut out[0..room]);
     let w = d.filling;
-    issued(d.id, w);
+    line::issued(d.id, w);
     let q = d.queue;
-    outstanding(q);
+    line::outstanding(q, peer);
     q
 }
 
-fn arrival(o: Arrival) {
-    match o {
-        Arrival::Data { id, size, data: d } => {
-            request(b"data", id, size);
-            lines::text(b" at ");
-            lines::number(d.start as u64);
-        }
-        Arrival::NotAvailable { id, size } => request(b"not available", id, size),
-        Arrival::WrongSize { id, size } => request(b"wrong size", id, size),
-        Arrival::WrongContent { id, size } => request(b"wrong content", id, size),
-        Arrival::Refused(r) => refused(r.number, r.place),
-    }
+// Two requests of one Length.
+pub fn twice(q: RequestQueue, peer: u32, size: u32) -> RequestQueue {
+    let q = issue(q, peer, size);
+    issue(q, peer, size)
 }
 
-fn request(outcome: &[u8], id: u32, size: u32) {
-    lines::text(outcome);
-    lines::text(b" for ID ");
-    lines::number(id as u64);
-    lines::text(b" of ");
-    lines::number(size as u64);
-    lines::text(b" bytes");
-}
-
-pub fn message(q: CheckedQueue, s: &[u8]) -> CheckedQueue {
-    lines::text(b"answer ");
+pub fn message(q: RequestQueue, peer: u32, s: &[u8]) -> RequestQueue {
+    line::call(peer, b" answer ");
     lines::bytes(s);
     lines::text(b": ");
-    let d = q.answer(s);
+    let d = q.answer(peer, s);
     let o = d.arrival;
-    arrival(o);
+    line::arrival(o);
     let q = d.queue;
-    outstanding(q);
+    line::outstanding(q, peer);
     q
 }
 
 // A Response with so many bytes of data, up to 16.
-fn response(q: CheckedQueue, id: u32, n: usize, byte: u8) -> CheckedQueue {
+fn response(q: RequestQueue, peer: u32, id: u32, n: usize, byte: u8) -> RequestQueue {
     if 16 < n {
         return q;
     }
@@ -150,42 +88,42 @@ fn response(q: CheckedQueue, id: u32, n: usize, byte: u8) -> CheckedQueue {
     if 24 < m {
         return q;
     }
-    message(q, &out[0..m])
+    message(q, peer, &out[0..m])
 }
 
 // The bytes that were asked for, where they are as many.
-pub fn answer(q: CheckedQueue, id: u32, n: usize) -> CheckedQueue {
-    response(q, id, n, 0xd7)
+pub fn answer(q: RequestQueue, peer: u32, id: u32, n: usize) -> RequestQueue {
+    response(q, peer, id, n, 0xd7)
 }
 
 // Other bytes.
-pub fn answer_otherwise(q: CheckedQueue, id: u32, n: usize) -> CheckedQueue {
-    response(q, id, n, 0xd6)
+pub fn answer_otherwise(q: RequestQueue, peer: u32, id: u32, n: usize) -> RequestQueue {
+    response(q, peer, id, n, 0xd6)
 }
 
 // Issues and answers, without lines.
-pub fn pairs(q: CheckedQueue, times: u32) -> CheckedQueue {
+pub fn pairs(q: RequestQueue, peer: u32, times: u32) -> RequestQueue {
     let mut queue = q;
     for _ in 0..times {
-        queue = pair(queue);
+        queue = pair(queue, peer);
     }
     queue
 }
 
-fn pair(q: CheckedQueue) -> CheckedQueue {
+fn pair(q: RequestQueue, peer: u32) -> RequestQueue {
     let mut out = [0u8; 68];
-    let d = q.issue(b"r", b"a", 0, 5, &[0xa7u8; 32], &mut out);
+    let d = q.issue(peer, b"r", b"a", 0, 5, &[0xa7u8; 32], &mut out);
     let q = d.queue;
     let w = d.filling;
     let Filling::Filled(_) = w else {
         return q;
     };
-    answered(q, d.id)
+    answered(q, peer, d.id)
 }
 
-fn answered(q: CheckedQueue, id: u32) -> CheckedQueue {
+fn answered(q: RequestQueue, peer: u32, id: u32) -> RequestQueue {
     let mut out = [0u8; 8];
     message_write::write_response(&mut out, id, b"");
-    let d = q.answer(&out);
+    let d = q.answer(peer, &out);
     d.queue
 }

@@ -195,30 +195,115 @@ static int tables(void)
     return 0;
 }
 
-/* Issues five requests of the largest Length, of which the first four pass; what the fifth gives. */
-static uint32_t five_blocks(uint32_t queue[BEP_QUEUE_WORDS], uint8_t hashes[BEP_QUEUE_HASHES])
+/* Issues a Request to a peer, with this Length; the other fields don't matter. */
+static uint32_t issue(uint32_t queue[BEP_QUEUE_WORDS], uint8_t hashes[BEP_QUEUE_HASHES],
+                      uint32_t peer, uint32_t size, uint64_t issued[BEP_ISSUED_WORDS])
 {
     const uint8_t name[1] = {'a'};
     const uint8_t hash[32] = {9};
     uint8_t out[68];
-    uint64_t issued[BEP_ISSUED_WORDS];
-    for (uint32_t i = 0; i < 4; i++)
-        if (bep_queue_issue(out, 68, queue, hashes, name, 1, name, 1, 0, BEP_MAX_BLOCK, hash, 32,
-                            issued) != 0
-            || issued[BEP_ISSUED_ID] != i)
-            return BEP_ACCEPTED;
-    return bep_queue_issue(out, 68, queue, hashes, name, 1, name, 1, 0, BEP_MAX_BLOCK, hash, 32,
+
+    return bep_queue_issue(out, 68, queue, hashes, peer, name, 1, name, 1, 0, size, hash, 32,
                            issued);
 }
 
-/* Requests of a link, by its window of two. */
+/* Issues five requests of the largest Length. Four pass; what the fifth gives is returned. */
+static uint32_t five_blocks(uint32_t queue[BEP_QUEUE_WORDS], uint8_t hashes[BEP_QUEUE_HASHES],
+                            uint32_t peer)
+{
+    uint64_t issued[BEP_ISSUED_WORDS];
+
+    for (uint32_t i = 0; i < 4; i++)
+        if (issue(queue, hashes, peer, BEP_MAX_BLOCK, issued) != 0 || issued[BEP_ISSUED_ID] != i)
+            return BEP_ACCEPTED;
+    return issue(queue, hashes, peer, BEP_MAX_BLOCK, issued);
+}
+
+/* The windows of an opening: stated, default, or not among those there are. */
+static int openings(void)
+{
+    const uint32_t windows[BEP_PEERS] = {17, BEP_MAX_WINDOW, 2, 0};
+    uint32_t queue[BEP_QUEUE_WORDS];
+    uint8_t hashes[BEP_QUEUE_HASHES];
+
+    CHECK(BEP_QUEUE_WORDS == BEP_PEERS * BEP_QUEUE_PEER_WORDS);
+    CHECK(BEP_QUEUE_HASHES == BEP_PEERS * BEP_QUEUE_PEER_HASHES);
+    CHECK(BEP_STATED_ALL == (BEP_STATED_1 | BEP_STATED_2 | BEP_STATED_3 | BEP_STATED_4));
+    memset(hashes, 0xA7, sizeof hashes);
+    CHECK(bep_queue_open(queue, hashes, windows, BEP_STATED_1 | BEP_STATED_2)
+          == BEP_REFUSED_UNSOUND);
+    for (int i = 0; i < BEP_QUEUE_WORDS; i++)
+        CHECK(queue[i] == 0);
+    CHECK(hashes[0] == 0 && hashes[BEP_QUEUE_HASHES - 1] == 0);
+    CHECK(bep_queue_drop(queue, hashes, 2) == BEP_REFUSED_UNSOUND);
+    CHECK(bep_queue_drop(queue, hashes, 5) == BEP_REFUSED_NO_SUCH_PEER);
+    CHECK(bep_queue_open(queue, hashes, windows, BEP_STATED_ALL) == BEP_REFUSED_UNSOUND);
+    CHECK(bep_queue_open(queue, hashes, windows, BEP_STATED_4) == BEP_REFUSED_UNSOUND);
+
+    /* No window stated: after four requests the fifth gives 16, and with 16 stated it gives 17. */
+    CHECK(bep_queue_open(queue, hashes, windows, BEP_STATED_NONE) == 0);
+    CHECK(queue[BEP_QUEUE_WINDOW] == 4);
+    CHECK(queue[3 * BEP_QUEUE_PEER_WORDS + BEP_QUEUE_WINDOW] == 4);
+    CHECK(five_blocks(queue, hashes, 4) == BEP_REFUSED_WINDOW_FULL);
+    CHECK(bep_queue_open(queue, hashes, windows, BEP_STATED_2 | BEP_STATED_3 | 16) == 0);
+    CHECK(queue[BEP_QUEUE_WINDOW] == 4);
+    CHECK(queue[BEP_QUEUE_PEER_WORDS + BEP_QUEUE_WINDOW] == 16);
+    CHECK(queue[2 * BEP_QUEUE_PEER_WORDS + BEP_QUEUE_WINDOW] == 2);
+    CHECK(five_blocks(queue, hashes, 2) == BEP_REFUSED_ALLOWANCE_FULL);
+    return 0;
+}
+
+/* Four peers that have their own IDs and windows, and share the allowance. */
+static int peers(void)
+{
+    const uint32_t windows[BEP_PEERS] = {1, 1, 1, 2};
+    uint32_t queue[BEP_QUEUE_WORDS];
+    uint8_t hashes[BEP_QUEUE_HASHES];
+    uint64_t issued[BEP_ISSUED_WORDS];
+    uint64_t totals[BEP_TOTALS_WORDS];
+
+    CHECK(bep_queue_open(queue, hashes, windows, BEP_STATED_ALL) == 0);
+    for (uint32_t peer = 1; peer <= BEP_PEERS; peer++) {
+        CHECK(issue(queue, hashes, peer, BEP_MAX_BLOCK - peer, issued) == 0);
+        CHECK(issued[BEP_ISSUED_ID] == 0);
+        CHECK(hashes[(peer - 1) * BEP_QUEUE_PEER_HASHES] == 9);
+    }
+    CHECK(bep_queue_totals(queue, totals) == 0);
+    CHECK(totals[BEP_TOTALS_COUNT] == 4);
+    CHECK(totals[BEP_TOTALS_BYTES] == 4 * BEP_MAX_BLOCK - 10);
+    for (uint32_t peer = 1; peer <= BEP_PEERS; peer++) {
+        const uint64_t *own = totals + peer * BEP_TOTALS_EACH;
+
+        CHECK(own[BEP_TOTALS_COUNT] == 1 && own[BEP_TOTALS_BYTES] == BEP_MAX_BLOCK - peer);
+    }
+    CHECK(issue(queue, hashes, 3, 1, issued) == BEP_REFUSED_WINDOW_FULL);
+    CHECK(issue(queue, hashes, 4, 11, issued) == BEP_REFUSED_ALLOWANCE_FULL);
+    CHECK(issue(queue, hashes, 0, 1, issued) == BEP_REFUSED_NO_SUCH_PEER);
+    CHECK(issued[BEP_PLACE] == 0 && issued[BEP_ISSUED_ID] == 0);
+
+    /* The room that one peer leaves another takes. */
+    CHECK(bep_queue_drop(queue, hashes, 1) == 0);
+    CHECK(queue[BEP_QUEUE_NEXT_ID] == 1 && queue[BEP_QUEUE_COUNT] == 0 && hashes[0] == 0);
+    CHECK(queue[BEP_QUEUE_PEER_WORDS + BEP_QUEUE_COUNT] == 1);
+    CHECK(issue(queue, hashes, 4, BEP_MAX_BLOCK, issued) == 0 && issued[BEP_ISSUED_ID] == 1);
+    CHECK(bep_queue_totals(queue, totals) == 0);
+    CHECK(totals[BEP_TOTALS_COUNT] == 4);
+    CHECK(totals[BEP_TOTALS_EACH + BEP_TOTALS_COUNT] == 0);
+    CHECK(totals[4 * BEP_TOTALS_EACH + BEP_TOTALS_BYTES] == 2 * BEP_MAX_BLOCK - 4);
+    return 0;
+}
+
+/* Requests of peer 2, by its window of two. */
 static int queues(void)
 {
     const uint8_t data[5] = {1, 2, 3, 4, 5};
+    const uint32_t windows[BEP_PEERS] = {0, 2, 0, 0};
     uint8_t hash[BEP_HASH_BYTES];
     uint32_t queue[BEP_QUEUE_WORDS];
-    const uint32_t *entries = queue + BEP_QUEUE_ENTRIES;
+    const uint32_t *list = queue + BEP_QUEUE_PEER_WORDS;
+    const uint32_t *entries = list + BEP_QUEUE_ENTRIES;
     uint8_t hashes[BEP_QUEUE_HASHES];
+    const uint8_t *kept = hashes + BEP_QUEUE_PEER_HASHES;
     uint8_t out[100];
     uint64_t length[1];
     uint64_t issued[BEP_ISSUED_WORDS];
@@ -226,65 +311,62 @@ static int queues(void)
     uint64_t totals[BEP_TOTALS_WORDS];
 
     CHECK(bep_sha256(data, sizeof data, hash) == 0);
-    memset(hashes, 0xA7, sizeof hashes);
-    CHECK(bep_queue_open(queue, hashes, 17) == BEP_REFUSED_UNSOUND);
-    CHECK(queue[BEP_QUEUE_WINDOW] == 0 && hashes[0] == 0 && hashes[BEP_QUEUE_HASHES - 1] == 0);
-    CHECK(bep_queue_drop(queue, hashes) == BEP_REFUSED_UNSOUND);
-    /* No window stated: after four requests the fifth gives 16, and with 16 stated it gives 17. */
-    CHECK(bep_queue_open_default(queue, hashes) == 0 && queue[BEP_QUEUE_WINDOW] == 4);
-    CHECK(five_blocks(queue, hashes) == BEP_REFUSED_WINDOW_FULL);
-    CHECK(bep_queue_open(queue, hashes, BEP_MAX_WINDOW) == 0 && queue[BEP_QUEUE_WINDOW] == 16);
-    CHECK(five_blocks(queue, hashes) == BEP_REFUSED_ALLOWANCE_FULL);
-    CHECK(bep_queue_open(queue, hashes, 2) == 0 && queue[BEP_QUEUE_WINDOW] == 2);
-    CHECK(bep_queue_issue(out, 67, queue, hashes, data, 1, data, 1, 0, 5, hash, 32, issued)
+    CHECK(bep_queue_open(queue, hashes, windows, BEP_STATED_2) == 0);
+    CHECK(list[BEP_QUEUE_WINDOW] == 2);
+    CHECK(bep_queue_issue(out, 67, queue, hashes, 2, data, 1, data, 1, 0, 5, hash, 32, issued)
           == BEP_REFUSED_NO_ROOM);
-    CHECK(bep_queue_issue(out, 68, queue, hashes, data, 1, data, 1, 0, 5, hash, 32, issued) == 0);
+    CHECK(bep_queue_issue(out, 68, queue, hashes, 2, data, 1, data, 1, 0, 5, hash, 32, issued)
+          == 0);
     CHECK(issued[BEP_ISSUED_WRITTEN] == 68 && issued[BEP_ISSUED_ID] == 0);
-    CHECK(bep_queue_issue(out, 68, queue, hashes, data, 1, data, 1, 5, 7, hash, 32, issued) == 0);
+    CHECK(bep_queue_issue(out, 68, queue, hashes, 2, data, 1, data, 1, 5, 7, hash, 32, issued)
+          == 0);
     CHECK(issued[BEP_ISSUED_WRITTEN] == 68 && issued[BEP_ISSUED_ID] == 1);
-    CHECK(queue[BEP_QUEUE_NEXT_ID] == 2 && queue[BEP_QUEUE_COUNT] == 2);
+    CHECK(list[BEP_QUEUE_NEXT_ID] == 2 && list[BEP_QUEUE_COUNT] == 2);
     CHECK(entries[0] == 0 && entries[1] == 5 && entries[2] == 1 && entries[3] == 7);
     CHECK(entries[4] == 0);
-    CHECK(memcmp(hashes, hash, 32) == 0 && memcmp(hashes + 32, hash, 32) == 0 && hashes[64] == 0);
-    CHECK(sizeof hashes == BEP_MAX_WINDOW * sizeof hash);
-    CHECK(bep_queue_issue(out, 68, queue, hashes, data, 1, data, 1, 0, 5, hash, 32, issued)
+    CHECK(memcmp(kept, hash, 32) == 0 && memcmp(kept + 32, hash, 32) == 0 && kept[64] == 0);
+    CHECK(BEP_QUEUE_PEER_HASHES == BEP_MAX_WINDOW * sizeof hash);
+    CHECK(bep_queue_issue(out, 68, queue, hashes, 2, data, 1, data, 1, 0, 5, hash, 32, issued)
           == BEP_REFUSED_WINDOW_FULL);
     CHECK(issued[BEP_PLACE] == 0 && issued[BEP_ISSUED_ID] == 0);
 
     CHECK(bep_write_response(out, 100, 0, data, 5, length) == 0 && length[BEP_WRITTEN] == 16);
-    CHECK(bep_queue_answer(queue, hashes, out, 15, answered) == BEP_REFUSED_INCOMPLETE);
+    CHECK(bep_queue_answer(queue, hashes, 2, out, 15, answered) == BEP_REFUSED_INCOMPLETE);
     CHECK(answered[BEP_PLACE] == 4);
-    CHECK(bep_queue_answer(queue, hashes, out, 16, answered) == 0);
+    CHECK(bep_queue_answer(queue, hashes, 5, out, 15, answered) == BEP_REFUSED_NO_SUCH_PEER);
+    CHECK(answered[BEP_PLACE] == 0);
+    CHECK(bep_queue_answer(queue, hashes, 1, out, 16, answered) == BEP_REFUSED_NOT_OLDEST);
+    CHECK(bep_queue_answer(queue, hashes, 2, out, 16, answered) == 0);
     CHECK(answered[BEP_ANSWERED_OUTCOME] == BEP_OUTCOME_DATA);
     CHECK(answered[BEP_ANSWERED_ID] == 0 && answered[BEP_ANSWERED_LENGTH] == 5);
     CHECK(answered[BEP_ANSWERED_DATA_AT] == 8 && answered[BEP_ANSWERED_DATA_LENGTH] == 5);
-    CHECK(bep_queue_answer(queue, hashes, out, 16, answered) == BEP_REFUSED_NOT_OLDEST);
+    CHECK(bep_queue_answer(queue, hashes, 2, out, 16, answered) == BEP_REFUSED_NOT_OLDEST);
     CHECK(answered[BEP_PLACE] == 0);
-    CHECK(memcmp(hashes, hash, 32) == 0 && hashes[32] == 0);
+    CHECK(memcmp(kept, hash, 32) == 0 && kept[32] == 0);
     CHECK(bep_queue_totals(queue, totals) == 0);
     CHECK(totals[BEP_TOTALS_COUNT] == 1 && totals[BEP_TOTALS_BYTES] == 7);
 
     CHECK(bep_write_response(out, 100, 1, data, 5, length) == 0);
-    CHECK(bep_queue_answer(queue, hashes, out, 16, answered) == 0);
+    CHECK(bep_queue_answer(queue, hashes, 2, out, 16, answered) == 0);
     CHECK(answered[BEP_ANSWERED_OUTCOME] == BEP_OUTCOME_WRONG_SIZE);
     CHECK(answered[BEP_ANSWERED_ID] == 1 && answered[BEP_ANSWERED_LENGTH] == 7);
-    CHECK(bep_queue_issue(out, 68, queue, hashes, data, 1, data, 1, 0, 5, hash, 32, issued) == 0);
+    CHECK(issue(queue, hashes, 2, 5, issued) == 0);
     CHECK(bep_write_response(out, BEP_REPLY_BYTES, 2, NULL, 0, length) == 0);
-    CHECK(bep_queue_answer(queue, hashes, out, BEP_REPLY_BYTES, answered) == 0);
+    CHECK(bep_queue_answer(queue, hashes, 2, out, BEP_REPLY_BYTES, answered) == 0);
     CHECK(answered[BEP_ANSWERED_OUTCOME] == BEP_OUTCOME_NOT_AVAILABLE);
 
     /* Five bytes, but not those that are asked for: the room is free again. */
-    CHECK(bep_queue_issue(out, 68, queue, hashes, data, 1, data, 1, 0, 5, hash, 32, issued) == 0);
-    CHECK(bep_write_response(out, 100, 3, hash, 5, length) == 0);
-    CHECK(bep_queue_answer(queue, hashes, out, 16, answered) == 0);
+    CHECK(issue(queue, hashes, 2, 5, issued) == 0);
+    CHECK(bep_write_response(out, 100, 3, data, 5, length) == 0);
+    CHECK(bep_queue_answer(queue, hashes, 2, out, 16, answered) == 0);
     CHECK(answered[BEP_ANSWERED_OUTCOME] == BEP_OUTCOME_WRONG_CONTENT);
     CHECK(answered[BEP_ANSWERED_ID] == 3 && answered[BEP_ANSWERED_LENGTH] == 5);
     CHECK(answered[BEP_ANSWERED_DATA_AT] == 0 && answered[BEP_ANSWERED_DATA_LENGTH] == 0);
-    CHECK(queue[BEP_QUEUE_COUNT] == 0 && hashes[0] == 0);
-    CHECK(bep_queue_issue(out, 68, queue, hashes, data, 1, data, 1, 0, 5, hash, 32, issued) == 0);
-    CHECK(bep_queue_drop(queue, hashes) == 0);
-    CHECK(queue[BEP_QUEUE_NEXT_ID] == 5 && queue[BEP_QUEUE_COUNT] == 0);
-    CHECK(hashes[0] == 0 && hashes[31] == 0);
+    CHECK(list[BEP_QUEUE_COUNT] == 0 && kept[0] == 0);
+    CHECK(issue(queue, hashes, 2, 5, issued) == 0);
+    CHECK(bep_queue_drop(queue, hashes, 2) == 0);
+    CHECK(list[BEP_QUEUE_NEXT_ID] == 5 && list[BEP_QUEUE_COUNT] == 0);
+    CHECK(kept[0] == 0 && kept[31] == 0);
     return 0;
 }
 
@@ -447,9 +529,36 @@ static int filled(const uint64_t answer[MOST_WORDS], int count)
     return 1;
 }
 
+/* The entries of peer 4 are the last of a queue: nothing after them changes. */
+static int last_entries(void)
+{
+    const uint32_t windows[BEP_PEERS] = {0, 0, 0, BEP_MAX_WINDOW};
+    const uint8_t none[BEP_REPLY_BYTES] = {0, 0, BEP_RESPONSE, 0, 0, 0, 0, 0};
+    uint32_t queue[BEP_QUEUE_WORDS + 1];
+    uint8_t hashes[BEP_QUEUE_HASHES + 1];
+    uint64_t answer[MOST_WORDS];
+
+    queue[BEP_QUEUE_WORDS] = UNTOUCHED;
+    hashes[BEP_QUEUE_HASHES] = UNTOUCHED;
+    CHECK(bep_queue_open(queue, hashes, windows, BEP_STATED_4) == 0);
+    for (uint32_t i = 0; i < BEP_MAX_WINDOW; i++)
+        CHECK(issue(queue, hashes, 4, i + 1, answer) == 0 && answer[BEP_ISSUED_ID] == i);
+    CHECK(queue[BEP_QUEUE_WORDS - 1] == 16 && hashes[BEP_QUEUE_HASHES - BEP_HASH_BYTES] == 9);
+    CHECK(bep_queue_answer(queue, hashes, 4, none, sizeof none, answer) == 0);
+    CHECK(queue[BEP_QUEUE_WORDS - 1] == 0 && queue[BEP_QUEUE_WORDS - 3] == 16);
+    CHECK(hashes[BEP_QUEUE_HASHES - BEP_HASH_BYTES] == 0);
+    CHECK(hashes[BEP_QUEUE_HASHES - 2 * BEP_HASH_BYTES] == 9);
+    CHECK(bep_queue_drop(queue, hashes, 4) == 0);
+    CHECK(queue[BEP_QUEUE_WORDS - 3] == 0);
+    CHECK(hashes[BEP_QUEUE_HASHES - 2 * BEP_HASH_BYTES] == 0);
+    CHECK(queue[BEP_QUEUE_WORDS] == UNTOUCHED && hashes[BEP_QUEUE_HASHES] == UNTOUCHED);
+    return 0;
+}
+
 /* Answers and queues have the sizes that the header gives. */
 static int words(void)
 {
+    const uint32_t windows[BEP_PEERS] = {0};
     uint64_t answer[MOST_WORDS];
     uint32_t queue[BEP_QUEUE_WORDS + 1];
     uint8_t hashes[BEP_QUEUE_HASHES + 1];
@@ -481,13 +590,13 @@ static int words(void)
     for (int i = 0; i <= BEP_QUEUE_WORDS; i++)
         queue[i] = UNTOUCHED;
     memset(hashes, 0xA7, sizeof hashes);
-    CHECK(bep_queue_open_default(queue, hashes) == 0);
+    CHECK(bep_queue_open(queue, hashes, windows, BEP_STATED_NONE) == 0);
     CHECK(queue[BEP_QUEUE_WORDS - 1] == 0 && queue[BEP_QUEUE_WORDS] == UNTOUCHED);
     CHECK(hashes[BEP_QUEUE_HASHES - 1] == 0 && hashes[BEP_QUEUE_HASHES] == 0xA7);
-    CHECK(bep_queue_issue(out, 1, queue, hashes, NULL, 0, NULL, 0, 0, 0, NULL, 0,
+    CHECK(bep_queue_issue(out, 1, queue, hashes, 1, NULL, 0, NULL, 0, 0, 0, NULL, 0,
                           untouched(answer)) != 0);
     CHECK(filled(answer, BEP_ISSUED_WORDS));
-    CHECK(bep_queue_answer(queue, hashes, NULL, 0, untouched(answer)) != 0);
+    CHECK(bep_queue_answer(queue, hashes, 1, NULL, 0, untouched(answer)) != 0);
     CHECK(filled(answer, BEP_ANSWERED_WORDS));
     CHECK(bep_queue_totals(queue, untouched(answer)) == 0 && filled(answer, BEP_TOTALS_WORDS));
 
@@ -590,5 +699,6 @@ int main(void)
     CHECK(option[BEP_PLACE] == 20);
     CHECK(bep_option(options, 19, 4, option) == BEP_REFUSED_INCOMPLETE);
     CHECK(option[BEP_PLACE] == 12);
-    return editions() || feeds() || tables() || queues() || hashes() || requests() || words();
+    return editions() || feeds() || tables() || openings() || peers() || queues() || hashes()
+           || requests() || last_entries() || words();
 }

@@ -49,6 +49,7 @@ static uint8_t nowhere;
 
 static size_t place;
 static uint32_t id;
+static uint32_t peer;
 static uint32_t queue[BEP_QUEUE_WORDS];
 static uint8_t hashes[BEP_QUEUE_HASHES];
 static uint32_t opened[BEP_FEED_WORDS];
@@ -121,7 +122,7 @@ static uint32_t why(const struct slice *s, struct result *r)
 
 static uint32_t queue_answer(const struct slice *s, struct result *r)
 {
-    return bep_queue_answer(r->queue, r->hashes, IN(0), r->answer);
+    return bep_queue_answer(r->queue, r->hashes, peer, IN(0), r->answer);
 }
 
 static uint32_t write_index(const struct slice *s, struct result *r)
@@ -206,7 +207,7 @@ static uint32_t serve(const struct slice *s, struct result *r)
 
 static uint32_t queue_issue(const struct slice *s, struct result *r)
 {
-    return bep_queue_issue(OUT, r->queue, r->hashes, IN(1), IN(2), 0, 5, IN(3), r->answer);
+    return bep_queue_issue(OUT, r->queue, r->hashes, peer, IN(1), IN(2), 0, 5, IN(3), r->answer);
 }
 
 static uint32_t sha256(const struct slice *s, struct result *r)
@@ -339,7 +340,8 @@ static void try_all(void)
         TRY(accept, LENT, EMPTY, message, REPOSITORY);
         TRY(serve, LENT, FILES, REPOSITORY, message);
         TRY(serve, LENT, EMPTY, REPOSITORY, message);
-        TRY(queue_answer, message);
+        for (peer = 3; peer <= 5; peer++)
+            TRY(queue_answer, message);
     }
     for (id = 0; id <= 4096; id += 4096) {
         TRY(write_index, LENT, REPOSITORY, FILES);
@@ -356,25 +358,29 @@ static void try_all(void)
         TRY(write_old_index_update, LENT, FILES);
         TRY(write_old_request, LENT, NAME, HASH);
     }
-    TRY(queue_issue, LENT, REPOSITORY, NAME, HASH);
+    for (peer = 3; peer <= 5; peer++)
+        TRY(queue_issue, LENT, REPOSITORY, NAME, HASH);
 }
 
 int main(void)
 {
-    /* A queue that is full, one with room, and one that isn't sound. */
-    for (uint32_t window = 1; window <= 2; window++) {
+    uint32_t windows[BEP_PEERS] = {0};
+
+    /* A queue where a peer's list is full, one with room, and one that isn't sound. */
+    for (windows[2] = 1; windows[2] <= 2; windows[2]++) {
         uint8_t out[ROOM];
         uint8_t digest[BEP_HASH_BYTES];
         uint64_t issued[BEP_ISSUED_WORDS];
 
         /* What the Response among the messages brings. */
-        if (bep_sha256(files, 5, digest) != 0 || bep_queue_open(queue, hashes, window) != 0
-            || bep_queue_issue(out, ROOM, queue, hashes, &nowhere, 0, files + 8, 1, 0, 5, digest,
-                               32, issued) != 0)
+        if (bep_sha256(files, 5, digest) != 0
+            || bep_queue_open(queue, hashes, windows, BEP_STATED_3) != 0
+            || bep_queue_issue(out, ROOM, queue, hashes, 3, &nowhere, 0, files + 8, 1, 0, 5,
+                               digest, 32, issued) != 0)
             return 1;
         try_all();
     }
-    if (bep_queue_open(queue, hashes, 17) != BEP_REFUSED_UNSOUND)
+    if (bep_queue_open(queue, hashes, windows, BEP_STATED_ALL) != BEP_REFUSED_UNSOUND)
         return 1;
     try_all();
     /* Refusals alone would show little. */

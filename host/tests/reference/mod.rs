@@ -25,7 +25,9 @@ mod write;
 
 pub use editions::{downgrade, upgrade, Edition};
 pub use names::is_plain_path;
-pub use queue::{Answered, Outcome, Queue, Request as Outstanding};
+pub use queue::{
+    Answered, Asked, Issued, List, Outcome, Queue, Request as Outstanding, ALLOWANCE, PEERS,
+};
 pub use read::{read, read_as, Body, Message};
 pub use records::{file_at, file_or_missing, option_at, option_or_missing, File, KeyValue};
 pub use runs::{Runs, Told};

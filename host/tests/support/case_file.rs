@@ -2,9 +2,9 @@
 //!
 //! Bytes are in hex, two lower-case digits a byte; `-` is no bytes. Dots only set words apart, and
 //! `61*300` is the byte 61 three hundred times. `let NAME BYTES` gives bytes a name, which begins with a
-//! capital and then stands among the dots like hex. Colons and commas part what a word is made of. Other
-//! numbers are decimal. Empty lines and lines that begin with `#` are no cases, and what follows ` # ` on
-//! a line is a comment.
+//! capital and then stands among the dots like hex. Colons, commas and slashes part what a word is made of.
+//! Other numbers are decimal. Empty lines and lines that begin with `#` are no cases, and what follows ` # `
+//! on a line is a comment.
 
 use std::borrow::Cow;
 use std::collections::BTreeMap;
@@ -22,6 +22,9 @@ pub struct Case<'a> {
     /// Its comment is `open`: there is room for another answer.
     pub open: bool,
 }
+
+/// What stands between the pieces of a word.
+const BETWEEN: [char; 3] = [':', ',', '/'];
 
 /// The bytes that have names.
 type Names<'a> = BTreeMap<&'a str, Vec<u8>>;
@@ -83,12 +86,16 @@ fn is_name(part: &str) -> bool {
 
 /// The word with bytes in place of their names.
 fn in_hex<'a>(word: &'a str, names: &Names) -> Result<Cow<'a, str>, String> {
-    if !word.split(['.', ':', ',']).any(is_name) {
+    if !word
+        .split(BETWEEN)
+        .flat_map(|piece| piece.split('.'))
+        .any(is_name)
+    {
         return Ok(Cow::Borrowed(word));
     }
     let mut hex = String::new();
-    for piece in word.split_inclusive([':', ',']) {
-        let end = piece.trim_end_matches([':', ',']).len();
+    for piece in word.split_inclusive(BETWEEN) {
+        let end = piece.trim_end_matches(BETWEEN).len();
         hex += &piece_in_hex(&piece[..end], names)?;
         hex += &piece[end..];
     }

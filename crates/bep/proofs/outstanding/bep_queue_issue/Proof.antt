@@ -1,27 +1,12 @@
--- `bep::outstanding::bep_queue_issue` meets its contract: by what the issue gives, and the hashes.
+-- `bep::outstanding::bep_queue_issue` meets its contract: by what the issue gives.
 use denote.Ref.{now}
-use Rattle.message_write.specs.Writing.{requestBytes}
-use Rattle.message.specs.declared.edition.Edition.the-variants as E
 use Rattle.bep.proofs.RequestLaws.{issues}
 use borrow.Author.Needs.{needs}
 use Rattle.bep.proofs.outstanding.bep_queue_issue.Statement.{statement}
 use Rattle.bep.proofs.outstanding.bep_queue_issue.Tie as tie
 
 returns : tie.Need-returns
-returns c =
-    let a = c .before .before .before .before .before .before .before .before .before .before .before .before .before .before .before .before .args in
-    issues (now (a .queue)) (now (a .hashes)) (c .before .before .before .before .before .before .before .before .before .before .unpacked .ensures)
-    (requestBytes E.New (now (a .repository)) (now (a .name)) (a .offset) (a .size) (now (a .hash))) (now (a .hash))
-    (c .before .before .before .before .before .before .before .before .issue .ensures) (c .before .before .before .before .packed .ensures) (c .before .before .keep .ensures) (c .give-issued .ensures)
+returns c = let a = c .before .before .before .before .before .before .before .before .before .before .before .before .args in issues (now (a .queue)) (now (a .hashes)) (a .peer) (c .before .before .before .before .issue .ensures) (c .give-issued .ensures)
 
 pub bep-queue-issue-spec : {M : Type 1} → statement M
-bep-queue-issue-spec =
-    tie.close
-    (tie.spec
-    (λ c κs. search needs)
-    (λ c κs. search needs)
-    (λ c κs. search needs)
-    (λ c κs. search needs)
-    (λ c κs. search needs)
-    (λ c. search needs)
-    returns)
+bep-queue-issue-spec = tie.close (tie.spec (λ c κs. search needs) (λ c κs. search needs) (λ c. search needs) returns)

@@ -16,7 +16,8 @@ unfolding isContent
 returns c =
     let a = c .before .before .before .before .before .before .before .args in
     c .same-hash .ensures
-    ∙ ap (λ (l : List ℕ). isEqual (compareLists l (take 32 (now (a .hashes))))) (c .before .before .before .before .digest .ensures ∙ ap digest (c .before .before .before .before .before .spanned .ensures))
+    ∙ ap (λ (l : List ℕ). isEqual (compareLists (c .before .before .before .digest .result) l)) (c .before .part .ensures)
+    ∙ ap (λ (l : List ℕ). isEqual (compareLists l (take 32 (now (a .hashes))))) (c .before .before .before .digest .ensures ∙ ap digest (c .before .before .before .before .spanned .ensures))
 
 pub is-content-spec : {M : Type 1} → statement M
 is-content-spec =
@@ -25,8 +26,6 @@ is-content-spec =
     (λ c κs. search needs)
     (λ c κs. search needs)
     (λ c. search needs)
-    (λ c. search needs)
-    (λ c. search needs)
-    (λ c. search needs)
+    (λ c κs. search needs)
     (λ c κs. search needs)
     returns)

@@ -11,11 +11,18 @@ use Rattle.link.proofs.hashes.keep.Tie as tie
 
 returns-2 : tie.Need-returns-2
 returns-2 c =
-    let a = c .before .before .before .before .before .args in
+    let a = c .before .before .before .before .before .before .before .before .args in
     let e : a .slot * 32 ≡ 32 * a .slot = omega arith in
-    c .put-raw .ensures .1
+    c .before .before .put-raw .ensures .1
     ∙ ap (λ (k : ℕ). put (now (a .hashes)) k (now (a .hash))) e
-    ∙ ap (hashesFilled (now (a .hashes)) (a .slot) (now (a .hash))) (sym (c .before .before .enum-told .given .1))
+    ∙ ap (hashesFilled (now (a .hashes)) (a .slot) (now (a .hash))) (sym (c .before .before .before .before .enum-told .given .1))
 
 pub keep-spec : {M : Type 1} → statement M
-keep-spec = tie.close (tie.spec (λ c. search needs) (λ c. search needs) (λ c. search needs) (λ c. search needs) (λ c κs. search needs) returns-2)
+keep-spec = tie.close (tie.spec
+    (λ c. search needs)
+    (λ c. search needs)
+    (λ c. search needs)
+    (λ c. search needs)
+    (λ c κs. search needs)
+    (λ c. search needs)
+    returns-2)

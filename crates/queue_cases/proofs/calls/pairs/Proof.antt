@@ -5,10 +5,10 @@ use Rattle.queue_cases.proofs.calls.pairs.Statement.{statement}
 use Rattle.queue_cases.proofs.calls.pairs.Tie as tie
 
 abbrev Inv-loop : tie.InvT-loop
-Inv-loop times queue₀ counter₀ queue counter = Unit {0}
+Inv-loop peer times queue₀ counter₀ queue counter = Unit {0}
 
 abbrev μ-loop : tie.MeasureT-loop
-μ-loop times queue₀ counter₀ queue counter = times - counter
+μ-loop peer times queue₀ counter₀ queue counter = times - counter
 
 loop-holds : tie.Need-loop-holds Inv-loop μ-loop
 loop-holds c = tt

@@ -1,23 +1,42 @@
--- `queue::queue::RequestQueue::issue` meets its contract: 22, or the link's issue, told the bytes outstanding.
-use mathlib.Core.List.{List}
+-- `queue::queue::RequestQueue::issue` meets its contract: the admission refuses it, or the peer's link issues under the common total.
+use Prim.Native.Nat.{_≤_}
 use mathlib.Core.Path.{sym, _∙_}
-use Prim.Native.Nat.{ℕ}
+use native.Mathlib.Omega.{arith}
 use denote.Ref.{now}
+use Rattle.message.specs.declared.edition.Edition.the-variants as E
 use Rattle.message_write.specs.Writing.{requestBytes}
-use Rattle.queue.proofs.QueueLaws.{issue-sound, issue-unsound}
+use Rattle.queue.proofs.QueueLaws.{Held, held-tells, peer-facts}
+use Rattle.queue.proofs.CallLaws.{issue-stopped, issue-done}
 use borrow.Author.Needs.{needs}
 use Rattle.queue.proofs.queue.RequestQueue.issue.Statement.{statement}
-use Rattle.message.specs.declared.edition.Edition.the-variants as E
 use Rattle.queue.proofs.queue.RequestQueue.issue.Tie as tie
 
-abbrev body : tie.Start → List ℕ
-body c = let a = c .args in requestBytes E.New (now (a .repository)) (now (a .name)) (a .offset) (a .size) (now (a .hash))
+held : (c : tie.After-known-told) → Held (c .before .before .before .before .before .before .before .before .args .t1) (c .before .before .before .before .before .before .before .before .args .peer) (c .before .a .given .0 .0)
+held c = held-tells (c .before .before .before .before .before .before .before .before .args .t1) (c .before .before .before .before .before .before .before .before .args .peer) _ (sym (c .before .a .given .1) ∙ c .before .before .before .admission .ensures)
+
+facts : (c : tie.After-known-told) → (1 ≤ c .before .before .before .before .before .before .before .before .args .peer) × (c .before .before .before .before .before .before .before .before .args .peer ≤ 4)
+facts c = peer-facts (c .before .before .before .before .before .before .before .before .args .peer) (held c .may .peer)
 
 returns : tie.Need-returns
-returns c = let a = c .before .before .before .before .before .before .before .before .args in issue-unsound (a .self) (body (c .before .before .before .before .before .before .before .before)) (a .size) (now (a .out)) (sym (c .before .enum-told .given .1) ∙ c .before .before .before .sound-bytes .ensures) (c .refused .ensures)
+returns c =
+    let a = c .before .before .before .before .before .before .before .before .before .args in
+    issue-stopped (a .t1) (a .peer) (requestBytes E.New (now (a .repository)) (now (a .name)) (a .offset) (a .size) (now (a .hash))) (a .size) (now (a .hash)) (now (a .out))
+    (c .before .before .enum-told .given .1) (c .before .before .before .before .admission .ensures) (c .refusal .ensures) (c .before .next-of .ensures)
+
+sub-at : tie.Need-sub-at
+sub-at c = omega (arith, facts c .0)
+
+element-copy-out-l : tie.Need-element-copy-out-l
+element-copy-out-l c = omega (arith, facts c .0, facts c .1)
+
+element-set-from-link : tie.Need-element-set-from-link
+element-set-from-link c = omega (arith, facts (c .before .before .before .before .before .before .before .before .before) .0, facts (c .before .before .before .before .before .before .before .before .before) .1)
 
 returns-2 : tie.Need-returns-2
-returns-2 c = let a = c .before .before .before .before .before .before .before .before .before .before .before .before .before .args in issue-sound (a .self) (body (c .before .before .before .before .before .before .before .before .before .before .before .before .before)) (a .size) (now (a .out)) (sym (c .before .before .before .before .before .before .held .given .1) ∙ c .before .before .before .before .before .before .before .before .sound-bytes .ensures) (c .before .before .before .issue .ensures)
+returns-2 c =
+    let a = c .before .before .before .before .before .before .before .before .before .before .before .before .before .before .before .before .before .args in
+    issue-done (a .t1) (a .peer) (requestBytes E.New (now (a .repository)) (now (a .name)) (a .offset) (a .size) (now (a .hash))) (a .size) (now (a .hash)) (now (a .out))
+    (held (c .before .before .before .before .before .before .before .before .before)) (c .before .before .before .before .before .before .issue .ensures) (c .keep-for .ensures)
 
 pub issue-spec : {M : Type 1} → statement M
 issue-spec =
@@ -27,7 +46,15 @@ issue-spec =
     (λ c. search needs)
     (λ c. search needs)
     (λ c κs. search needs)
-    returns
     (λ c κs. search needs)
+    returns
+    sub-at
+    (λ c. search needs)
+    (λ c. search needs)
+    element-copy-out-l
+    (λ c κs. search needs)
+    (λ c κs. search needs)
+    (λ c. search needs)
+    element-set-from-link
     (λ c. search needs)
     returns-2)

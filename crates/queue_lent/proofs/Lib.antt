@@ -1,0 +1,5 @@
+pub mod WordLaws
+pub mod LaidLaws
+pub mod LentLaws
+pub mod TotalLaws
+pub mod Unchanged
