@@ -14,12 +14,24 @@ TOKEN = re.compile(r"(?<![^\W\d_])(\.?)(" + ID + r")")
 
 new = dict(line.rstrip("\n").split("\t") for line in open("tools/spelling.tsv"))
 old_snake = {n for n in new if "-" not in n and n == n.lower()}
+USE = re.compile(r"^use ([^\s{]+)\.\{([^}]*)\}", re.M)
+
+
+def library(text):
+    """The names that a file brings in from the library: there they stay as they are."""
+    found = set()
+    for module, names in USE.findall(text):
+        if not re.match(r"Rattle\.(?!std\b)", module):
+            found |= {n.strip().split(" as ")[0] for n in names.split(",")}
+    return found
 
 
 def spelled(text, path):
+    theirs = library(text)
+
     def one(m):
         dot, t = m.groups()
-        if t in new:
+        if t in new and t not in theirs:
             in_rust = path.endswith(".rt")
             if "-" in t and in_rust:
                 return m.group(0)

@@ -5,7 +5,7 @@ use mathlib.Core.Path.{◌≡◌, refl, sym, ap, subst, ◌∙◌}
 use native.Mathlib.Omega.{arith}
 use native.Mathlib.Nat.{add-zero, zero-add}
 use lib.ListN.{length, drop, length-drop}
-use lib.Seq.{drop_drop, drop-append-le}
+use lib.Seq.{drop-drop, drop-append-le}
 use Rattle.xdr.specs.Reading.{Reading, taken}
 use Rattle.xdr.specs.Number.{big_endian, IsBytes}
 use Rattle.xdr.specs.Format.{read, read_at}
@@ -53,14 +53,14 @@ blocks_over (suc j) n k p s t b h =
     ∙ ap (λ (x : List ℕ). many_read (j + n) block k (p + 40) x) (drop-append-le 40 s t room)
     ∙ blocks_over j n k (p + 40) (drop 40 s) t (bytes_drop 40 s b) (rest_sound j s h)
     ∙ ap (λ (x : ℕ). many_read n block k x (drop (j * 40) (drop 40 s) ++ t)) here
-    ∙ ap (λ (x : List ℕ). many_read n block k (p + suc j * 40) (x ++ t)) (drop_drop (j * 40) 40 s ∙ ap (λ (x : ℕ). drop x s) there)
+    ∙ ap (λ (x : List ℕ). many_read n block k (p + suc j * 40) (x ++ t)) (drop-drop (j * 40) 40 s ∙ ap (λ (x : ℕ). drop x s) there)
   where
     rest_sound : (j : ℕ) (s : List ℕ) → SoundBlocks s 0 (suc j) → SoundBlocks (drop 40 s) 0 j
     rest_sound j s h = (
       omega (arith, h.0, length-drop 40 s),
       λ i l.
           let e : 40 + (0 + i * 40) ≡ 0 + suc i * 40 = omega arith in
-          subst (λ (x : List ℕ). IsHead (big_endian 8 x)) (sym (drop_drop (0 + i * 40) 40 s ∙ ap (λ (x : ℕ). drop x s) e)) (h.1 (suc i) (omega arith)),
+          subst (λ (x : List ℕ). IsHead (big_endian 8 x)) (sym (drop-drop (0 + i * 40) 40 s ∙ ap (λ (x : ℕ). drop x s) e)) (h.1 (suc i) (omega arith)),
     )
 
 pub block_moves : (st : Cursor) (part : List ℕ) (r : Moved) (m k n : ℕ) → Sound st → st.goal ≡ G.Word (F.Block m k) → st.have ≡ 0 → IsBytes part

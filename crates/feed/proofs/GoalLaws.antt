@@ -7,7 +7,7 @@ use native.Mathlib.Omega.{arith}
 use native.Mathlib.Nat.{add-zero, add_assoc}
 use native.Mathlib.Decide.{dec_le}
 use borrow.Author.Tests.{le-leb, lt-leb, eqb-true}
-use lib.Seq.{drop_drop}
+use lib.Seq.{drop-drop}
 use lib.ListN.{length, take, drop, length-drop}
 use lib.Dec.{leb, ltb, eqb}
 use Rattle.xdr.specs.Reading.{Reading, taken, refused, mapped, relocated, tested, and_then, many}
@@ -88,7 +88,7 @@ skipping_twice m n k at s = go (dec_le (m + n) (length s))
     go (yes h) =
         let a : m ≤ length s = omega arith in
         let b : n ≤ length s - m = omega arith in
-        simp (le-leb (m + n) (length s) h, le-leb m (length s) a, length-drop, le-leb n (length s - m) b, drop_drop, add_assoc)
+        simp (le-leb (m + n) (length s) h, le-leb m (length s) a, length-drop, le-leb n (length s - m) b, drop-drop, add_assoc)
     go (no h) = go' (dec_le m (length s))
       where
         go' : Dec (m ≤ length s) → skipping m (skipping n k) at s ≡ skipping (m + n) k at s

@@ -6,7 +6,7 @@ use mathlib.Core.Bool.{Bool, true, false}
 use native.Mathlib.Omega.{arith}
 use native.Mathlib.Nat.{add-zero, add_assoc}
 use lib.ListN.{length, get_or, take, drop, length-drop, length-append, drop_of_length-le, take-append-drop}
-use lib.Seq.{drop-cons, drop_drop, drop-append-le, length-take-le, take_all}
+use lib.Seq.{drop-cons, drop-drop, drop-append-le, length-take-le, take_all}
 use Rattle.xdr.specs.Number.{big_endian}
 use Rattle.xdr.specs.Reading.{taken}
 use Rattle.xdr.specs.Fields.{word}
@@ -150,7 +150,7 @@ begun_none st run h = record {
 pub begun_more : {st : Cursor} {run : List ℕ} {now : Cursor} {i : ℕ} → Begun st run now i → wants now.goal ≡ true → (m : Moved) → Moves now (drop i run) m
     → Begun st run m.state (i + m.taken)
 begun_more {st} {run} {now} {i} g w m h = record {
-  on = λ t. g.on t ∙ h.on t ∙ ap (λ (x : List ℕ). rest m.state (x ++ t)) (drop_drop m.taken i run);
+  on = λ t. g.on t ∙ h.on t ∙ ap (λ (x : List ℕ). rest m.state (x ++ t)) (drop-drop m.taken i run);
   comes = subst (λ (x : ℕ). Comes m.state x) (ap (λ (x : ℕ). x + m.taken) (reached_goal now.goal now (reached st + i) w g.comes.arrived) ∙ add_assoc (reached st) i m.taken) h.comes;
   within = let a : i ≤ length run = g.within in let b : m.taken ≤ length (drop i run) = h.within in let c = length-drop i run in omega (arith, c);
 }

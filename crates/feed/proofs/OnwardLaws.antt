@@ -7,7 +7,7 @@ use native.Mathlib.Omega.{arith}
 use native.Mathlib.Nat.{add-zero, add_assoc, zero-min}
 use borrow.Author.Tests.{le-leb, lt-leb}
 use lib.ListN.{length, drop}
-use lib.Seq.{drop_drop}
+use lib.Seq.{drop-drop}
 use Rattle.xdr.specs.Reading.{Reading, taken, refused, shifted, mapped, tested, and_then, many}
 use Rattle.xdr.specs.Number.{big_endian}
 use Rattle.xdr.specs.Format.{Format, number, array, pair, checked_at, checked, via, read}
@@ -16,7 +16,7 @@ use Rattle.feed.specs.Onward.{Rest, onward, then_read, many_read}
 use Rattle.feed.specs.declared.state.Answer.TheVariants as A
 
 onward_shifted : {A : Type 0} (n : ℕ) (r : Reading A) (k : A → Rest) (at : ℕ) (s : List ℕ) → onward (shifted n r) k at s ≡ onward r k (at + n) (drop n s)
-onward_shifted n (taken a m) k at s = simp (add_assoc, drop_drop)
+onward_shifted n (taken a m) k at s = simp (add_assoc, drop-drop)
 onward_shifted n (refused m p) k at s = simp add_assoc
 
 onward_mapped : {A B : Type 0} (f : A → B) (r : Reading A) (k : B → Rest) (at : ℕ) (s : List ℕ) → onward (mapped f r) k at s ≡ onward r (λ a. k (f a)) at s

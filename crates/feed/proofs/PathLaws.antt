@@ -2,7 +2,7 @@
 use Prim.Native.Nat.{ℕ, zero, suc, ◌+◌, ◌-◌, ◌≤◌}
 use mathlib.Core.List.{List, [], ◌∷◌, ◌++◌, append_assoc, append-nil}
 use mathlib.Core.Path.{◌≡◌, refl, sym, ap, subst, ◌∙◌}
-use mathlib.Core.Bool.{Bool, true, false, cond, ◌&&◌, and_true, and_false}
+use mathlib.Core.Bool.{Bool, true, false, cond, ◌&&◌, and-true, and-false}
 use native.Mathlib.Omega.{arith}
 use borrow.Author.Tests.{lt-leb, eq-eqb, ne_eqb, eqb-true, eqb-false}
 use lib.ListN.{length, get_or}
@@ -60,7 +60,7 @@ lost_is : (l : List ℕ) (x : Bool) → x ≡ false → x ≡ eqb (parted 4 l) 3
 lost_is l x e = e ∙ sym (ap (λ (n : ℕ). eqb n 3) (lost l))
 
 last_part : (p : List ℕ) (x : Bool) → is_part p ≡ x → path_from p [] ≡ x
-last_part p x e = and_true (is_part p && true) ∙ and_true (is_part p) ∙ e
+last_part p x e = and-true (is_part p && true) ∙ and-true (is_part p) ∙ e
 
 ended : {k : ℕ} {p : List ℕ} → Begun k p → path_from p [] ≡ eqb k 3
 ended none = last_part [] false (empty_part [] refl)
@@ -70,7 +70,7 @@ ended (down {p} h) = last_part p true (down_part p h)
 
 -- a zero byte
 zero_lost : (p : List ℕ) (b : ℕ) (l : List ℕ) → b ≡ 0 → path_from p (b ∷ l) ≡ false
-zero_lost p b l e = rw (eq-eqb b 0 e) (and_false (are_parts (parts_from p (b ∷ l))))
+zero_lost p b l e = rw (eq-eqb b 0 e) (and-false (are_parts (parts_from p (b ∷ l))))
 
 -- the part's number after a byte of each kind
 after_zero : (k b : ℕ) → k ≤ 3 → b ≡ 0 → part_after k b ≡ 4

@@ -8,7 +8,7 @@ use native.Mathlib.Nat.{add-zero, zero-add, min-eq_left}
 use native.Mathlib.Decide.{dec_le}
 use borrow.Author.Tests.{le-leb, lt-leb}
 use lib.ListN.{length, take, drop, length-drop}
-use lib.Seq.{drop_drop, length-take-le}
+use lib.Seq.{drop-drop, length-take-le}
 use lib.Dec.{leb, eqb, leb-suc-suc}
 use Rattle.xdr.specs.Reading.{taken, refused, shifted, relocated, and_then}
 use Rattle.xdr.specs.Number.{big_endian}
@@ -45,7 +45,7 @@ opaque_read limit k at n u =
 pub opaque_cases : (c d : Bool) (l : List ℕ) (m p : ℕ) (k : List ℕ → Rest) (at : ℕ) (s : List ℕ)
     → onward (relocated bytes_place (shifted 4 (cond c (cond d (taken l m) (refused 6 p)) (refused 1 0)))) k at s
     ≡ cond c (cond d (k l (at + (4 + m)) (drop m (drop 4 s))) (stop 6 (at + (4 + p)))) A.Waiting
-opaque_cases true true l m p k at s = simp drop_drop
+opaque_cases true true l m p k at s = simp drop-drop
 opaque_cases true false l m p k at s = refl
 opaque_cases false d l m p k at s = refl
 

@@ -2,7 +2,7 @@
 use Prim.Native.Nat.{ℕ, zero, suc, ◌-◌, ◌<◌, ◌≤◌}
 use native.Mathlib.Omega.{arith}
 use mathlib.Core.Path.{◌≡◌, refl, ap}
-use mathlib.Core.Bool.{Bool, true, false, cond, ◌&&◌, and_false}
+use mathlib.Core.Bool.{Bool, true, false, cond, ◌&&◌, and-false}
 use mathlib.Core.List.{List, [], ◌∷◌}
 use lib.ListN.{length, take, drop, get_or}
 use lib.Seq.{slice}
@@ -30,7 +30,7 @@ tally_shape q s = rw s
 
 pub tally_not : (q : Link) → is_consecutive (outstanding q) q.next ≡ false → Unsound ≡ orderly_bytes q
 unfolding is_orderly
-tally_not q e = rw (e, and_false (shape_fits q))
+tally_not q e = rw (e, and-false (shape_fits q))
 
 pub shape_count : (q : Link) → shape_fits q ≡ true → q.count ≤ 16
 shape_count q s =

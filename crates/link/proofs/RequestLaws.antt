@@ -2,10 +2,10 @@
 use Prim.Native.Nat.{ℕ, zero, suc, ◌+◌, ◌-◌, ◌<◌, ◌≤◌}
 use native.Mathlib.Omega.{arith}
 use mathlib.Core.Path.{◌≡◌, refl, sym, ap, subst, ◌∙◌}
-use mathlib.Core.Bool.{Bool, true, false, ◌&&◌, and_false}
+use mathlib.Core.Bool.{Bool, true, false, ◌&&◌, and-false}
 use mathlib.Core.List.{List, [], ◌∷◌}
 use lib.ListN.{length, take, drop, get_or}
-use lib.Seq.{slice, slice_cons}
+use lib.Seq.{slice, slice-cons}
 use lib.Dec.{leb, eqb}
 use borrow.Author.Tests.{leb-true}
 use Rattle.link.specs.Requests.{blank, after, total, first_id, stands_before, is_consecutive}
@@ -19,7 +19,7 @@ both false b p = let z : ◌≡◌ {A = ℕ} 0 1 = cc in absurd (omega arith)
 pub is_consecutive_drop : (k : ℕ) (rs : List Request) (next : ℕ) → is_consecutive (drop k rs) next ≡ false → is_consecutive rs next ≡ false
 is_consecutive_drop zero rs next p = p
 is_consecutive_drop (suc k) [] next p = p
-is_consecutive_drop (suc k) (r ∷ rs) next p = rw (is_consecutive_drop k rs next p) (and_false (stands_before r (first_id rs next)))
+is_consecutive_drop (suc k) (r ∷ rs) next p = rw (is_consecutive_drop k rs next p) (and-false (stands_before r (first_id rs next)))
 
 -- what is known of the requests passed
 pub record Passed (rs : List Request) (next follower sum : ℕ) : Type 0 where
@@ -50,7 +50,7 @@ module _ (es : List Request) (n i next follower sum : ℕ) (fits : n ≤ length 
   split : slice (i - 1) n es ≡ At ∷ slice i n es
   split =
       let e : suc (i - 1) ≡ i = omega arith in
-      slice_cons (i - 1) n es blank (omega arith) fits ∙ ap (λ (k : ℕ). At ∷ slice k n es) e
+      slice-cons (i - 1) n es blank (omega arith) fits ∙ ap (λ (k : ℕ). At ∷ slice k n es) e
 
   pub passed_more : Passed (slice i n es) next follower sum → stands_before At follower ≡ true
       → Passed (slice (i - 1) n es) next At.id (sum + At.size)
@@ -81,5 +81,5 @@ counted_sixteen n es e l = subst (λ (m : ℕ). m ≤ 16) (sym e) (subst (λ (m 
 pub total_more : (es : List Request) (n i : ℕ) → n ≤ length es → 0 < i → i ≤ n → total (slice (i - 1) n es) ≡ total (slice i n es) + (get_or es (i - 1) blank).size
 total_more es n i f p b =
     let e : suc (i - 1) ≡ i = omega arith in
-    let s : slice (i - 1) n es ≡ get_or es (i - 1) blank ∷ slice i n es = slice_cons (i - 1) n es blank (omega arith) f ∙ ap (λ (k : ℕ). get_or es (i - 1) blank ∷ slice k n es) e in
+    let s : slice (i - 1) n es ≡ get_or es (i - 1) blank ∷ slice i n es = slice-cons (i - 1) n es blank (omega arith) f ∙ ap (λ (k : ℕ). get_or es (i - 1) blank ∷ slice k n es) e in
     ap total s ∙ omega arith

@@ -8,7 +8,7 @@ use native.Mathlib.Omega.{arith}
 use native.Mathlib.Numerals.{add-one}
 use borrow.Author.Tests.{le-leb, lt-leb, leb-true, leb-false, ltb-true, eqb-true}
 use lib.ListN.{length, take, drop, get_or, set, length-append, length-drop}
-use lib.Seq.{drop-cons, drop_drop, sets-eq, take-add}
+use lib.Seq.{drop-cons, drop-drop, sets-eq, take-add}
 use lib.Dec.{leb, ltb, eqb}
 use Rattle.xdr.specs.Buffer.{over, put, put_count, Puts}
 use Rattle.xdr.proofs.BufferLaws.{over_over, length_over}
@@ -26,7 +26,7 @@ pair_put l at x y h = (
   ap (λ (k : ℕ). set (set l at x) k y) (add-one at)
       ∙ sets-eq (x ∷ y ∷ []) l at h
       ∙ append_assoc (take at l) (x ∷ y ∷ []) (drop (at + 2) l)
-      ∙ ap (λ (r : List ℕ). take at l ++ (x ∷ y ∷ r)) (sym (drop_drop 2 at l))
+      ∙ ap (λ (r : List ℕ). take at l ++ (x ∷ y ∷ r)) (sym (drop-drop 2 at l))
       ∙ simp (le-leb (at + 2) (length l) h),
 )
 
@@ -69,7 +69,7 @@ part_join s x y z h k =
     let place : x + (y - x) ≡ y = omega arith in
     ap (λ (n : ℕ). take n (drop x s)) sum
     ∙ take-add (y - x) (z - y) (drop x s)
-    ∙ ap (λ (l : List ℕ). part s x y ++ take (z - y) l) (drop_drop (y - x) x s ∙ ap (λ (n : ℕ). drop n s) place)
+    ∙ ap (λ (l : List ℕ). part s x y ++ take (z - y) l) (drop-drop (y - x) x s ∙ ap (λ (n : ℕ). drop n s) place)
 
 -- two notes are joined of the first table or of the second
 record JoinedLeft (x y u v p q : ℕ) : Type 0 where

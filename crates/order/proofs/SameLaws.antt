@@ -7,7 +7,7 @@ use mathlib.Core.Bool.{Bool, true, false}
 use native.Mathlib.Omega.{arith}
 use native.Mathlib.Decide.{dec_lt}
 use lib.ListN.{length, get_or, take, drop, take-append-drop}
-use lib.Seq.{ext_get_or, drop_drop}
+use lib.Seq.{ext_get_or, drop-drop}
 use Rattle.order.specs.Order.{is_equal, or_else, compare_lists}
 use Rattle.order.specs.declared.compare.Order.{Order}
 use Rattle.order.specs.declared.compare.Order.TheVariants.{Less, Equal, Greater}
@@ -73,5 +73,5 @@ past_same a b i k e =
     ap (λ (l : List ℕ). compare_lists l (drop i b)) (sym (take-append-drop k (drop i a)))
     ∙ ap (compare_lists (p ++ drop k (drop i a))) (sym (take-append-drop k (drop i b)) ∙ ap (λ (q : List ℕ). q ++ drop k (drop i b)) (sym e))
     ∙ after_same p (drop k (drop i a)) (drop k (drop i b))
-    ∙ ap (λ (l : List ℕ). compare_lists l (drop k (drop i b))) (drop_drop k i a)
-    ∙ ap (compare_lists (drop (i + k) a)) (drop_drop k i b)
+    ∙ ap (λ (l : List ℕ). compare_lists l (drop k (drop i b))) (drop-drop k i a)
+    ∙ ap (compare_lists (drop (i + k) a)) (drop-drop k i b)

@@ -5,7 +5,7 @@ use mathlib.Core.Path.{◌≡◌, refl, sym, ap, ◌∙◌}
 use native.Mathlib.Omega.{arith}
 use native.Mathlib.Nat.{suc-mul, mul-le-mul_right}
 use lib.ListN.{length, drop, length-drop}
-use lib.Seq.{drop_drop}
+use lib.Seq.{drop-drop}
 use Rattle.xdr.specs.Number.{big_endian, IsBytes}
 use Rattle.xdr.proofs.NumberLaws.{bytes_drop, digits_read}
 use Rattle.order.specs.Order.{or_else, compare_numbers, compare_lists}
@@ -55,8 +55,8 @@ module _ (k : ℕ) (a b : List ℕ) (i : ℕ) {x y : ℕ} (p : IsBytes a) (q : I
   by_word =
       by_number k (drop i a) (drop i b) (bytes_drop i a p) (bytes_drop i b q) (simp length-drop (omega arith)) (simp length-drop (omega arith))
       ∙ ap (λ (o : Order). or_else o (compare_lists (drop k (drop i a)) (drop k (drop i b)))) (ap (λ (n : ℕ). compare_numbers n (big_endian k (drop i b))) (sym e) ∙ ap (compare_numbers x) (sym f))
-      ∙ ap (λ (l : List ℕ). or_else (compare_numbers x y) (compare_lists l (drop k (drop i b)))) (drop_drop k i a)
-      ∙ ap (λ (l : List ℕ). or_else (compare_numbers x y) (compare_lists (drop (i + k) a) l)) (drop_drop k i b)
+      ∙ ap (λ (l : List ℕ). or_else (compare_numbers x y) (compare_lists l (drop k (drop i b)))) (drop-drop k i a)
+      ∙ ap (λ (l : List ℕ). or_else (compare_numbers x y) (compare_lists (drop (i + k) a) l)) (drop-drop k i b)
 
   -- where the numbers at a place are the same, what comes after them decides
   pub word_same : x ≡ y → compare_lists (drop i a) (drop i b) ≡ compare_lists (drop (i + k) a) (drop (i + k) b)

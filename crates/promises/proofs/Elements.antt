@@ -4,7 +4,7 @@ use mathlib.Core.List.{List, [], ◌∷◌, append-nil}
 use mathlib.Core.Path.{◌≡◌, refl, sym, ap, subst, ◌∙◌}
 use native.Mathlib.Omega.{arith}
 use lib.ListN.{length, take, drop}
-use lib.Seq.{drop_drop}
+use lib.Seq.{drop-drop}
 use Rattle.xdr.specs.Reading.{taken}
 use Rattle.xdr.specs.Number.{IsBytes}
 use Rattle.xdr.specs.Format.{Format, array, read, read_at, encode, Valid}
@@ -36,7 +36,7 @@ use Rattle.promises.proofs.Spans.{spans_are_fields}
 blocks_from : (s : List ℕ) (all : List Block) (first next i : ℕ) (l : List Block) → Elements block s first all next → drop i all ≡ l → BlocksFrom s first i l
 blocks_from s all first next i [] e d = tt
 blocks_from s all first next i (b ∷ l) e d =
-    let rest : drop (i + 1) all ≡ l = sym (drop_drop 1 i all) ∙ ap (drop 1) d in (
+    let rest : drop (i + 1) all ≡ l = sym (drop-drop 1 i all) ∙ ap (drop 1) d in (
       block_place first i + 8,
       nth_outline s all first next i b l e d,
       sym (nth_block s all first next i b l e d).hash_is,

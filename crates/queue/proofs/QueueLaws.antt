@@ -2,7 +2,7 @@
 use Prim.Native.Nat.{ℕ, zero, suc, ◌+◌, ◌-◌, ◌*◌, ◌<◌, ◌≤◌}
 use native.Mathlib.Omega.{arith}
 use mathlib.Core.Path.{◌≡◌, refl, sym, ap, subst, ◌∙◌}
-use mathlib.Core.Bool.{Bool, true, false, cond, and_false}
+use mathlib.Core.Bool.{Bool, true, false, cond, and-false}
 use mathlib.Core.List.{List, [], ◌∷◌}
 use lib.ListN.{length, take, drop, get_or, replicate, drop_of_length-le}
 use lib.Seq.{drop-cons}
@@ -62,7 +62,7 @@ down d l (suc i) z h =
 pub fit_drop : (k : ℕ) (ws : List Window) → all_fit (drop k ws) ≡ false → all_fit ws ≡ false
 fit_drop zero ws p = p
 fit_drop (suc k) [] p = p
-fit_drop (suc k) (w ∷ ws) p = rw (fit_drop k ws p) (and_false (window_fits (window_of w)))
+fit_drop (suc k) (w ∷ ws) p = rw (fit_drop k ws p) (and-false (window_fits (window_of w)))
 
 pub fit_start : (ws : List Window) (n : ℕ) → length ws ≤ n → all_fit (drop n ws) ≡ true
 fit_start ws n h = rw (drop_of_length-le ws {i = n} h)
@@ -83,7 +83,7 @@ module _ (d : Window) (ws : List Window) (i : ℕ) (pos : 0 < i) (below : i ≤ 
 pub orderly_drop : (k : ℕ) (ls : List Link) → all_orderly (drop k ls) ≡ false → all_orderly ls ≡ false
 orderly_drop zero ls p = p
 orderly_drop (suc k) [] p = p
-orderly_drop (suc k) (l ∷ ls) p = rw (orderly_drop k ls p) (and_false (is_orderly l))
+orderly_drop (suc k) (l ∷ ls) p = rw (orderly_drop k ls p) (and-false (is_orderly l))
 
 -- what is known of the links passed
 pub record Passed (ls : List Link) (sum : ℕ) : Type 0 where

@@ -5,7 +5,7 @@ use native.Mathlib.Omega.{arith}
 use mathlib.Core.Path.{◌≡◌, sym, ap, ◌∙◌}
 use mathlib.Core.List.{List, ◌++◌}
 use lib.ListN.{length, take, drop, length-append, length-drop, take-append-drop}
-use lib.Seq.{take-append-le, drop-append-le, take-append_seam, drop-append-add, length-take-le, drop_drop}
+use lib.Seq.{take-append-le, drop-append-le, take-append_seam, drop-append-add, length-take-le, drop-drop}
 use Rattle.queue.specs.Shares.{share_of, with_share}
 
 module _ {A : Type 0} (n a : ℕ) (l : List A) where
@@ -57,7 +57,7 @@ module _ {A : Type 0} (n a : ℕ) (l : List A) where
         let at : b ≡ a + (n + i) = omega arith in
         let last : drop (n + i) (x ++ drop n (drop a l)) ≡ drop i (drop n (drop a l)) =
         ap (λ (k : ℕ). drop (k + i) (x ++ drop n (drop a l))) (sym whole) ∙ drop-append-add x (drop n (drop a l)) i in
-        let same : drop i (drop n (drop a l)) ≡ drop (a + (n + i)) l = drop_drop i n (drop a l) ∙ drop_drop (n + i) a l in
+        let same : drop i (drop n (drop a l)) ≡ drop (a + (n + i)) l = drop-drop i n (drop a l) ∙ drop-drop (n + i) a l in
         ap (λ (k : ℕ). take n (drop k (take a l ++ (x ++ drop n (drop a l))))) at
         ∙ ap (take n) (behind (n + i) ∙ last ∙ same)
         ∙ ap (λ (k : ℕ). take n (drop k l)) (sym at)

@@ -5,7 +5,7 @@ use mathlib.Core.Path.{◌≡◌, refl, sym, ap, ◌∙◌}
 use mathlib.Core.Bool.{true}
 use mathlib.Core.List.{List, [], ◌∷◌, ◌++◌, append_assoc}
 use lib.ListN.{length, take, drop, get_or, set, length-drop, take-append-drop}
-use lib.Seq.{drop-append_seam, take-append_seam, take-append-add, drop-append-add, drop_drop, length-take-le}
+use lib.Seq.{drop-append_seam, take-append_seam, take-append-add, drop-append-add, drop-drop, length-take-le}
 use Rattle.link.specs.declared.list.Link.{Link}
 use Rattle.queue.specs.Shares.{share_of, with_share}
 use Rattle.queue.specs.Queue.{peers, is_peer, no_link, link_of}
@@ -41,7 +41,7 @@ links_at (suc n) ws zero h = refl
 links_at (suc n) ws (suc i) h =
     let next : 35 + 35 * i ≡ 35 * suc i = omega arith in
     links_at n (drop 35 ws) i (omega arith)
-    ∙ ap (λ (r : List ℕ). link_in (take 35 r)) (drop_drop (35 * i) 35 ws ∙ ap (λ (k : ℕ). drop k ws) next)
+    ∙ ap (λ (r : List ℕ). link_in (take 35 r)) (drop-drop (35 * i) 35 ws ∙ ap (λ (k : ℕ). drop k ws) next)
 
 -- the link of a peer is the one that its share is
 pub link_is : (ws hs : List ℕ) (p : ℕ) → is_peer p ≡ true → link_of (queue_of ws hs) p ≡ link_in (share_of link_size ws p)

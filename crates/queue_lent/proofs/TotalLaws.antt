@@ -5,7 +5,7 @@ use native.Mathlib.Omega.{arith}
 use mathlib.Core.Path.{◌≡◌, refl, sym, ap, ◌∙◌}
 use mathlib.Core.List.{List, [], ◌∷◌, ◌++◌}
 use lib.ListN.{length, take, drop, get_or}
-use lib.Seq.{drop_drop, get_or-drop}
+use lib.Seq.{drop-drop, get_or-drop}
 use Rattle.link.specs.Requests.{total}
 use Rattle.link.specs.OneLink.{outstanding}
 use Rattle.link.specs.declared.request.Request.{Request}
@@ -62,8 +62,8 @@ small_in ws n k h =
 four_links : (ws : List ℕ) → links_in peers ws ≡ link_in (share_of link_size ws 1) ∷ link_in (share_of link_size ws 2) ∷ link_in (share_of link_size ws 3) ∷ link_in (share_of link_size ws 4) ∷ []
 unfolding links_in
 four_links ws =
-    let third : drop 35 (drop 35 ws) ≡ drop 70 ws = drop_drop 35 35 ws in
-    let fourth : drop 35 (drop 70 ws) ≡ drop 105 ws = drop_drop 35 70 ws in
+    let third : drop 35 (drop 35 ws) ≡ drop 70 ws = drop-drop 35 35 ws in
+    let fourth : drop 35 (drop 70 ws) ≡ drop 105 ws = drop-drop 35 70 ws in
     ap (λ (r : List ℕ). link_in (take 35 ws) ∷ link_in (take 35 (drop 35 ws)) ∷ link_in (take 35 r) ∷ link_in (take 35 (drop 35 r)) ∷ []) third
     ∙ ap (λ (r : List ℕ). link_in (take 35 ws) ∷ link_in (take 35 (drop 35 ws)) ∷ link_in (take 35 (drop 70 ws)) ∷ link_in (take 35 r) ∷ []) fourth
 

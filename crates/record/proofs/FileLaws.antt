@@ -1,5 +1,5 @@
 -- An accepted file and the outline of its bytes agree, and a file is what its bytes say.
-use Rattle.std.proofs.Common.{◌≡◌, ℕ, ◌+◌, ◌≤◌, List, [], ◌++◌, length, take, drop, sym, refl, ap, ◌∙◌, subst, append_assoc, arith, drop_drop}
+use Rattle.std.proofs.Common.{◌≡◌, ℕ, ◌+◌, ◌≤◌, List, [], ◌++◌, length, take, drop, sym, refl, ap, ◌∙◌, subst, append_assoc, arith, drop-drop}
 use lib.Seq.{drop-append_seam}
 use Rattle.xdr.specs.Reading.{taken}
 use Rattle.xdr.specs.Format.{encode, Valid}
@@ -89,7 +89,7 @@ pub encoding_rest : (f : File) (s : List ℕ) (at : ℕ) (t : List ℕ) → drop
 encoding_rest f s at t e =
     let place : (fields_of at f).rest ≡ at + length (encode name f.name) = omega (arith, name_bytes f.name) in
     ap (λ (k : ℕ). drop k s) place
-    ∙ sym (drop_drop (length (encode name f.name)) at s)
+    ∙ sym (drop-drop (length (encode name f.name)) at s)
     ∙ ap (drop (length (encode name f.name))) (e ∙ ap (λ (l : List ℕ). l ++ t) (split_encoding f) ∙ append_assoc (encode name f.name) (from_flags f) t)
     ∙ drop-append_seam (encode name f.name) (from_flags f ++ t)
 

@@ -1,6 +1,6 @@
 -- The steps by which a name's bytes are gone through, part by part.
 use Rattle.std.proofs.Common.{◌≡◌, ℕ, suc, ◌+◌, ◌-◌, ◌<◌, ◌≤◌, Bool, true, false, not, ◌&&◌, eqb, List, [], ◌∷◌, ◌++◌, length, get_or, take, drop, sym, refl, ap, ◌∙◌, true≢false, add-one, arith, length-drop, drop_of_length-le, get_or-drop, drop-cons, take-suc, eq-eqb, ne_eqb, eqb-true}
-use mathlib.Core.Bool.{and_assoc, and_true, and_false}
+use mathlib.Core.Bool.{and_assoc, and-true, and-false}
 use borrow.Author.Tests.{not-true, eqb-false}
 use Rattle.xdr.proofs.LeadLaws.{both}
 use Rattle.order.specs.Order.{is_equal, compare_lists, part}
@@ -91,7 +91,7 @@ abbrev pub path_from : (begun rest : List ℕ) → Bool
 path_from p l = are_parts (parts_from p l) && lacks 0 l
 
 from_zero : (p : List ℕ) (b : ℕ) (l : List ℕ) → b ≡ 0 → path_from p (b ∷ l) ≡ false
-from_zero p b l e = rw (eq-eqb b 0 e) (and_false (are_parts (parts_from p (b ∷ l))))
+from_zero p b l e = rw (eq-eqb b 0 e) (and-false (are_parts (parts_from p (b ∷ l))))
 
 pub from_slash : (p : List ℕ) (b : ℕ) (l : List ℕ) → b ≡ 47 → path_from p (b ∷ l) ≡ is_part p && path_from [] l
 from_slash p b l e = rw (eq-eqb b 47 e, ne_eqb b 0 (λ z. omega arith)) (and_assoc (is_part p) (are_parts (parts_from [] l)) (lacks 0 l))
@@ -152,6 +152,6 @@ gone_all {s} {start} {i} g h =
     let all : i ≡ length s = omega (arith, g.inside) in
     g.left
     ∙ ap (path_from (part s start i)) (drop_of_length-le s h)
-    ∙ and_true (is_part (part s start i) && true)
-    ∙ and_true (is_part (part s start i))
+    ∙ and-true (is_part (part s start i) && true)
+    ∙ and-true (is_part (part s start i))
     ∙ ap (λ (j : ℕ). is_part (part s start j)) all

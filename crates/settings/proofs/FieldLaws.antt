@@ -8,7 +8,7 @@ use native.Mathlib.Nat.{add-zero}
 use native.Mathlib.Decide.{dec_lt}
 use borrow.Author.Tests.{le-leb, lt-leb, lt-ltb, le-ltb, ne_eqb, eqb-true, eqb-false, leb-true}
 use lib.ListN.{length, take, drop, get_or}
-use lib.Seq.{drop_drop, get_or-drop}
+use lib.Seq.{drop-drop, get_or-drop}
 use lib.Dec.{leb, eqb}
 use Rattle.xdr.specs.Reading.{taken}
 use Rattle.xdr.specs.Number.{big_endian}
@@ -27,7 +27,7 @@ use Rattle.settings.specs.declared.answer.Span.TheVariants as S
 
 -- numbers of two and four bytes
 pub two_bytes : (s : List ℕ) (at : ℕ) → get_or s at 0 * 256 + get_or s (at + 1) 0 ≡ big_endian 2 (drop at s)
-two_bytes s at = simp (drop_drop, get_or-drop, add-zero) (omega arith)
+two_bytes s at = simp (drop-drop, get_or-drop, add-zero) (omega arith)
 
 four_read : (l : List ℕ) → length l ≡ 4 → read_at word l 0 ≡ taken (big_endian 4 l) 4
 unfolding read_at read
@@ -199,7 +199,7 @@ pub contents_part : (s : List ℕ) (at n : ℕ) → n ≡ size_of (drop (at + 1)
 contents_part s at n e =
     let past : at + 1 + 2 ≡ at + 3 = omega arith in
     let size : at + 3 + n - (at + 3) ≡ size_of (drop (at + 1) s) = omega arith in
-    rw size (ap (take (size_of (drop (at + 1) s))) (sym (drop_drop 2 (at + 1) s ∙ ap (λ (k : ℕ). drop k s) past)))
+    rw size (ap (take (size_of (drop (at + 1) s))) (sym (drop-drop 2 (at + 1) s ∙ ap (λ (k : ℕ). drop k s) past)))
 
 -- the settings with a field of each kind
 module _ (so : Settings) (start : ℕ) (tag : ℕ) (l : List ℕ) {end : ℕ} (e : end ≡ start + length l) where

@@ -8,7 +8,7 @@ use native.Mathlib.Numerals.{add-one}
 use native.Mathlib.Nat.{add-zero}
 use borrow.Author.Tests.{eq-eqb, ne_eqb, eqb-false}
 use lib.ListN.{length, drop, get_or, drop_of_length-le}
-use lib.Seq.{drop_drop, drop-cons}
+use lib.Seq.{drop-drop, drop-cons}
 use lib.Dec.{leb, ltb, eqb}
 use Rattle.xdr.specs.Reading.{taken, refused}
 use Rattle.settings.specs.Field.{size_of, is_whole, contents_of, is_window, is_allowance, is_repository, is_note, wrong, fault}
@@ -48,7 +48,7 @@ module _ (s : List ℕ) (least at : ℕ) (so : Settings) (h : at < length s) whe
       let l : List ℕ = drop (at + 1) s in
       let split : drop at s ≡ get_or s at 0 ∷ l = drop-cons s at 0 h ∙ ap (λ (m : ℕ). get_or s at 0 ∷ drop m s) (sym (add-one at)) in
       let past : at + 1 + (2 + size_of l) ≡ at + 3 + n = omega (arith, q) in
-      let rest : drop (2 + size_of l) l ≡ drop (at + 3 + n) s = drop_drop (2 + size_of l) (at + 1) s ∙ ap (λ (m : ℕ). drop m s) past in
+      let rest : drop (2 + size_of l) l ≡ drop (at + 3 + n) s = drop-drop (2 + size_of l) (at + 1) s ∙ ap (λ (m : ℕ). drop m s) past in
       ap (λ (m : List ℕ). read_from m 0 least at so) split
       ∙ front_good (get_or s at 0) l least at so e (omega (arith, q))
       ∙ rw (rest, p, ← q, add-one (get_or s at 0)) refl

@@ -9,7 +9,7 @@ use native.Mathlib.Nat.{add-zero}
 use native.Mathlib.Decide.{dec_le}
 use borrow.Author.Tests.{eqb-true, le-leb, lt-leb}
 use lib.ListN.{length, take, drop, length-drop, take-append-drop}
-use lib.Seq.{drop_drop, take-append-add, length-take-le}
+use lib.Seq.{drop-drop, take-append-add, length-take-le}
 use lib.Dec.{eqb}
 use Rattle.xdr.specs.Reading.{taken, refused}
 use Rattle.xdr.specs.Number.{big_endian, digits, IsBytes}
@@ -92,7 +92,7 @@ none_passed (suc skip) (b ∷ l) h = none_passed skip l (omega arith)
 -- a field at a place: its bytes
 module _ (s : List ℕ) (at b : ℕ) (l : List ℕ) (split : drop at s ≡ b ∷ l) (bytes : IsBytes s) (whole : 2 + size_of l ≤ length l) where
   tail_is : drop (at + 1) s ≡ l
-  tail_is = sym (drop_drop 1 at s) ∙ ap (drop 1) split
+  tail_is = sym (drop-drop 1 at s) ∙ ap (drop 1) split
 
   room : at + 3 + size_of l ≤ length s
   room =
@@ -106,7 +106,7 @@ module _ (s : List ℕ) (at b : ℕ) (l : List ℕ) (split : drop at s ≡ b ∷
   contents_at =
       let past : at + 1 + 2 ≡ at + 3 = omega arith in
       ap (λ (n : ℕ). take n (drop (at + 3) s)) contents_long
-      ∙ ap (take (size_of l)) (ap (λ (n : ℕ). drop n s) (sym past) ∙ sym (drop_drop 2 (at + 1) s) ∙ ap (drop 2) tail_is)
+      ∙ ap (take (size_of l)) (ap (λ (n : ℕ). drop n s) (sym past) ∙ sym (drop-drop 2 (at + 1) s) ∙ ap (drop 2) tail_is)
 
   tail_bytes : IsBytes l
   tail_bytes = subst IsBytes tail_is (bytes_drop (at + 1) s bytes)
@@ -130,7 +130,7 @@ module _ (s : List ℕ) (at b : ℕ) (l : List ℕ) (split : drop at s ≡ b ∷
   rest_is : drop (2 + size_of l) l ≡ drop (at + 3 + size_of l) s
   rest_is =
       let sum : at + 1 + (2 + size_of l) ≡ at + 3 + size_of l = omega arith in
-      ap (drop (2 + size_of l)) (sym tail_is) ∙ drop_drop (2 + size_of l) (at + 1) s ∙ ap (λ (n : ℕ). drop n s) sum
+      ap (drop (2 + size_of l)) (sym tail_is) ∙ drop-drop (2 + size_of l) (at + 1) s ∙ ap (λ (n : ℕ). drop n s) sum
 
   -- a number that is all of the contents has them as its bytes
   number_is : (k : ℕ) → length (contents_of l) ≡ k → digits k (big_endian k (contents_of l)) ≡ contents_of l
@@ -337,14 +337,14 @@ told_end s bytes (b ∷ l) (suc skip) least at so {last} {n} d h i t e =
     let long : length s - at ≡ suc (length l) = sym (length-drop at s) ∙ ap length d in
     let same : at + suc skip ≡ suc at + skip = omega arith in
     let one : at + 1 ≡ suc at = add-one at in
-    told_end s bytes l skip least (suc at) so (ap (λ (k : ℕ). drop k s) (sym one) ∙ sym (drop_drop 1 at s) ∙ ap (drop 1) d) (omega arith) (omega arith) (subst (λ (k : ℕ). Told s so least k) same t) e
+    told_end s bytes l skip least (suc at) so (ap (λ (k : ℕ). drop k s) (sym one) ∙ sym (drop-drop 1 at s) ∙ ap (drop 1) d) (omega arith) (omega arith) (subst (λ (k : ℕ). Told s so least k) same t) e
 told_end s bytes (b ∷ l) zero least at so {last} {n} d h i t e =
     let long : length s - at ≡ suc (length l) = sym (length-drop at s) ∙ ap length d in
     let one : at + 1 ≡ suc at = add-one at in
     let same : at + 3 + size_of l ≡ suc at + (2 + size_of l) = omega arith in
     go (eqb (fault least b l) 0) refl e
     (λ g f.
-    told_end s bytes l (2 + size_of l) (suc b) (suc at) (with_field so (at + 3) b (contents_of l)) (ap (λ (k : ℕ). drop k s) (sym one) ∙ sym (drop_drop 1 at s) ∙ ap (drop 1) d) g.0 (omega arith)
+    told_end s bytes l (2 + size_of l) (suc b) (suc at) (with_field so (at + 3) b (contents_of l)) (ap (λ (k : ℕ). drop k s) (sym one) ∙ sym (drop-drop 1 at s) ∙ ap (drop 1) d) g.0 (omega arith)
     (subst (λ (k : ℕ). Told s (with_field so (at + 3) b (contents_of l)) (suc b) k) same (step s at b l d bytes g.0 so least (subst (λ (k : ℕ). Told s so least k) (add-zero at) t) g.1 g.2)) f)
   where
     go : (q : Bool) → eqb (fault least b l) 0 ≡ q

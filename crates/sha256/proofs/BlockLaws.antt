@@ -1,5 +1,5 @@
 -- Blocks of bytes that are joined.
-use Rattle.std.proofs.Common.{◌≡◌, ℕ, zero, suc, ◌+◌, ◌-◌, ◌*◌, ◌/◌, ◌%◌, ◌≤◌, List, [], ◌∷◌, ◌++◌, length, take, drop, replicate, sym, refl, ap, ◌∙◌, append-nil, suc-add, zero-add, arith, length-append, length-drop, drop_of_length-le, take_all, drop_drop, take_at}
+use Rattle.std.proofs.Common.{◌≡◌, ℕ, zero, suc, ◌+◌, ◌-◌, ◌*◌, ◌/◌, ◌%◌, ◌≤◌, List, [], ◌∷◌, ◌++◌, length, take, drop, replicate, sym, refl, ap, ◌∙◌, append-nil, suc-add, zero-add, arith, length-append, length-drop, drop_of_length-le, take_all, drop-drop, take_at}
 use native.Mathlib.Nat.{sub-zero, zero-sub}
 use lib.ListN.{get_or-append}
 use lib.Seq.{drop-append-le, take-length, drop-append-add, paste}
@@ -43,7 +43,7 @@ blocks_add (suc j) k s l =
     let e : 64 + j * 64 ≡ suc j * 64 = omega arith in
     ap (λ (n : ℕ). hash_blocks n s l) (suc-add j k)
     ∙ blocks_add j k (hash_block s l) (drop 64 l)
-    ∙ ap (λ (d : List ℕ). hash_blocks k (hash_blocks j (hash_block s l) (drop 64 l)) d) (drop_drop (j * 64) 64 l ∙ ap (λ (n : ℕ). drop n l) e)
+    ∙ ap (λ (d : List ℕ). hash_blocks k (hash_blocks j (hash_block s l) (drop 64 l)) d) (drop-drop (j * 64) 64 l ∙ ap (λ (n : ℕ). drop n l) e)
 
 blocks_split : (j k : ℕ) (s : State) (b r : List ℕ) → j * 64 ≤ length b
     → hash_blocks (j + k) s (b ++ r) ≡ hash_blocks k (hash_blocks j s b) (drop (j * 64) b ++ r)
@@ -78,7 +78,7 @@ module _ (l : List ℕ) where
       let k = length l / 64 * 64 in
       let at : k + length (rest l ++ p) / 64 * 64 ≡ length (l ++ p) / 64 * 64 = omega (arith, length-append l p, length-append (rest l) p, rest_long) in
       ap (λ (x : List ℕ). drop (length (rest l ++ p) / 64 * 64) x) (sym (drop-append-le k l p (omega arith)))
-      ∙ drop_drop (length (rest l ++ p) / 64 * 64) k (l ++ p)
+      ∙ drop-drop (length (rest l ++ p) / 64 * 64) k (l ++ p)
       ∙ ap (λ (n : ℕ). drop n (l ++ p)) at
 
 -- ---- bytes laid into a block

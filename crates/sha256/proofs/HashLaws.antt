@@ -1,5 +1,5 @@
 -- Blocks one after another.
-use Rattle.std.proofs.Common.{◌≡◌, ℕ, suc, ◌+◌, ◌-◌, ◌/◌, ◌<◌, ◌≤◌, List, length, drop, sym, refl, ap, ◌∙◌, arith, drop_drop}
+use Rattle.std.proofs.Common.{◌≡◌, ℕ, suc, ◌+◌, ◌-◌, ◌/◌, ◌<◌, ◌≤◌, List, length, drop, sym, refl, ap, ◌∙◌, arith, drop-drop}
 use Rattle.sha256.specs.Constants.{K}
 use Rattle.sha256.specs.Schedule.{schedule}
 use Rattle.sha256.specs.Hash.{words_of, rounds, sum, hash_block, hash_blocks}
@@ -21,7 +21,7 @@ module _ (M : List ℕ) (at : ℕ) (s t : State) where
   block_turn h e =
       let n : (length M - at) / 64 ≡ suc ((length M - (at + 64)) / 64) = omega arith in
       ap (λ (k : ℕ). hash_blocks k s (drop at M)) n
-      ∙ ap (λ (l : List ℕ). hash_blocks ((length M - (at + 64)) / 64) (hash_block s (drop at M)) l) (drop_drop 64 at M)
+      ∙ ap (λ (l : List ℕ). hash_blocks ((length M - (at + 64)) / 64) (hash_block s (drop at M)) l) (drop-drop 64 at M)
       ∙ ap (λ (u : State). hash_blocks ((length M - (at + 64)) / 64) u (drop (at + 64) M)) (sym e)
 
   pub block_end : length M - at < 64 → hash_blocks ((length M - at) / 64) s (drop at M) ≡ s

@@ -1,5 +1,5 @@
 -- Rounds in rows of sixteen, and the schedule with them.
-use Rattle.std.proofs.Common.{◌≡◌, ℕ, zero, suc, ◌+◌, ◌-◌, ◌*◌, ◌%◌, ◌<◌, ◌≤◌, List, [], ◌∷◌, ◌++◌, length, get_or, take, drop, sym, refl, ap, ◌∙◌, append_assoc, add-zero, suc-add, zero-add, arith, length-append, length-drop, take-append-drop, length-take-le, take_all, drop-cons, drop_drop, get_or-append-add}
+use Rattle.std.proofs.Common.{◌≡◌, ℕ, zero, suc, ◌+◌, ◌-◌, ◌*◌, ◌%◌, ◌<◌, ◌≤◌, List, [], ◌∷◌, ◌++◌, length, get_or, take, drop, sym, refl, ap, ◌∙◌, append_assoc, add-zero, suc-add, zero-add, arith, length-append, length-drop, take-append-drop, length-take-le, take_all, drop-cons, drop-drop, get_or-append-add}
 use Rattle.sha256.specs.Constants.{K}
 use Rattle.sha256.specs.Schedule.{word_from, extended}
 use Rattle.sha256.specs.Hash.{round, rounds}
@@ -107,7 +107,7 @@ module _ (ws vs us vs' : List ℕ) (s r : State) (lw : length ws ≡ 8) (lv : le
   rounds_eight : (at m : ℕ) → at + 8 ≤ 64 → Eight at ws vs us vs' s r
       → rounds (drop at K) (extended (8 + m) (ws ++ vs)) s ≡ rounds (drop (at + 8) K) (extended m (vs ++ us)) r
   rounds_eight at m h t =
-      let split : drop at K ≡ take 8 (drop at K) ++ drop (at + 8) K = sym (take-append-drop 8 (drop at K)) ∙ ap (λ (l : List ℕ). take 8 (drop at K) ++ l) (drop_drop 8 at K) in
+      let split : drop at K ≡ take 8 (drop at K) ++ drop (at + 8) K = sym (take-append-drop 8 (drop at K)) ∙ ap (λ (l : List ℕ). take 8 (drop at K) ++ l) (drop-drop 8 at K) in
       let long : length (take 8 (drop at K)) ≡ 8 = length-take-le 8 (drop at K) (rw (length-drop at K) (omega (arith, K-long))) in
       ap (λ (l : List ℕ). rounds l (extended (8 + m) (ws ++ vs)) s) split
       ∙ ap (λ (l : List ℕ). rounds (take 8 (drop at K) ++ drop (at + 8) K) l s) (schedule_eight m t.words)

@@ -1,5 +1,5 @@
 -- Words in bytes.
-use Rattle.std.proofs.Common.{◌≡◌, ℕ, suc, ◌+◌, ◌*◌, ◌<◌, List, [], ◌∷◌, length, get_or, take, drop, refl, add-zero, add_assoc, add-one, get_or-drop, drop-cons, drop_drop}
+use Rattle.std.proofs.Common.{◌≡◌, ℕ, suc, ◌+◌, ◌*◌, ◌<◌, List, [], ◌∷◌, length, get_or, take, drop, refl, add-zero, add_assoc, add-one, get_or-drop, drop-cons, drop-drop}
 use Rattle.sha256.specs.Hash.{word_of, words_of}
 
 module _ (s : List ℕ) (at : ℕ) where
@@ -10,7 +10,7 @@ module _ (s : List ℕ) (at : ℕ) where
 
   words_step : (n : ℕ) → words_of (suc n) (drop at s) ≡ word_of (drop at s) ∷ words_of n (drop (at + 4) s)
   unfolding words_of
-  words_step n = rw drop_drop refl
+  words_step n = rw drop-drop refl
 
   -- the sixteen words at a place
   pub block_words :
@@ -20,7 +20,7 @@ module _ (s : List ℕ) (at : ℕ) where
       word_of (drop (at + 32) s) ∷ word_of (drop (at + 36) s) ∷ word_of (drop (at + 40) s) ∷ word_of (drop (at + 44) s) ∷
       word_of (drop (at + 48) s) ∷ word_of (drop (at + 52) s) ∷ word_of (drop (at + 56) s) ∷ word_of (drop (at + 60) s) ∷ []
   unfolding words_of
-  block_words = simp (drop_drop, add_assoc)
+  block_words = simp (drop-drop, add_assoc)
 
   -- the first of some elements at a place
   pub take_step : (n : ℕ) → at < length s → take (suc n) (drop at s) ≡ get_or s at 0 ∷ take n (drop (at + 1) s)

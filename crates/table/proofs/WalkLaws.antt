@@ -4,7 +4,7 @@ use mathlib.Core.List.{List, [], ◌∷◌}
 use mathlib.Core.Path.{◌≡◌, refl, sym, ap, ◌∙◌}
 use native.Mathlib.Omega.{arith}
 use lib.ListN.{length, take, drop, length-append, length-drop}
-use lib.Seq.{drop_drop, drop-length, drop_at, take_at}
+use lib.Seq.{drop-drop, drop-length, drop_at, take_at}
 use Rattle.xdr.specs.Format.{encode}
 use Rattle.xdr.specs.Fields.{word}
 use Rattle.record.specs.File.{File, file, from_flags}
@@ -69,7 +69,7 @@ module _ {t : List ℕ} {at : ℕ} {f : File} {fs : List File} (w : At t at (f �
         bytes_are = ap (take ((fields_of at f).past - at)) w.here ∙ take_at (encode file f) (bytes_of fs) ((fields_of at f).past - at) k;
         sized = sym p.ends;
         next = record {
-          here = ap (λ (k : ℕ). drop k t) (sym p.ends) ∙ sym (drop_drop (length (encode file f)) at t) ∙ ap (drop (length (encode file f))) w.here ∙ drop_at (encode file f) (bytes_of fs) (length (encode file f)) refl;
+          here = ap (λ (k : ℕ). drop k t) (sym p.ends) ∙ sym (drop-drop (length (encode file f)) at t) ∙ ap (drop (length (encode file f))) w.here ∙ drop_at (encode file f) (bytes_of fs) (length (encode file f)) refl;
           inside = omega (arith, p.ends, p.room);
           valid = w.valid.1;
         };

@@ -5,7 +5,7 @@ use mathlib.Core.Path.{◌≡◌, refl, sym, ap, ◌∙◌}
 use mathlib.Core.Bool.{Bool, true, false, cond}
 use native.Mathlib.Omega.{arith}
 use lib.ListN.{length, drop}
-use lib.Seq.{drop_drop}
+use lib.Seq.{drop-drop}
 use Rattle.xdr.proofs.Parts.{Elements}
 use Rattle.record.specs.Block.{Block, block}
 use Rattle.record.specs.File.{File}
@@ -26,7 +26,7 @@ blocks_by s l first next e [] i d = refl
 blocks_by s l first next e (b ∷ m) i d =
     let x = nth_block s l first next i b m e d in
     let same : block_here s (block_place first i) ≡ b = rw (← x.size_is, ← x.hash_is) refl in
-    let after : drop (i + 1) l ≡ m = sym (drop_drop 1 i l) ∙ ap (drop 1) d in
+    let after : drop (i + 1) l ≡ m = sym (drop-drop 1 i l) ∙ ap (drop 1) d in
     let rest : blocks_from s first (i + 1) (length m) ≡ m = blocks_by s l first next e m (i + 1) after in
     ap (λ (c : Block). c ∷ blocks_from s first (i + 1) (length m)) same ∙ ap (λ (k : List Block). b ∷ k) rest
 

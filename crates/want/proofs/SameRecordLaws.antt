@@ -5,7 +5,7 @@ use mathlib.Core.Path.{◌≡◌, refl, sym, ap, subst, ◌∙◌}
 use mathlib.Core.Bool.{Bool, true, false}
 use native.Mathlib.Omega.{arith}
 use lib.ListN.{take, drop}
-use lib.Seq.{drop_drop, take-add}
+use lib.Seq.{drop-drop, take-add}
 use Rattle.xdr.specs.Format.{encode}
 use Rattle.xdr.specs.Number.{digits}
 use Rattle.record.specs.File.{File, from_flags}
@@ -47,7 +47,7 @@ module _ {t : List ℕ} {f : RecordFields} (w : Stood t f) where
       ap (λ (k : ℕ). take k (drop f.rest t)) whole
       ∙ take-add 20 (f.past - f.first) (drop f.rest t)
       ∙ ap (λ (l : List ℕ). l ++ take (f.past - f.first) (drop 20 (drop f.rest t))) numbers_are
-      ∙ ap (λ (l : List ℕ). numbers_of f.flags f.modified f.version f.blocks ++ take (f.past - f.first) l) (drop_drop 20 f.rest t ∙ ap (λ (k : ℕ). drop k t) (sym i.rested))
+      ∙ ap (λ (l : List ℕ). numbers_of f.flags f.modified f.version f.blocks ++ take (f.past - f.first) l) (drop-drop 20 f.rest t ∙ ap (λ (k : ℕ). drop k t) (sym i.rested))
 
   -- none
   no_blocks : f.blocks ≡ 0 → part t f.first f.past ≡ []

@@ -7,7 +7,7 @@ use mathlib.Core.Logic.{inl, inr}
 use mathlib.Core.Bool.{Bool, true, false, cond}
 use native.Mathlib.Omega.{arith}
 use lib.ListN.{length, get_or, drop, get_or-map}
-use lib.Seq.{drop_drop}
+use lib.Seq.{drop-drop}
 use Rattle.xdr.specs.Format.{read}
 use Rattle.record.specs.Block.{Block}
 use Rattle.record.specs.File.{File}
@@ -290,7 +290,7 @@ module _ {ts : List (List ℕ)} {ps : List ℕ} {ls : List (List File)} (w : Wal
         lists_here u.head (get_or ls m []) (w.here m s) (leads m s) (w.rising m s) offset b
         ∙ sym (w.lists u.head (head_in u.heading) m s offset b)
         ∙ ap (λ (l : List ℕ). lists_there (records l) u.head.name offset b) (head_of ts m q qs d) in
-        let after : drop (m + 1) ts ≡ qs = sym (drop_drop 1 m ts) ∙ ap (drop 1) d in
+        let after : drop (m + 1) ts ≡ qs = sym (drop-drop 1 m ts) ∙ ap (drop 1) d in
         let is : ℕ → Bool = λ k. lists_at (table_at ts k) (place_at ps k) u.head.name offset b in
         first_next is m (length qs)
         ∙ ap (λ (v : Bool). cond v m (first_of is (m + 1) (length qs))) mine

@@ -8,7 +8,7 @@ use native.Mathlib.Nat.{zero-add}
 use borrow.Author.Tests.{le-leb, lt-leb}
 use borrow.Rule.Slice.PartMut.{put_mid}
 use lib.ListN.{length, take, drop, length-append, length-drop, take-append-drop}
-use lib.Seq.{take_at, drop_at, drop_drop, drop-append-le, drop-length, length-take-le}
+use lib.Seq.{take_at, drop_at, drop-drop, drop-append-le, drop-length, length-take-le}
 use Rattle.xdr.specs.Format.{bytes, encode}
 use Rattle.xdr.specs.Fields.{word}
 use Rattle.xdr.specs.Buffer.{filled, over, has_room, put, put_count, opaque_bytes}
@@ -32,7 +32,7 @@ module _ (out : List ℕ) (at : ℕ) (l : List ℕ) where
       let long : length p ≡ at + length l = length-append (take at out) l ∙ ap (λ (n : ℕ). n + length l) (length-take-le at out (omega arith)) in
       let split : over out at l ≡ p ++ rest = sym (append_assoc (take at out) l rest) in
       let behind : drop (length m) rest ≡ drop (length (l ++ m)) (drop at out) =
-      drop_drop (length m) (length l) (drop at out) ∙ ap (λ (n : ℕ). drop n (drop at out)) (sym (length-append l m)) in
+      drop-drop (length m) (length l) (drop at out) ∙ ap (λ (n : ℕ). drop n (drop at out)) (sym (length-append l m)) in
       ap (λ (o : List ℕ). take (at + length l) o ++ (m ++ drop (length m) (drop (at + length l) o))) split
       ∙ ap (λ (o : List ℕ). o ++ (m ++ drop (length m) (drop (at + length l) (p ++ rest)))) (take_at p rest (at + length l) long)
       ∙ ap (λ (o : List ℕ). p ++ (m ++ drop (length m) o)) (drop_at p rest (at + length l) long)

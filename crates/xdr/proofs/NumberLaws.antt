@@ -3,9 +3,9 @@ use Prim.Native.Nat.{ℕ, zero, suc, ◌+◌, ◌*◌, ◌/◌, ◌%◌, ◌^◌
 use mathlib.Core.List.{List, [], ◌∷◌, ◌++◌}
 use mathlib.Core.Path.{◌≡◌, refl, sym, ap, ◌∙◌}
 use native.Mathlib.Omega.{arith}
-use native.Mathlib.Nat.{div-add-mod', mod-lt, pow-succ', suc-mul, add-zero, add_assoc, mul-le-mul_right, div-eq_of_lt, mod-eq_of_lt, mul_add_div_right, mul-add-mod_self_right}
+use native.Mathlib.Nat.{div-add-mod', mod-lt, pow-succ', suc-mul, add-zero, add_assoc, mul-le-mul_right, div-eq_of_lt, mod-eq_of_lt, mul-add-div_right, mul-add-mod_self_right}
 use lib.ListN.{length, take, drop, get_or}
-use lib.Seq.{get_or-drop, drop_drop}
+use lib.Seq.{get_or-drop, drop-drop}
 use Rattle.xdr.specs.Number.{big_endian, digits, IsBytes}
 use Rattle.xdr.specs.Steps.{little_endian}
 
@@ -33,7 +33,7 @@ digits_read (suc k) (x ∷ s) b h =
     let rest = digits_read k s (λ i. b (suc i)) (omega arith) in
     let small : big_endian k s < 256 ^ k = rest.1 in
     let high : (x * 256 ^ k + big_endian k s) / 256 ^ k ≡ x =
-    mul_add_div_right (power_positive k) x (big_endian k s) ∙ ap (λ (n : ℕ). x + n) (div-eq_of_lt small) ∙ add-zero x in
+    mul-add-div_right (power_positive k) x (big_endian k s) ∙ ap (λ (n : ℕ). x + n) (div-eq_of_lt small) ∙ add-zero x in
     let low : (x * 256 ^ k + big_endian k s) % 256 ^ k ≡ big_endian k s =
     mul-add-mod_self_right x (256 ^ k) (big_endian k s) ∙ mod-eq_of_lt small in
     let top : suc x * 256 ^ k ≤ 256 * 256 ^ k = mul-le-mul_right (256 ^ k) (b 0) in
@@ -42,7 +42,7 @@ digits_read (suc k) (x ∷ s) b h =
 -- a word, by its four bytes
 pub four_bytes : (s : List ℕ) (at : ℕ)
     → big_endian 4 (drop at s) ≡ get_or s at 0 * 16777216 + get_or s (at + 1) 0 * 65536 + get_or s (at + 2) 0 * 256 + get_or s (at + 3) 0
-four_bytes s at = simp (drop_drop, get_or-drop, add_assoc, add-zero) (omega arith)
+four_bytes s at = simp (drop-drop, get_or-drop, add_assoc, add-zero) (omega arith)
 
 -- the same bytes, the lowest first
 pub low_bytes : (s : List ℕ) (at : ℕ)
@@ -70,7 +70,7 @@ swapped_word s at {w} b e =
 
 -- a number of eight bytes, by its two words
 pub two_words : (s : List ℕ) (at : ℕ) → big_endian 8 (drop at s) ≡ big_endian 4 (drop at s) * 4294967296 + big_endian 4 (drop (at + 4) s)
-two_words s at = simp (drop_drop, get_or-drop, add_assoc, add-zero) (omega arith)
+two_words s at = simp (drop-drop, get_or-drop, add_assoc, add-zero) (omega arith)
 
 -- the bytes of a word, by division
 pub word_digits : (n : ℕ) → n / 16777216 ∷ n / 65536 % 256 ∷ n / 256 % 256 ∷ n % 256 ∷ [] ≡ digits 4 n

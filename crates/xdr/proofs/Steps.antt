@@ -8,7 +8,7 @@ use native.Mathlib.Nat.{add-zero, zero-add, add_assoc, zero-min}
 use native.Mathlib.Decide.{dec_le}
 use borrow.Author.Tests.{le-leb, lt-leb, leb-true}
 use lib.ListN.{length, take, drop, length-drop}
-use lib.Seq.{drop_drop, length-take-le}
+use lib.Seq.{drop-drop, length-take-le}
 use lib.Dec.{leb}
 use Rattle.xdr.specs.Reading.{Reading, taken, refused, shifted, mapped, relocated, tested, and_then}
 use Rattle.xdr.specs.Number.{big_endian}
@@ -62,7 +62,7 @@ module _ {A B : Type 0} (p : List ℕ → Reading A) (f : A → List ℕ → Rea
   pub then_taken : (a : A) (m : ℕ) → shifted at (p (drop at s)) ≡ taken a m → shifted at (and_then (p (drop at s)) f (drop at s)) ≡ shifted m (f a (drop m s))
   then_taken a m e =
       let w = unshifted at (p (drop at s)) a m e in
-      simp (w.1, shifted_shifted, drop_drop, w.2)
+      simp (w.1, shifted_shifted, drop-drop, w.2)
 
   pub then_refused : (k q : ℕ) → shifted at (p (drop at s)) ≡ refused k q → shifted at (and_then (p (drop at s)) f (drop at s)) ≡ refused k q
   then_refused k q e =
@@ -214,14 +214,14 @@ module _ {C : Format ℕ} {s : List ℕ} {at n m : ℕ} (h : Reads C s at (taken
         record {
           is =
               relocated_at at (and_then (read C (drop at s)) contents (drop at s)) 6 (m - at + (n + zeros))
-              (after_length_lem ∙ (simp (length-drop, le-leb (padded n) (length s - m) k, drop_drop, z)) ∙ ap (refused 6) there)
+              (after_length_lem ∙ (simp (length-drop, le-leb (padded n) (length s - m) k, drop-drop, z)) ∙ ap (refused 6) there)
               ∙ ap (refused 6) (sym there);
         }
 
     pub bytes_read : all_zero (take (padded n - n) (drop (m + n) s)) ≡ true → Reads (bytes C) s at (taken (take n (drop m s)) (m + padded n))
     unfolding read read_at
     bytes_read z =
-        record { is = relocated_taken at (and_then (read C (drop at s)) contents (drop at s)) _ _ (after_length_lem ∙ simp (length-drop, le-leb (padded n) (length s - m) k, drop_drop, z)) }
+        record { is = relocated_taken at (and_then (read C (drop at s)) contents (drop at s)) _ _ (after_length_lem ∙ simp (length-drop, le-leb (padded n) (length s - m) k, drop-drop, z)) }
 
 -- what an accepted string or opaque is made of: its length, read as its own format says, and its contents after it
 pub record Opened (C : Format ℕ) (s : List ℕ) (at : ℕ) (l : List ℕ) (next : ℕ) : Type 0 where

@@ -10,7 +10,7 @@ use borrow.Author.Tests.{le-leb, lt-leb}
 use lib.ListN.{length, get_or, drop, drop_of_length-le, length-drop}
 use lib.Bits.{bit_and}
 use lib.Dec.{leb}
-use lib.Seq.{drop-cons, drop_drop, get_or-drop}
+use lib.Seq.{drop-cons, drop-drop, get_or-drop}
 use Rattle.xdr.specs.Number.{IsBytes}
 use Rattle.xdr.specs.Text.{followers, lowest, highest, is_within, sound_from, sound_up_to}
 use Rattle.xdr.specs.Steps.{little_endian, followed_by, sound_after, Whole, Advance}
@@ -106,7 +106,7 @@ module _ (s : List ℕ) (i n : ℕ) (h : i < length s) (e : n ≡ followers (get
         within = omega (arith, there, long, h);
         on =
             by_followers f
-            ∙ ap (λ (l : List ℕ). sound_from l 0 128 191 i (i + 1 + n)) (drop_drop n (i + 1) s)
+            ∙ ap (λ (l : List ℕ). sound_from l 0 128 191 i (i + 1 + n)) (drop-drop n (i + 1) s)
             ∙ start_free (drop (i + 1 + n) s) 128 191 i (i + 1 + n) (i + 1 + n)
             ∙ ap (sound_after s) past;
       }
@@ -129,7 +129,7 @@ module _ (s : List ℕ) (at low high : ℕ) where
   followed_none h = rw (drop_of_length-le s {i = at} h) refl
 
   followed_first : (n : ℕ) → followed_by (suc n) low high (drop at s) ≡ (followed_by 1 low high (drop at s) && followed_by n 128 191 (drop (at + 1) s))
-  followed_first n = go (drop at s) (drop_drop 1 at s)
+  followed_first n = go (drop at s) (drop-drop 1 at s)
     where
       go' : (f : Bool) (l m : List ℕ) → l ≡ m → (f && followed_by n 128 191 l) ≡ ((f && true) && followed_by n 128 191 m)
       go' true l m q = ap (followed_by n 128 191) q
