@@ -1,4 +1,6 @@
 // Accepting an Index or an IndexUpdate: the sender's new table into a lent buffer.
+#![tactic(auto)]
+
 pub mod accepting;
 mod next;
 mod slot;

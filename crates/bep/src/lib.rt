@@ -2,6 +2,8 @@
 //
 // Each function takes any bytes, returns 0 where it accepts and else the number of the refusal, and fills the whole answer. What is lent for
 // an answer or a message overlaps nothing else that the call is given.
+#![tactic(auto)]
+
 pub mod feeding;
 mod filling;
 pub mod hashing;

@@ -1,4 +1,6 @@
 // Runs worked bytes through the proved functions and prints one line a case: what was given, and what came out.
+#![tactic(auto)]
+
 mod leaves;
 mod messages;
 mod names;

@@ -1,4 +1,6 @@
 // Turning a message of one edition into the other, into a lent buffer.
+#![tactic(auto)]
+
 pub mod extent;
 pub mod turning;
 

@@ -1,4 +1,6 @@
 // Messages of the old edition, read, written and turned, one case after another: what was given, and what came out.
+#![tactic(auto)]
+
 mod reading;
 mod turning;
 mod writing;

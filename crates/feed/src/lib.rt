@@ -1,4 +1,6 @@
 // Reading a message from runs of bytes as they come: a small state by value, fed one run after another.
+#![tactic(auto)]
+
 pub mod feeding;
 mod front;
 pub mod goals;

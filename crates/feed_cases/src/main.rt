@@ -1,4 +1,6 @@
 // Messages read run by run, one case after another: each run, what was said after it, how many of its bytes were taken, and the header.
+#![tactic(auto)]
+
 mod bodies;
 mod ends;
 mod forged;

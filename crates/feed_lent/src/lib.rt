@@ -1,4 +1,6 @@
 // The state of a reading that is fed run by run, as words that a host lends: a run that ends within a field changes few of them.
+#![tactic(auto)]
+
 pub mod feeding;
 pub mod fields;
 pub mod lent;

@@ -1,4 +1,6 @@
 // Files to read. One that is no regular file is not opened: a pipe would be waited for without end.
+#![tactic(auto)]
+
 mod status;
 mod table;
 

@@ -1,4 +1,6 @@
 // What the programs' lines are made of, on standard output.
+#![tactic(auto)]
+
 ghost use Rattle.std.specs.Prelude.{◌≡◌};
 ghost use Rattle.lines.specs.Buffer.{is_untouched};
 

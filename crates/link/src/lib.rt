@@ -3,6 +3,8 @@
 //
 // Each call takes the link by value, whatever it holds, and hands it back beside what came of the call. The hashes that were asked for stand
 // beside it.
+#![tactic(auto)]
+
 pub mod hashes;
 pub mod list;
 pub mod outcome;

@@ -1,4 +1,6 @@
 // Prints the records of the table in the file `table`, a line each, or only `refused` and the number.
+#![tactic(auto)]
+
 mod line;
 
 use files::Opened;

@@ -1,4 +1,6 @@
 // The header and the seven messages of BEP v1.0: read from a slice.
+#![tactic(auto)]
+
 pub mod answer;
 pub mod edition;
 pub mod header;

@@ -2,6 +2,8 @@
 //
 // Each writer takes any fields and any buffer. It checks the Message ID, then the fields as reading the message would, then the room; only
 // a message that passes all of them changes the buffer, and only its first bytes, as many as the answer says.
+#![tactic(auto)]
+
 pub mod check;
 pub mod write;
 

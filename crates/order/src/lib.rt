@@ -1,4 +1,6 @@
 // The order of numbers and of bytes, and sameness of hashes.
+#![tactic(auto)]
+
 pub mod compare;
 pub mod hash;
 pub mod long;

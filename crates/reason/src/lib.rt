@@ -1,4 +1,6 @@
 // Why a block isn't coming: the first reason that is true, by the request list's own rules.
+#![tactic(auto)]
+
 pub mod finding;
 pub mod highest;
 pub mod peers;

@@ -1,4 +1,6 @@
 // The records of a message: blocks, files and options, and arrays of them.
+#![tactic(auto)]
+
 pub mod array;
 pub mod block;
 pub mod file;

@@ -1,4 +1,6 @@
 // Settings read and saved, one case after another: what was given and what came out.
+#![tactic(auto)]
+
 mod line;
 mod reading;
 mod saving;

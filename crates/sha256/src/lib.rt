@@ -1,6 +1,8 @@
 // SHA-256 by FIPS 180-4, of bytes in one or in pieces.
 //
 // A hasher is taken by value, whatever it holds, and handed back.
+#![tactic(auto)]
+
 mod block;
 mod bytes;
 mod compress;

@@ -1,4 +1,6 @@
 // Tables of records: which of two records is the newer, good tables, and whose record comes next in a walk over two.
+#![tactic(auto)]
+
 pub mod good;
 pub mod newest;
 pub mod side;

@@ -1,4 +1,6 @@
 // Runs tables through the proved functions and prints one line a case: what was given, and what came out.
+#![tactic(auto)]
+
 mod accepts;
 mod build;
 mod filling;

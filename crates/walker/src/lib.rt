@@ -1,5 +1,7 @@
 // A walker over a table: it keeps the table and its place together, and yields one record after another. All branches are in functions on
 // the table and the place; the walker is thin over them.
+#![tactic(auto)]
+
 ghost use Rattle.std.specs.Prelude.{◌≡◌};
 ghost use Rattle.walker.specs.Walk.{step_at, next_place, given, stepped};
 

@@ -1,4 +1,6 @@
 // Which blocks to request, and from whom.
+#![tactic(auto)]
+
 pub mod block;
 pub mod entry;
 pub mod fields;

@@ -1,4 +1,6 @@
 // Runs tables and Requests through the proved functions and prints one case after another: what was given, and what came out.
+#![tactic(auto)]
+
 mod arrived;
 mod build;
 mod finds;

@@ -1,5 +1,7 @@
 // Prints which blocks to request and from whom, by the tables in the files `local` and `peer1` to `peer4`: a line a block and a closing
 // line, or only `refused` and the number.
+#![tactic(auto)]
+
 mod entry;
 mod print;
 mod request;

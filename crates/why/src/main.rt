@@ -1,4 +1,6 @@
 // Says why a block isn't coming, by the tables in the files `local` and `peer1` to `peer4`: `why NAME BLOCK` prints one line.
+#![tactic(auto)]
+
 mod asked;
 mod number;
 mod print;

@@ -1,4 +1,6 @@
 // XDR: words, hypers, opaques and strings, read at a place of a slice or put into a lent buffer; the text rule.
+#![tactic(auto)]
+
 pub mod answer;
 pub mod filling;
 mod number;
