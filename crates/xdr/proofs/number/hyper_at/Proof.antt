@@ -8,7 +8,7 @@ use Rattle.xdr.proofs.number.hyper_at.Tie as tie
 returns : tie.Need-returns
 returns c =
     let a = c.before.before.before.before.args in
-    omega (arith, c.paired.ensures, c.before.word-at2.ensures, c.before.before.word_at.ensures, two_words a.s.now a.at)
+    omega (arith, c.paired.ensures, c.before.word_at-2.ensures, c.before.before.word_at.ensures, two_words a.s.now a.at)
 
 pub hyper_at_spec : {M : Type 1} → statement M
 hyper_at_spec =

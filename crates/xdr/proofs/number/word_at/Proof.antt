@@ -8,7 +8,7 @@ use Rattle.xdr.proofs.number.word_at.Tie as tie
 returns : tie.Need-returns
 returns c =
     let a = c.before.before.before.args in
-    c.swapped.ensures ∙ swapped_word a.s.now a.at (λ i. (c.before.before.shared-slice-known.given i).fits) c.before.little-endian-at.ensures
+    c.swapped.ensures ∙ swapped_word a.s.now a.at (λ i. (c.before.before.shared_slice_known-1.given i).fits) c.before.little_endian_at.ensures
 
 pub word_at_spec : {M : Type 1} → statement M
 word_at_spec = tie.close (tie.spec (λ c κs. search rules) (λ c κs. search rules) returns)

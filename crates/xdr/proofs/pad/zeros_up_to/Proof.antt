@@ -9,28 +9,28 @@ use Rattle.xdr.proofs.PadLaws.{zero_next, zero_broken, zero_end}
 use Rattle.xdr.proofs.pad.zeros_up_to.Statement.{statement}
 use Rattle.xdr.proofs.pad.zeros_up_to.Tie as tie
 
-abbrev invariant-loop : tie.invariant-loop
+abbrev invariant-loop : tie.invariant-loop-i
 invariant-loop s i₀ i = zeros_up_to s ≡ i + zeros_up_to (drop i s)
 
-abbrev decreases-loop : tie.decreases-loop
+abbrev decreases-loop : tie.decreases-loop-i
 decreases-loop s i₀ i = length s - i
 
-loop-holds : tie.Need-loop-init invariant-loop decreases-loop
+loop-holds : tie.Need-loop-i-init invariant-loop decreases-loop
 loop-holds c = sym (zero-add _)
+
+returns-then-s-i-ne0 : tie.Need-returns-then-s-i-ne0 invariant-loop decreases-loop
+returns-then-s-i-ne0 c =
+    let h = c.before.before.before.loop-i in
+    sym (h.invariant ∙ zero_broken c.before.before.before.before.args.s.now h.i (search rules) c.if-s-i-ne0.true)
+
+loop-again : tie.Need-loop-i-preserved invariant-loop decreases-loop
+loop-again c =
+    let h = c.before.before.before.loop-i in
+    h.invariant ∙ zero_next c.before.before.before.before.args.s.now h.i (search rules) c.if-s-i-ne0.false
 
 returns : tie.Need-returns invariant-loop decreases-loop
 returns c =
-    let h = c.before.before.before.loop in
-    sym (h.invariant ∙ zero_broken c.before.before.before.before.args.s.now h.i (search rules) c.if1.true)
-
-loop-again : tie.Need-loop-preserved invariant-loop decreases-loop
-loop-again c =
-    let h = c.before.before.before.loop in
-    h.invariant ∙ zero_next c.before.before.before.before.args.s.now h.i (search rules) c.if1.false
-
-returns-2 : tie.Need-returns-2 invariant-loop decreases-loop
-returns-2 c =
-    let h = c.before.loop in
+    let h = c.before.loop-i in
     sym (h.invariant ∙ zero_end c.before.before.args.s.now h.i (search rules))
 
 pub zeros_up_to_spec : {M : Type 1} → statement M
@@ -41,8 +41,8 @@ zeros_up_to_spec =
     decreases-loop
     loop-holds
     (λ c. search rules)
-    returns
+    returns-then-s-i-ne0
     (λ c. search rules)
     (λ c. search rules)
     loop-again
-    returns-2)
+    returns)

@@ -11,23 +11,23 @@ use lib.Seq.{paste, paste-zero, paste-suc, take-length}
 use Rattle.xdr.proofs.put.copy_bytes.Statement.{statement}
 use Rattle.xdr.proofs.put.copy_bytes.Tie as tie
 
-abbrev invariant-loop : tie.invariant-loop
+abbrev invariant-loop : tie.invariant-loop-i
 invariant-loop out₀ src i₀ out i = (i ≤ length src) × (out ≡ paste out₀ 0 src i) × (length out ≡ length out₀)
 
-abbrev decreases-loop : tie.decreases-loop
+abbrev decreases-loop : tie.decreases-loop-i
 decreases-loop out₀ src i₀ out i = length src - i
 
-loop-holds : tie.Need-loop-init invariant-loop decreases-loop
+loop-holds : tie.Need-loop-i-init invariant-loop decreases-loop
 loop-holds c = (search rules, paste-zero c.args.out.now 0 c.args.src.now, refl)
 
-loop-again : tie.Need-loop-preserved invariant-loop decreases-loop
+loop-again : tie.Need-loop-i-preserved invariant-loop decreases-loop
 loop-again c =
     let at = c.before.before in
     let args = at.before.args in (
       search rules,
-      ap (λ (l : List ℕ). set l at.loop.i (get_or args.src.now at.loop.i 0)) at.loop.invariant.1
-          ∙ ap (λ (k : ℕ). set (paste args.out.now 0 args.src.now at.loop.i) k (get_or args.src.now at.loop.i 0)) (rw zero-add refl)
-          ∙ paste-suc args.out.now 0 args.src.now at.loop.i 0 (omega arith) (search rules) ∙ rw add-one,
+      ap (λ (l : List ℕ). set l at.loop-i.i (get_or args.src.now at.loop-i.i 0)) at.loop-i.invariant.1
+          ∙ ap (λ (k : ℕ). set (paste args.out.now 0 args.src.now at.loop-i.i) k (get_or args.src.now at.loop-i.i 0)) (rw zero-add refl)
+          ∙ paste-suc args.out.now 0 args.src.now at.loop-i.i 0 (omega arith) (search rules) ∙ rw add-one,
       search rules,
     )
 
@@ -35,8 +35,8 @@ returns : tie.Need-returns invariant-loop decreases-loop
 returns c =
     let at = c.before in
     let args = at.before.args in
-    let e : at.loop.i ≡ length args.src.now = omega arith in
-    at.loop.invariant.1 ∙ ap (paste args.out.now 0 args.src.now) e ∙ simp (take-length, zero-add)
+    let e : at.loop-i.i ≡ length args.src.now = omega arith in
+    at.loop-i.invariant.1 ∙ ap (paste args.out.now 0 args.src.now) e ∙ simp (take-length, zero-add)
 
 pub copy_bytes_spec : {M : Type 1} → statement M
 copy_bytes_spec =

@@ -22,41 +22,41 @@ beyond l h = simp (lt-leb (length l) 4294967295 h)
 size : (l : List ℕ) → length (encode (bytes word) l) ≡ 4 + padded (length l)
 size l = bytes_size word l ∙ ap (λ (n : ℕ). n + padded (length l)) (number_size 4 (length l))
 
-returns : tie.Need-returns
-returns c = rw (beyond c.before.before.before.args.src.now c.if1.true) (put_nothing c.before.before.before.args.out.now c.before.before.before.args.at)
+returns-then-n-gt4294967295 : tie.Need-returns-then-n-gt4294967295
+returns-then-n-gt4294967295 c = rw (beyond c.before.before.before.args.src.now c.if-n-gt4294967295.true) (put_nothing c.before.before.before.args.out.now c.before.before.before.args.at)
 
-returns-2 : tie.Need-returns-2
-returns-2 c =
+returns-then-out-size : tie.Need-returns-then-out-size
+returns-then-out-size c =
     let src = c.before.before.before.before.before.args.src.now in
-    rw (opaque_bytes_lem src (search rules)) (put_refused _ _ (encode (bytes word) src) (omega (arith, size src, c.before.pad-after.ensures)))
+    rw (opaque_bytes_lem src (search rules)) (put_refused _ _ (encode (bytes word) src) (omega (arith, size src, c.before.pad_after.ensures)))
 
-returns-3 : tie.Need-returns-3
-returns-3 c =
+returns-then-out-size-2 : tie.Need-returns-then-out-size-2
+returns-then-out-size-2 c =
     let src = c.before.before.before.before.before.before.args.src.now in
-    rw (opaque_bytes_lem src (search rules)) (put_refused _ _ (encode (bytes word) src) (omega (arith, size src, c.before.before.pad-after.ensures)))
+    rw (opaque_bytes_lem src (search rules)) (put_refused _ _ (encode (bytes word) src) (omega (arith, size src, c.before.before.pad_after.ensures)))
 
-returns-4 : tie.Need-returns-4
-returns-4 c =
+returns : tie.Need-returns
+returns c =
     let a = c.before.before.before.before.before.before.before.before.before.before.args in
     let src = a.src.now in
-    let pad = c.before.before.before.before.before.before.pad-after.ensures in
+    let pad = c.before.before.before.before.before.before.pad_after.ensures in
     rw (opaque_bytes_lem src (search rules))
-    (put_stored a.out.now a.at (encode (bytes word) src) _ _ (omega (arith, size src, pad)) (omega (arith, size src, pad)) c.before.before.store_Bytes.ensures)
+    (put_stored a.out.now a.at (encode (bytes word) src) _ _ (omega (arith, size src, pad)) (omega (arith, size src, pad)) c.before.before.store_bytes.ensures)
 
 pub put_bytes_spec : {M : Type 1} → statement M
 put_bytes_spec =
     tie.close
     (tie.spec
-    returns
+    returns-then-n-gt4294967295
     (λ c. search rules)
     (λ c κs. search rules)
     (λ c. search rules)
-    returns-2
+    returns-then-out-size
     (λ c. search rules)
-    returns-3
+    returns-then-out-size-2
     (λ c. search rules)
     (λ c. search rules)
     (λ c. search rules)
     (λ c κs. search rules)
     (λ c. search rules)
-    returns-4)
+    returns)

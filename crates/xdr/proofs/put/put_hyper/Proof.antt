@@ -9,28 +9,28 @@ use Rattle.xdr.proofs.BufferLaws.{put_refused, put_stored}
 use Rattle.xdr.proofs.put.put_hyper.Statement.{statement}
 use Rattle.xdr.proofs.put.put_hyper.Tie as tie
 
+returns-then-out-lt8 : tie.Need-returns-then-out-lt8
+returns-then-out-lt8 c = put_refused _ _ (encode hyper c.before.before.args.n) (omega (arith, number_size 8 c.before.before.args.n))
+
+returns-then-out-at : tie.Need-returns-then-out-at
+returns-then-out-at c = put_refused _ _ (encode hyper c.before.before.before.args.n) (omega (arith, number_size 8 c.before.before.before.args.n))
+
 returns : tie.Need-returns
-returns c = put_refused _ _ (encode hyper c.before.before.args.n) (omega (arith, number_size 8 c.before.before.args.n))
-
-returns-2 : tie.Need-returns-2
-returns-2 c = put_refused _ _ (encode hyper c.before.before.before.args.n) (omega (arith, number_size 8 c.before.before.before.args.n))
-
-returns-3 : tie.Need-returns-3
-returns-3 c =
+returns c =
     let a = c.before.before.before.before.before.before.before.args in
     let size = number_size 8 a.n in
-    put_stored a.out.now a.at (encode hyper a.n) _ 8 (omega (arith, size)) (sym size) c.before.before.store-hyper.ensures
+    put_stored a.out.now a.at (encode hyper a.n) _ 8 (omega (arith, size)) (sym size) c.before.before.store_hyper.ensures
 
 pub put_hyper_spec : {M : Type 1} → statement M
 put_hyper_spec =
     tie.close
     (tie.spec
-    returns
+    returns-then-out-lt8
     (λ c. search rules)
-    returns-2
+    returns-then-out-at
     (λ c. search rules)
     (λ c. search rules)
     (λ c. search rules)
     (λ c κs. search rules)
     (λ c. search rules)
-    returns-3)
+    returns)

@@ -7,14 +7,14 @@ use Rattle.xdr.proofs.BufferLaws.{put_refused, put_stored}
 use Rattle.xdr.proofs.put.put_raw.Statement.{statement}
 use Rattle.xdr.proofs.put.put_raw.Tie as tie
 
+returns-then-out-n : tie.Need-returns-then-out-n
+returns-then-out-n c = put_refused _ _ c.before.before.before.args.src.now (omega arith)
+
+returns-then-out-n-2 : tie.Need-returns-then-out-n-2
+returns-then-out-n-2 c = put_refused _ _ c.before.before.before.before.args.src.now (omega arith)
+
 returns : tie.Need-returns
-returns c = put_refused _ _ c.before.before.before.args.src.now (omega arith)
-
-returns-2 : tie.Need-returns-2
-returns-2 c = put_refused _ _ c.before.before.before.before.args.src.now (omega arith)
-
-returns-3 : tie.Need-returns-3
-returns-3 c =
+returns c =
     let a = c.before.before.before.before.before.before.before.before.args in
     put_stored a.out.now a.at a.src.now _ (length a.src.now) (omega arith) refl c.before.before.copy.ensures
 
@@ -22,12 +22,12 @@ pub put_raw_spec : {M : Type 1} → statement M
 put_raw_spec =
     tie.close
     (tie.spec
-    returns
+    returns-then-out-n
     (λ c. search rules)
-    returns-2
+    returns-then-out-n-2
     (λ c. search rules)
     (λ c. search rules)
     (λ c. search rules)
     (λ c κs. search rules)
     (λ c. search rules)
-    returns-3)
+    returns)

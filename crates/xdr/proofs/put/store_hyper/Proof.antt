@@ -18,11 +18,11 @@ unfolding encode
 returns c =
     let out = c.before.before.before.before.before.before.before.before.before.args.out.now in
     let n = c.before.before.before.before.before.before.before.before.before.args.n in
-    let o = c.before.before.before.before.before.before.Store-word.new.0 in
+    let o = c.before.before.before.before.before.before.store_word.new.out in
     let high = encode word (n / 4294967296) in
     let low = encode word (n % 4294967296) in
-    filled_behind out o high low c.before.before.store-word2.new.0 4 (length o - 4) (number_size 4 (n / 4294967296)) (omega (arith, number_size 4 (n % 4294967296))) (omega arith)
-    c.before.before.before.before.before.before.Store-word.ensures c.before.before.store-word2.ensures
+    filled_behind out o high low c.before.before.store_word-2.new.out 4 (length o - 4) (number_size 4 (n / 4294967296)) (omega (arith, number_size 4 (n % 4294967296))) (omega arith)
+    c.before.before.before.before.before.before.store_word.ensures c.before.before.store_word-2.ensures
     ∙ ap (filled out) (hyper_digits n (omega arith))
 
 pub store_hyper_spec : {M : Type 1} → statement M

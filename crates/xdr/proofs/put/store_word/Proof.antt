@@ -12,11 +12,11 @@ use Rattle.xdr.proofs.NumberLaws.{word_digits}
 use Rattle.xdr.proofs.put.store_word.Statement.{statement}
 use Rattle.xdr.proofs.put.store_word.Tie as tie
 
-slice-write-out-2 : tie.Need-slice-write-out-2
-slice-write-out-2 c = simp length-set (omega arith)
+bounds-out-1 : tie.Need-bounds-out-1
+bounds-out-1 c = simp length-set (omega arith)
 
-slice-write-out-3 : tie.Need-slice-write-out-3
-slice-write-out-3 c = simp length-set (omega arith)
+bounds-out-2 : tie.Need-bounds-out-2
+bounds-out-2 c = simp length-set (omega arith)
 
 returns : tie.Need-returns
 unfolding encode
@@ -33,9 +33,9 @@ store_word_spec =
     (λ c. search rules)
     (λ c. search rules)
     (λ c. search rules)
-    slice-write-out-2
+    bounds-out-1
     (λ c. search rules)
-    slice-write-out-3
+    bounds-out-2
     (λ c. search rules)
     (λ c. search rules)
     (λ c. search rules)

@@ -9,24 +9,24 @@ use borrow.Author.Rules.{rules}
 use Rattle.xdr.proofs.read.read_hyper.Statement.{statement}
 use Rattle.xdr.proofs.read.read_hyper.Tie as tie
 
+returns-then-s-lt8 : tie.Need-returns-then-s-lt8
+returns-then-s-lt8 c = answered hyper_answer (number_short (omega arith))
+
+returns-then-s-at : tie.Need-returns-then-s-at
+returns-then-s-at c = answered hyper_answer (number_short (omega arith))
+
 returns : tie.Need-returns
-returns c = answered hyper_answer (number_short (omega arith))
-
-returns-2 : tie.Need-returns-2
-returns-2 c = answered hyper_answer (number_short (omega arith))
-
-returns-3 : tie.Need-returns-3
-returns-3 c =
+returns c =
     let a = c.before.before.before.before.args in
-    ap (λ (n : ℕ). Taken n (a.at + 8)) c.hyper-at.ensures ∙ answered hyper_answer (number_whole a.s.now a.at 8 (omega arith))
+    ap (λ (n : ℕ). Taken n (a.at + 8)) c.hyper_at.ensures ∙ answered hyper_answer (number_whole a.s.now a.at 8 (omega arith))
 
 pub read_hyper_spec : {M : Type 1} → statement M
 read_hyper_spec =
     tie.close
     (tie.spec
-    returns
+    returns-then-s-lt8
     (λ c. search rules)
-    returns-2
+    returns-then-s-at
     (λ c κs. search rules)
     (λ c. search rules)
-    returns-3)
+    returns)

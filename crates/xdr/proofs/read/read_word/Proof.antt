@@ -9,16 +9,16 @@ use borrow.Author.Rules.{rules}
 use Rattle.xdr.proofs.read.read_word.Statement.{statement}
 use Rattle.xdr.proofs.read.read_word.Tie as tie
 
+returns-then-s-lt4 : tie.Need-returns-then-s-lt4
+returns-then-s-lt4 c = answered word_answer (number_short (omega arith))
+
+returns-then-s-at : tie.Need-returns-then-s-at
+returns-then-s-at c = answered word_answer (number_short (omega arith))
+
 returns : tie.Need-returns
-returns c = answered word_answer (number_short (omega arith))
-
-returns-2 : tie.Need-returns-2
-returns-2 c = answered word_answer (number_short (omega arith))
-
-returns-3 : tie.Need-returns-3
-returns-3 c =
+returns c =
     let a = c.before.before.before.before.args in
     ap (λ (n : ℕ). Taken n (a.at + 4)) c.word_at.ensures ∙ answered word_answer (number_whole a.s.now a.at 4 (omega arith))
 
 pub read_word_spec : {M : Type 1} → statement M
-read_word_spec = tie.close (tie.spec returns (λ c. search rules) returns-2 (λ c κs. search rules) (λ c. search rules) returns-3)
+read_word_spec = tie.close (tie.spec returns-then-s-lt4 (λ c. search rules) returns-then-s-at (λ c κs. search rules) (λ c. search rules) returns)

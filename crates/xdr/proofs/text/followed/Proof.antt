@@ -11,47 +11,47 @@ use Rattle.xdr.proofs.text.followed.Statement.{statement}
 use Rattle.xdr.proofs.text.followed.Tie as tie
 
 -- after the first follower
-one : (c : tie.Else2) → let a = c.before.before.before.before.args in followed_by a.n a.low a.high (drop a.at a.s.now) ≡ followed_by (a.n - 1) 128 191 (drop (a.at + 1) a.s.now)
+one : (c : tie.Else-not-follows_at) → let a = c.before.before.before.before.args in followed_by a.n a.low a.high (drop a.at a.s.now) ≡ followed_by (a.n - 1) 128 191 (drop (a.at + 1) a.s.now)
 one c =
     let a = c.before.before.before.before.args in
-    first_there a.s.now a.at a.low a.high a.n c.before.before.if1.false (sym c.before.follows-at.ensures ∙ not-false _ c.if2.false)
+    first_there a.s.now a.at a.low a.high a.n c.before.before.if-n-eq0.false (sym c.before.follows_at.ensures ∙ c.if-not-follows_at.false)
 
 -- after the second
-two : (c : tie.Else4) → let a = c.before.before.before.before.before.before.before.args in followed_by a.n a.low a.high (drop a.at a.s.now) ≡ followed_by (a.n - 1 - 1) 128 191 (drop (a.at + 1 + 1) a.s.now)
+two : (c : tie.Else-not-follows_at-2) → let a = c.before.before.before.before.before.before.before.args in followed_by a.n a.low a.high (drop a.at a.s.now) ≡ followed_by (a.n - 1 - 1) 128 191 (drop (a.at + 1 + 1) a.s.now)
 two c =
     let a = c.before.before.before.before.before.before.before.args in
-    let more : a.n - 1 ≡ 0 → ⊥ = λ e. c.before.before.if3.false (let z = c.before.before.before.before.before.if1.false in omega arith) in
-    one c.before.before.before ∙ first_there a.s.now (a.at + 1) 128 191 (a.n - 1) more (sym c.before.follows-at2.ensures ∙ not-false _ c.if4.false)
+    let more : a.n - 1 ≡ 0 → ⊥ = λ e. c.before.before.if-n-eq1.false (let z = c.before.before.before.before.before.if-n-eq0.false in omega arith) in
+    one c.before.before.before ∙ first_there a.s.now (a.at + 1) 128 191 (a.n - 1) more (sym c.before.follows_at-2.ensures ∙ c.if-not-follows_at-2.false)
 
-returns-2 : tie.Need-returns-2
-returns-2 c =
+returns-then-not-follows_at : tie.Need-returns-then-not-follows_at
+returns-then-not-follows_at c =
     let a = c.before.before.before.before.args in
-    sym (first_missing a.s.now a.at a.low a.high a.n c.before.before.if1.false (sym c.before.follows-at.ensures ∙ not-true _ c.if2.true))
+    sym (first_missing a.s.now a.at a.low a.high a.n c.before.before.if-n-eq0.false (sym c.before.follows_at.ensures ∙ c.if-not-follows_at.true))
 
-returns-3 : tie.Need-returns-3
-returns-3 c =
+returns-then-n-eq1 : tie.Need-returns-then-n-eq1
+returns-then-n-eq1 c =
     let a = c.before.before.before.before.before.args in
-    let none : a.n - 1 ≡ 0 = omega (arith, c.if3.true) in
+    let none : a.n - 1 ≡ 0 = omega (arith, c.if-n-eq1.true) in
     sym (one c.before ∙ ap (λ (k : ℕ). followed_by k 128 191 (drop (a.at + 1) a.s.now)) none)
 
-returns-4 : tie.Need-returns-4
-returns-4 c =
+returns-then-not-follows_at-2 : tie.Need-returns-then-not-follows_at-2
+returns-then-not-follows_at-2 c =
     let a = c.before.before.before.before.before.before.before.args in
-    let more : a.n - 1 ≡ 0 → ⊥ = λ e. c.before.before.if3.false (omega arith) in
-    sym (one c.before.before.before ∙ first_missing a.s.now (a.at + 1) 128 191 (a.n - 1) more (sym c.before.follows-at2.ensures ∙ not-true _ c.if4.true))
+    let more : a.n - 1 ≡ 0 → ⊥ = λ e. c.before.before.if-n-eq1.false (omega arith) in
+    sym (one c.before.before.before ∙ first_missing a.s.now (a.at + 1) 128 191 (a.n - 1) more (sym c.before.follows_at-2.ensures ∙ c.if-not-follows_at-2.true))
 
-returns-5 : tie.Need-returns-5
-returns-5 c =
+returns-then-n-eq2 : tie.Need-returns-then-n-eq2
+returns-then-n-eq2 c =
     let a = c.before.before.before.before.before.before.before.before.args in
-    let none : a.n - 1 - 1 ≡ 0 = omega (arith, c.if5.true) in
+    let none : a.n - 1 - 1 ≡ 0 = omega (arith, c.if-n-eq2.true) in
     sym (two c.before ∙ ap (λ (k : ℕ). followed_by k 128 191 (drop (a.at + 1 + 1) a.s.now)) none)
 
-returns-6 : tie.Need-returns-6
-returns-6 c =
+returns : tie.Need-returns
+returns c =
     let a = c.before.before.before.before.before.before.before.before.before.args in
     let last : a.n - 1 - 1 ≡ 1 = omega arith in
     let there : a.at + 1 + 1 ≡ a.at + 2 = omega arith in
-    c.follows-at3.ensures
+    c.follows_at-3.ensures
     ∙ sym (two c.before.before ∙ ap (λ (k : ℕ). followed_by k 128 191 (drop (a.at + 1 + 1) a.s.now)) last ∙ ap (λ (p : ℕ). followed_by 1 128 191 (drop p a.s.now)) there)
 
 pub followed_spec : {M : Type 1} → statement M
@@ -60,12 +60,12 @@ followed_spec =
     (tie.spec
     (λ c. search rules)
     (λ c κs. search rules)
-    returns-2
-    returns-3
+    returns-then-not-follows_at
+    returns-then-n-eq1
     (λ c. search rules)
     (λ c κs. search rules)
-    returns-4
-    returns-5
+    returns-then-not-follows_at-2
+    returns-then-n-eq2
     (λ c. search rules)
     (λ c κs. search rules)
-    returns-6)
+    returns)

@@ -5,11 +5,11 @@ use borrow.Author.Rules.{rules}
 use Rattle.xdr.proofs.text.follows_at.Statement.{statement}
 use Rattle.xdr.proofs.text.follows_at.Tie as tie
 
-returns : tie.Need-returns
-returns c = let a = c.before.before.args in sym (followed_none a.s.now a.at a.low a.high c.if1.true)
+returns-then-s-at : tie.Need-returns-then-s-at
+returns-then-s-at c = let a = c.before.before.args in sym (followed_none a.s.now a.at a.low a.high c.if-s-at.true)
 
-returns-2 : tie.Need-returns-2
-returns-2 c = let a = c.before.before.before.before.args in c.is_within.ensures ∙ sym (followed_one a.s.now a.at a.low a.high (search rules))
+returns : tie.Need-returns
+returns c = let a = c.before.before.before.before.args in c.is_within.ensures ∙ sym (followed_one a.s.now a.at a.low a.high (search rules))
 
 pub follows_at_spec : {M : Type 1} → statement M
-follows_at_spec = tie.close (tie.spec returns (λ c. search rules) (λ c κs. search rules) returns-2)
+follows_at_spec = tie.close (tie.spec returns-then-s-at (λ c. search rules) (λ c κs. search rules) returns)

@@ -6,11 +6,11 @@ use borrow.Author.Rules.{rules}
 use Rattle.xdr.proofs.text.four_at.Statement.{statement}
 use Rattle.xdr.proofs.text.four_at.Tie as tie
 
-returns-5 : tie.Need-returns-5
-returns-5 c = λ e.
+returns : tie.Need-returns
+returns c = λ e.
     let a = c.before.before.before.before.before.before.before.before.before.before.before.before.args in
-    four_whole a.s.now a.at (search rules) c.before.before.before.before.before.before.before.before.if2.false
-    (sym c.before.before.before.before.before.before.is_within.ensures ∙ not-false _ c.before.before.before.before.before.if3.false) (sym c.before.before.before.is-within2.ensures ∙ not-false _ c.before.before.if4.false) (sym c.is-within3.ensures ∙ e)
+    four_whole a.s.now a.at (search rules) c.before.before.before.before.before.before.before.before.if-s-at.false
+    (sym c.before.before.before.before.before.before.is_within.ensures ∙ c.before.before.before.before.before.if-not-is_within.false) (sym c.before.before.before.is_within-2.ensures ∙ c.before.before.if-not-is_within-2.false) (sym c.is_within-3.ensures ∙ e)
 
 pub four_at_spec : {M : Type 1} → statement M
 four_at_spec =
@@ -31,4 +31,4 @@ four_at_spec =
     (λ c. search rules)
     (λ c. search rules)
     (λ c κs. search rules)
-    returns-5)
+    returns)

@@ -4,11 +4,11 @@ use borrow.Author.Tests.{le-leb, lt-leb}
 use Rattle.xdr.proofs.text.is_within.Statement.{statement}
 use Rattle.xdr.proofs.text.is_within.Tie as tie
 
-returns : tie.Need-returns
-returns c = rw (lt-leb c.before.args.low _ c.if1.true) refl
+returns-then-b-low : tie.Need-returns-then-b-low
+returns-then-b-low c = rw (lt-leb c.before.args.low _ c.if-b-low.true) refl
 
-returns-2 : tie.Need-returns-2
-returns-2 c = rw (le-leb c.before.args.low _ c.if1.false) refl
+returns : tie.Need-returns
+returns c = rw (le-leb c.before.args.low _ c.if-b-low.false) refl
 
 pub is_within_spec : {M : Type 1} → statement M
-is_within_spec = tie.close (tie.spec returns returns-2)
+is_within_spec = tie.close (tie.spec returns-then-b-low returns)

@@ -5,14 +5,14 @@ use borrow.Author.Tests.{eq-eqb, ne_eqb}
 use Rattle.xdr.proofs.text.lowest.Statement.{statement}
 use Rattle.xdr.proofs.text.lowest.Tie as tie
 
-returns : tie.Need-returns
-returns c = let b = c.before.args.b in rw (eq-eqb b 224 c.match.keys1) refl
+returns-in-224 : tie.Need-returns-in-224
+returns-in-224 c = let b = c.before.args.b in rw (eq-eqb b 224 c.in-224.is) refl
 
-returns-2 : tie.Need-returns-2
-returns-2 c = let b = c.before.args.b in rw (ne_eqb b 224 (λ e. omega (arith, c.match.keys2)), eq-eqb b 240 c.match.keys2) refl
+returns-in-240 : tie.Need-returns-in-240
+returns-in-240 c = let b = c.before.args.b in rw (ne_eqb b 224 (λ e. omega (arith, c.in-240.is)), eq-eqb b 240 c.in-240.is) refl
 
-returns-3 : tie.Need-returns-3
-returns-3 c = let b = c.before.args.b in rw (ne_eqb b 224 c.match.rest.0.1, ne_eqb b 240 c.match.rest.1) refl
+returns-in_default : tie.Need-returns-in_default
+returns-in_default c = let b = c.before.args.b in rw (ne_eqb b 224 c.in_default.in_default-own.rest.0.1, ne_eqb b 240 c.in_default.in_default-own.rest.1) refl
 
 pub lowest_spec : {M : Type 1} → statement M
-lowest_spec = tie.close (tie.spec returns returns-2 returns-3)
+lowest_spec = tie.close (tie.spec returns-in-224 returns-in-240 returns-in_default)

@@ -10,42 +10,42 @@ use borrow.Author.Rules.{rules}
 use Rattle.xdr.proofs.text.one_at.Statement.{statement}
 use Rattle.xdr.proofs.text.one_at.Tie as tie
 
-returns : tie.Need-returns
-returns c =
+returns-then-n-eq0 : tie.Need-returns-then-n-eq0
+returns-then-n-eq0 c =
     let a = c.before.before.before.before.args in
     let b = get_or a.s.now a.at 0 in
-    goes_on _ _ 1 (λ z. omega arith) (sequence_whole a.s.now a.at 0 (search rules) (sym c.if1.true ∙ c.before.followers.ensures) (omega arith) {low = lowest b} {high = highest b} refl refl refl)
+    goes_on _ _ 1 (λ z. omega arith) (sequence_whole a.s.now a.at 0 (search rules) (sym c.if-n-eq0.true ∙ c.before.followers-n.ensures) (omega arith) {low = lowest b} {high = highest b} refl refl refl)
 
-returns-2 : tie.Need-returns-2
-returns-2 c =
+returns-then-follows_at : tie.Need-returns-then-follows_at
+returns-then-follows_at c =
     let a = c.before.before.before.before.before.before.before.args in
     goes_on _ _ 2 (λ z. omega arith)
-    (loose_whole a.s.now a.at 1 (search rules) (loose_one _ (sym c.before.before.before.before.followers.ensures ∙ c.before.before.if2.true)) (omega arith) (sym c.before.follows-at.ensures ∙ c.if3.true))
+    (loose_whole a.s.now a.at 1 (search rules) (loose_one _ (sym c.before.before.before.before.followers-n.ensures ∙ c.before.before.if-n-eq1.true)) (omega arith) (sym c.before.follows_at.ensures ∙ c.if-follows_at.true))
 
-returns-3 : tie.Need-returns-3
-returns-3 c =
+returns-then-n-eq1 : tie.Need-returns-then-n-eq1
+returns-then-n-eq1 c =
     let a = c.before.before.before.before.before.before.before.args in
-    stops _ _ (loose_cut a.s.now a.at 1 (search rules) (loose_one _ (sym c.before.before.before.before.followers.ensures ∙ c.before.before.if2.true)) (omega arith) (sym c.before.follows-at.ensures ∙ c.if3.false))
+    stops _ _ (loose_cut a.s.now a.at 1 (search rules) (loose_one _ (sym c.before.before.before.before.followers-n.ensures ∙ c.before.before.if-n-eq1.true)) (omega arith) (sym c.before.follows_at.ensures ∙ c.if-follows_at.false))
 
-returns-4 : tie.Need-returns-4
-returns-4 c = goes_on _ _ 4 (λ z. omega arith) (c.before.four-at.ensures c.if4.true)
+returns-then-four_at : tie.Need-returns-then-four_at
+returns-then-four_at c = goes_on _ _ 4 (λ z. omega arith) (c.before.four_at.ensures c.if-four_at.true)
 
-returns-5 : tie.Need-returns-5
-returns-5 c =
+returns-then-n-gt3 : tie.Need-returns-then-n-gt3
+returns-then-n-gt3 c =
     let a = c.before.before.before.before.before.before.before.before.args in
-    stops _ _ (lead_broken a.s.now a.at a.at 0 c.before.before.before.before.before.followers.result (search rules) refl c.before.before.before.before.before.followers.ensures c.if5.true)
+    stops _ _ (lead_broken a.s.now a.at a.at 0 c.before.before.before.before.before.followers-n.result (search rules) refl c.before.before.before.before.before.followers-n.ensures c.if-n-gt3.true)
 
-returns-6 : tie.Need-returns-6
-returns-6 c =
+returns-then-followed : tie.Need-returns-then-followed
+returns-then-followed c =
     let a = c.before.before.before.before.before.before.before.before.before.before.before.before.args in
-    goes_on _ _ (1 + c.before.before.before.before.before.before.before.before.before.followers.result) (λ z. omega arith)
-    (sequence_whole a.s.now a.at c.before.before.before.before.before.before.before.before.before.followers.result (search rules) c.before.before.before.before.before.before.before.before.before.followers.ensures (search rules) c.before.before.before.lowest.ensures c.before.before.highest.ensures (sym c.before.followed.ensures ∙ c.if6.true))
+    goes_on _ _ (1 + c.before.before.before.before.before.before.before.before.before.followers-n.result) (λ z. omega arith)
+    (sequence_whole a.s.now a.at c.before.before.before.before.before.before.before.before.before.followers-n.result (search rules) c.before.before.before.before.before.before.before.before.before.followers-n.ensures (search rules) c.before.before.before.lowest.ensures c.before.before.highest.ensures (sym c.before.followed.ensures ∙ c.if-followed.true))
 
-returns-7 : tie.Need-returns-7
-returns-7 c =
+returns : tie.Need-returns
+returns c =
     let a = c.before.before.before.before.before.before.before.before.before.before.before.before.args in
     stops _ _
-    (sequence_cut a.s.now a.at c.before.before.before.before.before.before.before.before.before.followers.result (search rules) c.before.before.before.before.before.before.before.before.before.followers.ensures (search rules) c.before.before.before.lowest.ensures c.before.before.highest.ensures (sym c.before.followed.ensures ∙ c.if6.false))
+    (sequence_cut a.s.now a.at c.before.before.before.before.before.before.before.before.before.followers-n.result (search rules) c.before.before.before.before.before.before.before.before.before.followers-n.ensures (search rules) c.before.before.before.lowest.ensures c.before.before.highest.ensures (sym c.before.followed.ensures ∙ c.if-followed.false))
 
 pub one_at_spec : {M : Type 1} → statement M
 one_at_spec =
@@ -53,19 +53,19 @@ one_at_spec =
     (tie.spec
     (λ c. search rules)
     (λ c κs. search rules)
-    returns
+    returns-then-n-eq0
     (λ c. search rules)
     (λ c κs. search rules)
-    returns-2
-    returns-3
+    returns-then-follows_at
+    returns-then-n-eq1
     (λ c κs. search rules)
-    returns-4
-    returns-5
+    returns-then-four_at
+    returns-then-n-gt3
     (λ c. search rules)
     (λ c κs. search rules)
     (λ c κs. search rules)
     (λ c κs. search rules)
     (λ c. search rules)
     (λ c. search rules)
-    returns-6
-    returns-7)
+    returns-then-followed
+    returns)

@@ -6,10 +6,10 @@ use borrow.Author.Rules.{rules}
 use Rattle.xdr.proofs.text.pair_at.Statement.{statement}
 use Rattle.xdr.proofs.text.pair_at.Tie as tie
 
-returns-2 : tie.Need-returns-2
-returns-2 c = λ e.
+returns : tie.Need-returns
+returns c = λ e.
     let a = c.before.before.before.before.before.before.args in
-    pair_whole a.s.now a.at (search rules) (sym c.before.before.before.is_within.ensures ∙ not-false _ c.before.before.if1.false) (sym c.is-within2.ensures ∙ e)
+    pair_whole a.s.now a.at (search rules) (sym c.before.before.before.is_within.ensures ∙ c.before.before.if-not-is_within.false) (sym c.is_within-2.ensures ∙ e)
 
 pub pair_at_spec : {M : Type 1} → statement M
 pair_at_spec =
@@ -21,4 +21,4 @@ pair_at_spec =
     (λ c. search rules)
     (λ c. search rules)
     (λ c κs. search rules)
-    returns-2)
+    returns)

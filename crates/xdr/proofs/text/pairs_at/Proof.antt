@@ -6,10 +6,10 @@ use borrow.Author.Rules.{rules}
 use Rattle.xdr.proofs.text.pairs_at.Statement.{statement}
 use Rattle.xdr.proofs.text.pairs_at.Tie as tie
 
-returns-2 : tie.Need-returns-2
-returns-2 c = λ e.
+returns : tie.Need-returns
+returns c = λ e.
     let a = c.before.before.before.before.args in
-    in_a_row a.s.now a.at 2 2 4 refl (c.before.before.pair-at.ensures (not-false _ c.before.if1.false)) (c.pair-at2.ensures e)
+    in_a_row a.s.now a.at 2 2 4 refl (c.before.before.pair_at.ensures (c.before.if-not-pair_at.false)) (c.pair_at-2.ensures e)
 
 pub pairs_at_spec : {M : Type 1} → statement M
-pairs_at_spec = tie.close (tie.spec (λ c κs. search rules) (λ c. no_promise) (λ c. search rules) (λ c κs. search rules) returns-2)
+pairs_at_spec = tie.close (tie.spec (λ c κs. search rules) (λ c. no_promise) (λ c. search rules) (λ c κs. search rules) returns)

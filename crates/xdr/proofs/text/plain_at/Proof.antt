@@ -11,7 +11,7 @@ use Rattle.xdr.proofs.text.plain_at.Tie as tie
 returns : tie.Need-returns
 returns c =
     let a = c.before.before.args in
-    λ e. ascii_four a.s.now a.at (λ i. (c.before.shared-slice-known.given i).fits) (search rules) (ap (λ (w : ℕ). bit_and w 2155905152) (sym c.little-endian-at.ensures) ∙ eqb-true _ 0 e)
+    λ e. ascii_four a.s.now a.at (λ i. (c.before.shared_slice_known-1.given i).fits) (search rules) (ap (λ (w : ℕ). bit_and w 2155905152) (sym c.little_endian_at.ensures) ∙ eqb-true _ 0 e)
 
 pub plain_at_spec : {M : Type 1} → statement M
 plain_at_spec = tie.close (tie.spec (λ c κs. search rules) returns)

@@ -13,12 +13,12 @@ use Rattle.xdr.proofs.text.plain_eight_at.Tie as tie
 returns : tie.Need-returns
 returns c =
     let a = c.before.before.before.args in
-    let fit : IsBytes a.s.now = λ i. (c.before.before.shared-slice-known.given i).fits in
+    let fit : IsBytes a.s.now = λ i. (c.before.before.shared_slice_known-1.given i).fits in
     λ e.
-    let none = neither 2155905152 c.before.little-endian-at.result c.little-endian-at2.result (eqb-true _ 0 e) in
+    let none = neither 2155905152 c.before.little_endian_at.result c.little_endian_at-2.result (eqb-true _ 0 e) in
     in_a_row a.s.now a.at 4 4 8 refl
-    (ascii_four a.s.now a.at fit (search rules) (ap (λ (w : ℕ). bit_and w 2155905152) (sym c.before.little-endian-at.ensures) ∙ none.0))
-    (ascii_four a.s.now (a.at + 4) fit (search rules) (ap (λ (w : ℕ). bit_and w 2155905152) (sym c.little-endian-at2.ensures) ∙ none.1))
+    (ascii_four a.s.now a.at fit (search rules) (ap (λ (w : ℕ). bit_and w 2155905152) (sym c.before.little_endian_at.ensures) ∙ none.0))
+    (ascii_four a.s.now (a.at + 4) fit (search rules) (ap (λ (w : ℕ). bit_and w 2155905152) (sym c.little_endian_at-2.ensures) ∙ none.1))
 
 pub plain_eight_at_spec : {M : Type 1} → statement M
 plain_eight_at_spec = tie.close (tie.spec (λ c κs. search rules) (λ c. search rules) (λ c κs. search rules) returns)

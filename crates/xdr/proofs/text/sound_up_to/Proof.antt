@@ -10,33 +10,33 @@ use borrow.Author.Rules.{rules}
 use Rattle.xdr.proofs.text.sound_up_to.Statement.{statement}
 use Rattle.xdr.proofs.text.sound_up_to.Tie as tie
 
-abbrev invariant-loop : tie.invariant-loop
+abbrev invariant-loop : tie.invariant-loop-i
 invariant-loop s i₀ i = (i ≤ length s) × (sound_up_to s ≡ sound_after s i)
 
-abbrev decreases-loop : tie.decreases-loop
+abbrev decreases-loop : tie.decreases-loop-i
 decreases-loop s i₀ i = length s - i
 
 -- the sequences that the loop goes on by
-whole : (c : tie.Else1 invariant-loop decreases-loop) → Whole c.before.before.before.before.before.before.args.s.now c.before.before.before.loop.i c.before.step-at.result
-whole c = c.before.step-at.ensures.whole c.if1.false
+whole : (c : tie.Else-n-eq0 invariant-loop decreases-loop) → Whole c.before.before.before.before.before.before.args.s.now c.before.before.before.loop-i.i c.before.step_at-n.result
+whole c = c.before.step_at-n.ensures.whole c.if-n-eq0.false
 
-loop-holds : tie.Need-loop-init invariant-loop decreases-loop
-loop-holds c = c.past-eights.ensures
+loop-holds : tie.Need-loop-i-init invariant-loop decreases-loop
+loop-holds c = c.past_eights-i.ensures
+
+returns-then-n-eq0 : tie.Need-returns-then-n-eq0 invariant-loop decreases-loop
+returns-then-n-eq0 c = sym (c.before.before.before.loop-i.invariant.1 ∙ c.before.step_at-n.ensures.broken c.if-n-eq0.true)
+
+overflow_add-i : tie.Need-overflow_add-i invariant-loop decreases-loop
+overflow_add-i c = omega (arith, (whole c).within)
+
+loop-less : tie.Need-loop-i-smaller invariant-loop decreases-loop
+loop-less c = omega (arith, (whole c).within, c.if-n-eq0.false)
+
+loop-again : tie.Need-loop-i-preserved invariant-loop decreases-loop
+loop-again c = ((whole c).within, c.before.before.before.loop-i.invariant.1 ∙ (whole c).on)
 
 returns : tie.Need-returns invariant-loop decreases-loop
-returns c = sym (c.before.before.before.loop.invariant.1 ∙ c.before.step-at.ensures.broken c.if1.true)
-
-add-i : tie.Need-overflow-add-i invariant-loop decreases-loop
-add-i c = omega (arith, (whole c).within)
-
-loop-less : tie.Need-loop-smaller invariant-loop decreases-loop
-loop-less c = omega (arith, (whole c).within, c.if1.false)
-
-loop-again : tie.Need-loop-preserved invariant-loop decreases-loop
-loop-again c = ((whole c).within, c.before.before.before.loop.invariant.1 ∙ (whole c).on)
-
-returns-2 : tie.Need-returns-2 invariant-loop decreases-loop
-returns-2 c = let l = c.before in sym (l.loop.invariant.1 ∙ end_whole c.before.before.before.before.args.s.now l.loop.i l.loop.i 0 (search rules) refl)
+returns c = let l = c.before in sym (l.loop-i.invariant.1 ∙ end_whole c.before.before.before.before.args.s.now l.loop-i.i l.loop-i.i 0 (search rules) refl)
 
 pub sound_up_to_spec : {M : Type 1} → statement M
 sound_up_to_spec =
@@ -47,8 +47,8 @@ sound_up_to_spec =
     (λ c κs. search rules)
     loop-holds
     (λ c κs. search rules)
-    returns
-    add-i
+    returns-then-n-eq0
+    overflow_add-i
     loop-less
     loop-again
-    returns-2)
+    returns)

@@ -5,17 +5,17 @@ use borrow.Author.Rules.{rules}
 use Rattle.xdr.proofs.text.step_at.Statement.{statement}
 use Rattle.xdr.proofs.text.step_at.Tie as tie
 
-returns : tie.Need-returns
-returns c = goes_on _ _ 4 (λ z. omega arith) (c.before.plain_at.ensures c.if2.true)
+returns-then-plain_at : tie.Need-returns-then-plain_at
+returns-then-plain_at c = goes_on _ _ 4 (λ z. omega arith) (c.before.plain_at.ensures c.if-plain_at.true)
 
-returns-2 : tie.Need-returns-2
-returns-2 c = goes_on _ _ 4 (λ z. omega arith) (c.before.pairs-at.ensures c.if3.true)
+returns-then-pairs_at : tie.Need-returns-then-pairs_at
+returns-then-pairs_at c = goes_on _ _ 4 (λ z. omega arith) (c.before.pairs_at.ensures c.if-pairs_at.true)
 
-returns-3 : tie.Need-returns-3
-returns-3 c = let a = c.before.before.before.before.before.before.before.before.args in goes_on _ _ 1 (λ z. omega arith) (ascii_one a.s.now a.at (search rules) (omega (arith, c.if4.true)))
+returns-then-s-at-lt128 : tie.Need-returns-then-s-at-lt128
+returns-then-s-at-lt128 c = let a = c.before.before.before.before.before.before.before.before.args in goes_on _ _ 1 (λ z. omega arith) (ascii_one a.s.now a.at (search rules) (omega (arith, c.if-s-at-lt128.true)))
 
-returns-4 : tie.Need-returns-4
-returns-4 c = goes_on _ _ 3 (λ z. omega arith) (c.before.three-at.ensures c.if5.true)
+returns-then-three_at : tie.Need-returns-then-three_at
+returns-then-three_at c = goes_on _ _ 3 (λ z. omega arith) (c.before.three_at.ensures c.if-three_at.true)
 
 pub step_at_spec : {M : Type 1} → statement M
 step_at_spec =
@@ -23,12 +23,12 @@ step_at_spec =
     (tie.spec
     (λ c. search rules)
     (λ c κs. search rules)
-    returns
+    returns-then-plain_at
     (λ c κs. search rules)
-    returns-2
+    returns-then-pairs_at
     (λ c. search rules)
-    returns-3
+    returns-then-s-at-lt128
     (λ c κs. search rules)
-    returns-4
+    returns-then-three_at
     (λ c κs. search rules)
     (λ c. search rules))

@@ -6,11 +6,11 @@ use borrow.Author.Rules.{rules}
 use Rattle.xdr.proofs.text.three_at.Statement.{statement}
 use Rattle.xdr.proofs.text.three_at.Tie as tie
 
-returns-3 : tie.Need-returns-3
-returns-3 c = λ e.
+returns : tie.Need-returns
+returns c = λ e.
     let a = c.before.before.before.before.before.before.before.before.before.args in
     three_whole a.s.now a.at (search rules)
-    (sym c.before.before.before.before.before.before.is_within.ensures ∙ not-false _ c.before.before.before.before.before.if1.false) (sym c.before.before.before.is-within2.ensures ∙ not-false _ c.before.before.if2.false) (sym c.is-within3.ensures ∙ e)
+    (sym c.before.before.before.before.before.before.is_within.ensures ∙ c.before.before.before.before.before.if-not-is_within.false) (sym c.before.before.before.is_within-2.ensures ∙ c.before.before.if-not-is_within-2.false) (sym c.is_within-3.ensures ∙ e)
 
 pub three_at_spec : {M : Type 1} → statement M
 three_at_spec =
@@ -26,4 +26,4 @@ three_at_spec =
     (λ c. search rules)
     (λ c. search rules)
     (λ c κs. search rules)
-    returns-3)
+    returns)
