@@ -3,7 +3,7 @@
 
 usage: python3 tools/spell.py        at the top, once, after port.py
 
-tools/spelling.tsv has a line for each name: the old spelling and the new one. A lemma that would fall together with a definition ends in _lem.
+tools/spelling.tsv has a line for each name: the old spelling and the new one. A lemma that would fall together with a definition ends in _lem; behind a dot the name is a step's, not the lemma's.
 Definitions are renamed wherever they stand (.antt, clauses of .rt, .edit); names with a dash, and lemmas that were in snake case already, in .antt and .edit alone.
 """
 import glob
@@ -37,7 +37,7 @@ def spelled(text, path):
                 return m.group(0)
             if t in old_snake and (in_rust or dot or text[m.end():m.end() + 1] in (".", ":") or text[m.start(2) - 1:m.start(2)] == ":"):
                 return m.group(0)
-            return dot + new[t]
+            return dot + (new[t].removesuffix("_lem") if dot else new[t])
         if path.endswith("Proof.antt") and re.fullmatch(r"[a-z0-9]+(-[a-z0-9]+)*-spec", t):
             return dot + t.replace("-", "_")
         return m.group(0)

@@ -17,7 +17,7 @@ use record::Outline;
 use xdr::{Filling, Refusal};
 
 // How many records are in order, or the place of the first whose name stood before.
-#[derive(Drop)]
+#[derive(Clone, Copy)]
 enum Sorting {
     Sorted(usize),
     Repeated(usize),

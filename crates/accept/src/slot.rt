@@ -5,7 +5,7 @@ ghost use Rattle.accept.specs.Steps.Slots.{name_of, slot_of};
 use xdr::Word;
 
 // Behind so many records, or nowhere, since one of them has its name.
-#[derive(Drop)]
+#[derive(Clone, Copy)]
 pub enum Slot {
     Free(usize),
     Repeated,

@@ -6,7 +6,7 @@ use message::Message;
 use xdr::Refusal;
 
 // A message that has a Repository in the new edition, or one that is the same in both, with its end; or a refusal.
-#[derive(Drop)]
+#[derive(Clone, Copy)]
 pub enum Extent {
     Named(usize),
     Same(usize),

@@ -3,7 +3,7 @@ use message::Edition;
 use xdr::Refusal;
 
 // A word that is to be read next. A number of files or blocks counts those after the one at hand.
-#[derive(Drop)]
+#[derive(Clone, Copy)]
 pub enum WordField {
     Start(Edition),
     FileCount,
@@ -15,7 +15,7 @@ pub enum WordField {
 }
 
 // A string or an opaque that is to be read next. A number of files or options counts those after the one at hand.
-#[derive(Drop)]
+#[derive(Clone, Copy)]
 pub enum StringField {
     Index,
     Request,
@@ -27,7 +27,7 @@ pub enum StringField {
 }
 
 // The rule of a string: any bytes, the text rule, or the text rule and the name rule.
-#[derive(Drop)]
+#[derive(Clone, Copy)]
 pub enum Rule {
     Opaque,
     Text,
@@ -35,7 +35,7 @@ pub enum Rule {
 }
 
 // Bytes that are passed over, by what comes after them: so many blocks and then so many files.
-#[derive(Drop)]
+#[derive(Clone, Copy)]
 pub enum Gap {
     Offset,
     Times(bool, u32),
@@ -43,7 +43,7 @@ pub enum Gap {
 }
 
 // What is to be read next; of bytes that are passed over how many are still to come.
-#[derive(Drop)]
+#[derive(Clone, Copy)]
 pub enum Goal {
     Word(WordField),
     String(StringField),
@@ -55,7 +55,7 @@ pub enum Goal {
 // What the rules have made of a string so far: the followers that the text rule still wants (4 where it is broken), the range of the next
 // one, the position of that sequence's lead byte, and the part of a name that the last byte belongs to (0 empty, 1 a dot, 2 two dots, 3 one
 // that leads down, 4 where the name does not).
-#[derive(Drop)]
+#[derive(Clone, Copy)]
 pub struct Scan {
     pub left: u8,
     pub low: u8,
@@ -67,7 +67,7 @@ pub struct Scan {
 // Where the reading stands: what is to be read next, where that field begins and what is kept of it. Of a word: how many of its bytes have
 // come and the number that they are. Of a string, where 4 have come: its length, how many bytes of its contents have come and are still to
 // come, how many of its pad are, what the rules made of it, how many zeros are at the front of its pad, and whether a pad byte was not zero.
-#[derive(Drop)]
+#[derive(Clone, Copy)]
 pub struct Cursor {
     pub goal: Goal,
     pub place: usize,
@@ -82,7 +82,7 @@ pub struct Cursor {
 }
 
 // What is said after a run: still waiting, a message has ended at a place, or refused.
-#[derive(Drop)]
+#[derive(Clone, Copy)]
 pub enum Answer {
     Waiting,
     Ended(usize),
@@ -90,7 +90,7 @@ pub enum Answer {
 }
 
 // What a run led to: where the reading stands, the answer, and how many bytes of the run were taken.
-#[derive(Drop)]
+#[derive(Clone, Copy)]
 pub struct Led {
     pub state: Cursor,
     pub answer: Answer,
@@ -98,28 +98,28 @@ pub struct Led {
 }
 
 // Where the reading stands after so many bytes.
-#[derive(Drop)]
+#[derive(Clone, Copy)]
 pub struct Moved {
     pub state: Cursor,
     pub taken: usize,
 }
 
 // The first four bytes of a message, its header: how many of them have come, and the number that they are.
-#[derive(Drop)]
+#[derive(Clone, Copy)]
 pub struct Front {
     pub have: u32,
     pub value: u32,
 }
 
 // A message that is read run by run: where the reading stands, and the message's first bytes.
-#[derive(Drop)]
+#[derive(Clone, Copy)]
 pub struct Feed {
     pub cursor: Cursor,
     pub front: Front,
 }
 
 // What a run gives: the state to go on with, the answer, and how many bytes of the run were taken.
-#[derive(Drop)]
+#[derive(Clone, Copy)]
 pub struct Fed {
     pub state: Feed,
     pub answer: Answer,
@@ -127,7 +127,7 @@ pub struct Fed {
 }
 
 // The type and the ID of a message, once its header has come.
-#[derive(Drop)]
+#[derive(Clone, Copy)]
 pub enum Header {
     Known(u32, u32),
     Unknown,

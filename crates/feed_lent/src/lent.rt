@@ -10,7 +10,7 @@ use feed::state::{Cursor, Front, Scan};
 use feed::{Answer, Feed};
 
 // What is said of a run, and how many of its bytes were taken.
-#[derive(Drop)]
+#[derive(Clone, Copy)]
 pub struct Said {
     pub answer: Answer,
     pub taken: usize,

@@ -6,7 +6,7 @@ use feed::state::{Gap, Goal, StringField, WordField};
 use message::Edition;
 
 // A goal as numbers: which it is, the bytes to pass over or the number of a refusal, the blocks, and the files or options.
-#[derive(Drop)]
+#[derive(Clone, Copy)]
 pub struct Tagged {
     pub tag: u32,
     pub number: u32,

@@ -7,7 +7,7 @@ mod table;
 pub use table::{Sizes, first, load};
 
 // What opening gives: a descriptor; that there is no such file; or that there is one, which can't be read.
-#[derive(Drop)]
+#[derive(Clone, Copy)]
 pub enum Opened {
     File(i32),
     Absent,

@@ -6,7 +6,7 @@ ghost use Rattle.files.specs.StandIn.{stand_in};
 use crate::{Opened, open};
 
 // How many bytes of its buffer each of five tables takes.
-#[derive(Drop)]
+#[derive(Clone, Copy)]
 pub struct Sizes {
     pub local: usize,
     pub peer1: usize,

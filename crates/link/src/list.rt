@@ -14,7 +14,7 @@ use xdr::{Filling, Refusal};
 
 // The requests are the first `count` entries, the oldest first; the others don't count; calls from an opening leave them
 // blank.
-#[derive(Drop)]
+#[derive(Clone, Copy)]
 pub struct Link {
     pub window: u32,
     pub next: u32,
@@ -23,7 +23,7 @@ pub struct Link {
 }
 
 // The bytes outstanding of a link that passed the check, or that it didn't.
-#[derive(Drop)]
+#[derive(Clone, Copy)]
 pub enum Tally {
     Unsound,
     Bytes(u32),

@@ -4,7 +4,7 @@ use message::Span;
 use xdr::{Filling, Refusal};
 
 // The link after an issue, the ID that was next, and what writing the Request under it answered.
-#[derive(Drop)]
+#[derive(Clone, Copy)]
 pub struct LinkIssued {
     pub link: Link,
     pub id: u32,
@@ -13,7 +13,7 @@ pub struct LinkIssued {
 
 // What an answer released, by its length: ID and Length of a request and, where the data are as long as asked, where they stand in the
 // message.
-#[derive(Drop)]
+#[derive(Clone, Copy)]
 pub enum Release {
     Data { id: u32, size: u32, data: Span },
     NotAvailable { id: u32, size: u32 },
@@ -22,14 +22,14 @@ pub enum Release {
 }
 
 // The link after an answer.
-#[derive(Drop)]
+#[derive(Clone, Copy)]
 pub struct LinkAnswered {
     pub link: Link,
     pub release: Release,
 }
 
 // What an answer brought, once data as long as asked were held to the hash that was asked for.
-#[derive(Drop)]
+#[derive(Clone, Copy)]
 pub enum Arrival {
     Data { id: u32, size: u32, data: Span },
     NotAvailable { id: u32, size: u32 },

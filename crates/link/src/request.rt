@@ -5,7 +5,7 @@ ghost use Rattle.link.specs.Requests.{after, blank, stands_before};
 use message::ID_LIMIT;
 
 // An outstanding request: its ID and its Length.
-#[derive(Drop)]
+#[derive(Clone, Copy)]
 pub struct Request {
     pub id: u32,
     pub size: u32,

@@ -7,7 +7,7 @@ use record::RecordFields;
 use table::Side;
 
 // A record that is taken: of the first table or of the second, at start..end; the merge goes on at i of the first and j of the second.
-#[derive(Drop)]
+#[derive(Clone, Copy)]
 pub struct Pick {
     pub left: bool,
     pub start: usize,
@@ -17,7 +17,7 @@ pub struct Pick {
 }
 
 // The next record, or none is left.
-#[derive(Drop)]
+#[derive(Clone, Copy)]
 pub enum Next {
     End,
     More(Pick),

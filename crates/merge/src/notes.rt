@@ -7,7 +7,7 @@ use crate::next::Pick;
 use xdr::Filling;
 
 // How many records a table has and how many bytes, and how many numbers are noted of it.
-#[derive(Drop)]
+#[derive(Clone, Copy)]
 pub struct Size {
     pub count: u32,
     pub bytes: usize,
@@ -50,7 +50,7 @@ fn put_note(a: &[u8], b: &[u8], x: usize, y: usize, out: &mut [u8], at: usize) -
 }
 
 // Two notes as one, where the second goes on in the same table at the place where the first ends.
-#[derive(Drop)]
+#[derive(Clone, Copy)]
 enum Joined {
     Apart,
     One(usize, usize),

@@ -2,14 +2,14 @@
 use xdr::Refusal;
 
 // Bytes of the input: where they start, and how many there are.
-#[derive(Drop)]
+#[derive(Clone, Copy)]
 pub struct Span {
     pub start: usize,
     pub length: usize,
 }
 
 // An Index or an IndexUpdate: its files are an encoded array, its count word included.
-#[derive(Drop)]
+#[derive(Clone, Copy)]
 pub struct IndexSpan {
     pub repository: Span,
     pub files: Span,
@@ -18,7 +18,7 @@ pub struct IndexSpan {
 }
 
 // A Request: its strings and its hash by their contents, its numbers, and the place after it.
-#[derive(Drop)]
+#[derive(Clone, Copy)]
 pub struct RequestSpan {
     pub repository: Span,
     pub name: Span,
@@ -29,14 +29,14 @@ pub struct RequestSpan {
 }
 
 // A Response: its Data, and the place after it.
-#[derive(Drop)]
+#[derive(Clone, Copy)]
 pub struct ResponseSpan {
     pub data: Span,
     pub end: usize,
 }
 
 // Options: an encoded array, its count word included.
-#[derive(Drop)]
+#[derive(Clone, Copy)]
 pub struct OptionsSpan {
     pub options: Span,
     pub count: u32,
@@ -44,7 +44,7 @@ pub struct OptionsSpan {
 }
 
 // A message: its ID and its fields, of Ping and Pong only the end; or the refusal.
-#[derive(Drop)]
+#[derive(Clone, Copy)]
 pub enum Message {
     Index(u32, IndexSpan),
     Request(u32, RequestSpan),
@@ -57,7 +57,7 @@ pub enum Message {
 }
 
 // What the body of an Index or an IndexUpdate says, or the refusal.
-#[derive(Drop)]
+#[derive(Clone, Copy)]
 pub enum IndexRead {
     Taken(IndexSpan),
     Refused(Refusal),

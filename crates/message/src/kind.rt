@@ -6,7 +6,7 @@ use crate::answer::{IndexSpan, Message, RequestSpan, ResponseSpan};
 use xdr::Refusal;
 
 // An Index, or an IndexUpdate where the first is true; or a refusal.
-#[derive(Drop)]
+#[derive(Clone, Copy)]
 pub enum IndexIn {
     Taken { update: bool, index: IndexSpan },
     Refused(Refusal),
@@ -31,14 +31,14 @@ impl IndexIn {
 }
 
 // A Request with its ID, or a refusal.
-#[derive(Drop)]
+#[derive(Clone, Copy)]
 pub enum RequestIn {
     Taken { id: u32, request: RequestSpan },
     Refused(Refusal),
 }
 
 // A Response with its ID, or a refusal.
-#[derive(Drop)]
+#[derive(Clone, Copy)]
 pub enum ResponseIn {
     Taken { id: u32, response: ResponseSpan },
     Refused(Refusal),

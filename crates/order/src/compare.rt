@@ -5,7 +5,7 @@ ghost use Rattle.order.specs.Order.{is_less, is_equal, compare_numbers, compare_
 use xdr::Hyper;
 
 // How the first of two compares with the second.
-#[derive(Drop)]
+#[derive(Clone, Copy)]
 pub enum Order {
     Less,
     Equal,

@@ -4,21 +4,21 @@ use link::Arrival;
 use xdr::{Filling, Refusal};
 
 // Of an opening or a drop.
-#[derive(Drop)]
+#[derive(Clone, Copy)]
 pub enum Verdict {
     Accepted,
     Refused(Refusal),
 }
 
 // The queue after an opening or a drop: without requests, if it was accepted.
-#[derive(Drop)]
+#[derive(Clone, Copy)]
 pub struct Emptied {
     pub queue: RequestQueue,
     pub verdict: Verdict,
 }
 
 // The queue after an issue, the ID that was next, and what writing the Request under it answered.
-#[derive(Drop)]
+#[derive(Clone, Copy)]
 pub struct Issued {
     pub queue: RequestQueue,
     pub id: u32,
@@ -26,7 +26,7 @@ pub struct Issued {
 }
 
 // The queue after an answer, and what it brought.
-#[derive(Drop)]
+#[derive(Clone, Copy)]
 pub struct Answered {
     pub queue: RequestQueue,
     pub arrival: Arrival,

@@ -12,14 +12,14 @@ use message::Edition;
 use xdr::{Filling, Refusal};
 
 // The links of the peers 1 to 4, in that order, and 512 bytes of hashes for each: 32 for each entry of its link.
-#[derive(Drop)]
+#[derive(Clone, Copy)]
 pub struct RequestQueue {
     pub links: [Link; 4],
     pub hashes: [u8; 2048],
 }
 
 // Whether a call for a peer may go on: the bytes held, or the number that refuses it.
-#[derive(Drop)]
+#[derive(Clone, Copy)]
 pub enum Admission {
     Held(u32),
     Refused(u32),

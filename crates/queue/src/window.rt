@@ -5,7 +5,7 @@ ghost use Rattle.queue.specs.Queue.{window_of};
 use crate::queue::RequestQueue;
 
 // Stated, or the default.
-#[derive(Drop)]
+#[derive(Clone, Copy)]
 pub enum Window {
     Stated(u32),
     Default,

@@ -12,7 +12,7 @@ use queue::{Admission, RequestQueue, Verdict, Window};
 use xdr::Filling;
 
 // The ID that was next, and what writing the Request under it answered.
-#[derive(Drop)]
+#[derive(Clone, Copy)]
 pub struct LentIssued {
     pub id: u32,
     pub filling: Filling,

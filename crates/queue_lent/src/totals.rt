@@ -9,7 +9,7 @@ ghost use Rattle.queue_lent.specs.Steps.{LinkTotals};
 use crate::shares::link_of;
 
 // Of one link.
-#[derive(Drop)]
+#[derive(Clone, Copy)]
 pub struct LinkTotal {
     pub count: u64,
     pub bytes: u64,

@@ -10,7 +10,7 @@ use crate::finding::find;
 use record::Outline;
 
 // The table with the highest record so far and the record's place; 5 where there is none.
-#[derive(Drop)]
+#[derive(Clone, Copy)]
 pub struct Best {
     pub table: usize,
     pub at: usize,

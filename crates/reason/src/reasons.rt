@@ -18,7 +18,7 @@ use want::{Found, find_local};
 use xdr::Refusal;
 
 // Why a block isn't coming. A held block stands in a local record, both counted from 0; a wanted one is to be had of a peer.
-#[derive(Drop)]
+#[derive(Clone, Copy)]
 pub enum Reason {
     NoSuchName,
     Deleted,

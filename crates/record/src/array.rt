@@ -8,7 +8,7 @@ ghost use Rattle.record.specs.Answers.{array_refusal};
 use xdr::{Refusal, Word};
 
 // The number of elements and the place after the last, or a refusal.
-#[derive(Drop)]
+#[derive(Clone, Copy)]
 pub enum Array {
     Taken(u32, usize),
     Refused(Refusal),

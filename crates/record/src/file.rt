@@ -13,7 +13,7 @@ use xdr::{Bytes, Hyper, Refusal, Word};
 
 // The fields of a file: of its name, which begins at byte 4, the length, of its blocks the number and the place of the first,
 // and the place after the file.
-#[derive(Drop)]
+#[derive(Clone, Copy)]
 pub struct FileSpan {
     pub name_length: usize,
     pub flags: u32,
@@ -25,7 +25,7 @@ pub struct FileSpan {
 }
 
 // A file, or a refusal.
-#[derive(Drop)]
+#[derive(Clone, Copy)]
 pub enum FileRead {
     Taken(FileSpan),
     Refused(Refusal),

@@ -10,7 +10,7 @@ use xdr::{Bytes, Refusal, Word};
 
 // An option: the length of its Key, which begins at byte 4, the place where its Value's bytes start and their number, and the place after
 // the option.
-#[derive(Drop)]
+#[derive(Clone, Copy)]
 pub struct OptionSpan {
     pub key_length: usize,
     pub value_start: usize,
@@ -19,7 +19,7 @@ pub struct OptionSpan {
 }
 
 // An option, or a refusal.
-#[derive(Drop)]
+#[derive(Clone, Copy)]
 pub enum OptionRead {
     Taken(OptionSpan),
     Refused(Refusal),

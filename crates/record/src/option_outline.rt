@@ -6,7 +6,7 @@ use crate::string_outline::{StringOutline, string_at};
 
 // The fields of an option, by their places in the whole: where its Key and its Value start, how many bytes each has, and the place past
 // the option.
-#[derive(Drop)]
+#[derive(Clone, Copy)]
 pub struct OptionFields {
     pub key: usize,
     pub key_length: usize,
@@ -16,7 +16,7 @@ pub struct OptionFields {
 }
 
 // An option that ends within the bytes, or none.
-#[derive(Drop)]
+#[derive(Clone, Copy)]
 pub enum OptionOutline {
     Whole(OptionFields),
     Short,

@@ -8,7 +8,7 @@ use xdr::{Hyper, Word};
 
 // The fields of a record, by their places in the whole: its name is at name..stop, its bytes from Flags to the end at rest..past, and
 // its blocks begin at first.
-#[derive(Drop)]
+#[derive(Clone, Copy)]
 pub struct RecordFields {
     pub name: usize,
     pub stop: usize,
@@ -22,14 +22,14 @@ pub struct RecordFields {
 }
 
 // A record that ends within the bytes, or none.
-#[derive(Drop)]
+#[derive(Clone, Copy)]
 pub enum Outline {
     Whole(RecordFields),
     Short,
 }
 
 // The Length of a block and the place of its hash's 32 bytes, where they are within the bytes.
-#[derive(Drop)]
+#[derive(Clone, Copy)]
 pub enum BlockOutline {
     Whole { size: u32, hash: usize },
     Short,

@@ -5,7 +5,7 @@ ghost use Rattle.record.specs.Steps.{string_of};
 use xdr::Word;
 
 // The length of a string's contents, which begin 4 bytes after its place, and the place after its pad, where they are within the bytes.
-#[derive(Drop)]
+#[derive(Clone, Copy)]
 pub enum StringOutline {
     Whole { length: usize, past: usize },
     Short,

@@ -10,7 +10,7 @@ use record::Outline;
 use xdr::{Filling, Refusal};
 
 // To serve: the file's name, the offset and the Length. Or how many bytes of a reply were filled in, or a refusal.
-#[derive(Drop)]
+#[derive(Clone, Copy)]
 pub enum Serving {
     Served { name: Span, offset: u64, size: u32 },
     Unserved(Filling),

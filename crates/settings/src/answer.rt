@@ -6,21 +6,21 @@ ghost use Rattle.settings.specs.Steps.{is_there, byte_of, word_of};
 use xdr::Refusal;
 
 // The window or the byte allowance, there or not.
-#[derive(Drop)]
+#[derive(Clone, Copy)]
 pub enum Number {
     Absent,
     There(u32),
 }
 
 // The Repository or the note, there or not: where its bytes begin among those that were read, and how many they are.
-#[derive(Drop)]
+#[derive(Clone, Copy)]
 pub enum Span {
     Absent,
     There(usize, usize),
 }
 
 // What was read, and where the carried fields begin: they go on to the end.
-#[derive(Drop)]
+#[derive(Clone, Copy)]
 pub struct Settings {
     pub window: Number,
     pub allowance: Number,
@@ -30,7 +30,7 @@ pub struct Settings {
 }
 
 // The settings, or the refusal.
-#[derive(Drop)]
+#[derive(Clone, Copy)]
 pub enum Answer {
     Taken(Settings),
     Refused(Refusal),

@@ -16,7 +16,7 @@ use xdr::{Filling, Refusal};
 const CARRIED: usize = 129;
 
 // Which of the settings are there.
-#[derive(Drop)]
+#[derive(Clone, Copy)]
 struct Presence {
     window: bool,
     allowance: bool,

@@ -7,7 +7,7 @@ ghost use Rattle.sha256.specs.Steps.{words_in};
 use crate::functions::{lower0, lower1, sum2};
 
 // Sixteen words of the schedule, in its order.
-#[derive(Drop)]
+#[derive(Clone, Copy)]
 pub struct Block {
     pub w0: u32,
     pub w1: u32,

@@ -10,7 +10,7 @@ use crate::constants::K;
 use crate::state::{State, added, round};
 
 // The working variables after some rounds, and the sixteen newest words of the schedule.
-#[derive(Drop)]
+#[derive(Clone, Copy)]
 pub struct Step {
     pub state: State,
     pub block: Block,

@@ -9,7 +9,7 @@ use crate::state::{State, initial};
 
 // What is kept of the bytes so far: the hash value after the whole blocks, the bytes after them (the first size % 64 of the tail), and
 // how many bytes there were.
-#[derive(Drop)]
+#[derive(Clone, Copy)]
 pub struct Hasher {
     pub state: State,
     pub tail: [u8; 64],

@@ -6,7 +6,7 @@ use order::Order;
 use record::{Outline, RecordFields};
 
 // The first table's up to a place, the second's, or both, which have one name; or none is left.
-#[derive(Drop)]
+#[derive(Clone, Copy)]
 pub enum Side {
     Neither,
     Left(usize),

@@ -9,7 +9,7 @@ use record::{Outline, RecordFields};
 use xdr::Refusal;
 
 // The record at a place, by the places of its fields; or the end of the table; or a refusal.
-#[derive(Drop)]
+#[derive(Clone, Copy)]
 pub enum Step {
     Record(RecordFields),
     End,
@@ -60,7 +60,7 @@ pub fn next_place(step: Step, at: usize) -> usize
 }
 
 // A table and a place in it.
-#[derive(Drop)]
+#[derive(Clone, Copy)]
 pub struct Walker<'a> {
     pub table: &'a [u8],
     pub at: usize,

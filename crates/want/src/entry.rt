@@ -12,7 +12,7 @@ use xdr::Refusal;
 
 // What a Request for a block says: the table with its file's highest record (0 is the local one), where the name begins and stops there, the block's offset and Length, and
 // where its hash begins there; or that there is no such block.
-#[derive(Drop)]
+#[derive(Clone, Copy)]
 pub enum Details {
     Of {
         table: usize,

@@ -12,7 +12,7 @@ use record::{Outline, RecordFields};
 
 // Where the record that is next so far stands to another: before it by name, or there is no other; of the same name, and not lower; of the same name, and the other is
 // the higher; after it.
-#[derive(Drop)]
+#[derive(Clone, Copy)]
 pub enum Rank {
     Before,
     Same,
@@ -21,7 +21,7 @@ pub enum Rank {
 }
 
 // The table with the next record, the record's fields, and where each table goes on after its name.
-#[derive(Drop)]
+#[derive(Clone, Copy)]
 pub struct Head {
     pub best: usize,
     pub fields: Outline,

@@ -10,7 +10,7 @@ use crate::search::is_held;
 use record::Outline;
 
 // How a search for a block ends: at a free slot, at a slot with a block that is the same, or after as many slots as are looked at.
-#[derive(Drop)]
+#[derive(Clone, Copy)]
 pub enum Slot {
     Free(usize),
     Present,

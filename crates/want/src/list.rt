@@ -20,7 +20,7 @@ use crate::turn::{Turn, turn_of};
 use xdr::Filling;
 
 // A block to ask for: its file's number and its own, its offset and Length, and the peer.
-#[derive(Drop)]
+#[derive(Clone, Copy)]
 pub struct Wanted {
     pub file: u32,
     pub block: u32,
@@ -30,7 +30,7 @@ pub struct Wanted {
 }
 
 // Where a walk of the tables begins: a place in each, how many names come before, and whether no record is left.
-#[derive(Drop)]
+#[derive(Clone, Copy)]
 pub struct Start {
     pub places: [usize; 5],
     pub file: u32,

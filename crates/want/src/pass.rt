@@ -8,7 +8,7 @@ use crate::head::past_of;
 use order::Order;
 
 // Where each table goes on after the next name, and whether no record is left.
-#[derive(Drop)]
+#[derive(Clone, Copy)]
 pub struct Passing {
     pub past: [usize; 5],
     pub ended: bool,

@@ -7,14 +7,14 @@ ghost use Rattle.want.specs.Steps.Runs.{is_ahead, MarkIn, Marked};
 use crate::block::{place, same_block, size_at};
 
 // So many blocks, the first being at a place.
-#[derive(Drop)]
+#[derive(Clone, Copy)]
 pub struct Run {
     pub first: usize,
     pub count: u32,
 }
 
 // One of a run's blocks by its number, and its offset; or the end of the run.
-#[derive(Drop)]
+#[derive(Clone, Copy)]
 pub struct Mark {
     pub j: u32,
     pub from: u64,

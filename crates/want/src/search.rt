@@ -9,7 +9,7 @@ use record::Outline;
 use xdr::Refusal;
 
 // The numbers of a record and of its block, or that there is none, or a refusal.
-#[derive(Drop)]
+#[derive(Clone, Copy)]
 pub enum Found {
     At { record: u32, block: u32 },
     Nothing,

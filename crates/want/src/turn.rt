@@ -7,7 +7,7 @@ use crate::block::listed;
 use record::{Outline, RecordFields};
 
 // Where the blocks of the next record begin, and how many of them may be missing; or that no record is left.
-#[derive(Drop)]
+#[derive(Clone, Copy)]
 pub struct Turn {
     pub first: usize,
     pub count: u32,

@@ -9,7 +9,7 @@ use xdr::{Hyper, Word};
 pub const BYTES: usize = 24;
 
 // A block to ask for: its file's number and its own, its offset and Length, and the peer.
-#[derive(Drop)]
+#[derive(Clone, Copy)]
 pub struct Entry {
     pub file: u32,
     pub block: u32,

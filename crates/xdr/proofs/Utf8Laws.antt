@@ -213,7 +213,7 @@ module _ (b : ℕ) (l : List ℕ) (at fuel : ℕ) (short : length l ≤ fuel) (s
         let p = first q in
         record {
           points = p.point ∷ w.points;
-          are = rw p.is_point_lem w.are;
+          are = rw p.is_point w.are;
           is = p.bytes_are ∙ ap (λ (m : List ℕ). point_bytes p.point ++ m) w.is;
         }
 

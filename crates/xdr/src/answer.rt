@@ -3,7 +3,7 @@ ghost use Rattle.std.specs.Prelude.{◌≡◌};
 ghost use Rattle.xdr.specs.Answers.{at_start, word_refusal, hyper_refusal, bytes_refusal};
 
 // Why a reading was refused, by number, and at which byte.
-#[derive(Drop)]
+#[derive(Clone, Copy)]
 pub struct Refusal {
     pub number: u32,
     pub place: usize,
@@ -19,21 +19,21 @@ impl Refusal {
 }
 
 // A word and the place after it, or a refusal.
-#[derive(Drop)]
+#[derive(Clone, Copy)]
 pub enum Word {
     Taken(u32, usize),
     Refused(Refusal),
 }
 
 // A number of 64 bits and the place after it, or a refusal.
-#[derive(Drop)]
+#[derive(Clone, Copy)]
 pub enum Hyper {
     Taken(u64, usize),
     Refused(Refusal),
 }
 
 // The length of a string's or an opaque's contents, which begin 4 bytes after its place, and the place after its pad, or a refusal.
-#[derive(Drop)]
+#[derive(Clone, Copy)]
 pub enum Bytes {
     Taken(usize, usize),
     Refused(Refusal),

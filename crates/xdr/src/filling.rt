@@ -5,7 +5,7 @@ ghost use Rattle.xdr.specs.Filling.{refuses, filling_answer};
 use crate::answer::Refusal;
 
 // How many bytes were filled in, or a refusal.
-#[derive(Drop)]
+#[derive(Clone, Copy)]
 pub enum Filling {
     Filled(usize),
     Refused(Refusal),

@@ -24,9 +24,9 @@ list : (c : tie.After-struct-known) → Listing c.before.before.before.before.be
 list c = found_list c.before.before.before.before.before.before.before.before.before.before.before.args.message.now c.before.before.before.before.read-index.ensures c.before.before.found.given.1
 
 -- whether its Repository is the one expected
-repository : (c : tie.After-is-equal) → c.is_equal_lem.result ≡ is_equal (compare_lists (list c.before.before.before).sent.0 c.before.before.before.before.before.before.before.before.before.before.before.before.before.before.args.repository.now)
+repository : (c : tie.After-is-equal) → c.is_equal.result ≡ is_equal (compare_lists (list c.before.before.before).sent.0 c.before.before.before.before.before.before.before.before.before.before.before.before.before.before.args.repository.now)
 repository c =
-    c.is_equal_lem.ensures
+    c.is_equal.ensures
     ∙ ap is_equal (c.before.compare-bytes.ensures
     ∙ ap (λ (l : List ℕ). compare_lists l c.before.before.before.before.before.before.before.before.before.before.before.before.before.before.args.repository.now) (c.before.before.part.ensures ∙ repository_part (λ i. (c.before.before.before.before.before.before.before.before.before.before.before.before.shared-slice-known2.given i).fits) (list c.before.before.before)))
 

@@ -36,7 +36,7 @@ part-whole-end-2 : tie.Need-slice-bounds-whole-end-2
 part-whole-end-2 c = omega (arith, sent_within (same c))
 
 returns-2 : tie.Need-returns-2
-returns-2 c = let a = c.before.before.before.before.before.before.before.before.before.before.before.before.before.before.before.args in fills_same a.out.now (upgraded_named a.repository.now (λ i. (c.before.before.before.before.before.before.before.before.before.before.before.before.before.before.shared-slice-known.given i).fits) (named c.before.before.before.before.before)) c.before.before.with_repository_lem.ensures
+returns-2 c = let a = c.before.before.before.before.before.before.before.before.before.before.before.before.before.before.before.args in fills_same a.out.now (upgraded_named a.repository.now (λ i. (c.before.before.before.before.before.before.before.before.before.before.before.before.before.before.shared-slice-known.given i).fits) (named c.before.before.before.before.before)) c.before.before.with_repository.ensures
 
 returns-3 : tie.Need-returns-3
 returns-3 c = let a = c.before.before.before.before.before.before.before.before.before.before.before.before.before.before.before.args in fills_same a.out.now (upgraded_same a.repository.now (λ i. (c.before.before.before.before.before.before.before.before.before.before.before.before.before.before.shared-slice-known.given i).fits) (same c.before.before.before.before.before)) c.before.before.whole2.ensures

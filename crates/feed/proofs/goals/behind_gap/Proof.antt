@@ -12,7 +12,7 @@ returns-2 : tie.Need-returns-2
 returns-2 c = ap behind_gap (sym c.before.gap.given.1)
 
 returns-3 : tie.Need-returns-3
-returns-3 c = c.blocks_goal_lem.ensures ∙ ap behind_gap (sym c.before.before.gap2.given.1)
+returns-3 c = c.blocks_goal.ensures ∙ ap behind_gap (sym c.before.before.gap2.given.1)
 
 pub behind_gap_spec : {M : Type 1} → statement M
 behind_gap_spec =

@@ -10,10 +10,10 @@ use Rattle.feed.proofs.goals.body_goal.Statement.{statement}
 use Rattle.feed.proofs.goals.body_goal.Tie as tie
 
 returns : tie.Need-returns
-returns c = c.index_goal_lem.ensures ∙ ap (λ (n : ℕ). body_goal c.before.before.args.edition (kind_of n)) (sym c.before.match.keys1)
+returns c = c.index_goal.ensures ∙ ap (λ (n : ℕ). body_goal c.before.before.args.edition (kind_of n)) (sym c.before.match.keys1)
 
 returns-2 : tie.Need-returns-2
-returns-2 c = c.request_goal_lem.ensures ∙ ap (λ (n : ℕ). body_goal c.before.before.args.edition (kind_of n)) (sym c.before.match.keys2)
+returns-2 c = c.request_goal.ensures ∙ ap (λ (n : ℕ). body_goal c.before.before.args.edition (kind_of n)) (sym c.before.match.keys2)
 
 returns-3 : tie.Need-returns-3
 returns-3 c = ap (λ (n : ℕ). body_goal c.before.args.edition (kind_of n)) (sym c.match.keys3)

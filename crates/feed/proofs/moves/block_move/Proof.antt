@@ -26,7 +26,7 @@ add-at-goal c = omega (arith, c.before.before.before.sound-front.ensures.0, c.be
 returns-2 : tie.Need-returns-2
 returns-2 c = block_moves c.before.before.before.before.before.before.before.args.state c.before.before.before.before.before.before.before.args.part.now _ c.before.before.before.before.before.before.before.args.blocks c.before.before.before.before.before.before.before.args.files c.before.before.before.before.sound-front.result c.before.before.before.before.before.before.before.requires.0 c.before.before.before.before.before.before.before.requires.1 c.before.before.before.before.before.before.before.requires.2
     (λ i. (c.before.before.before.before.before.before.shared-slice-known.given i).fits) (omega (arith, c.before.before.before.if1.false)) (omega (arith, c.before.before.before.before.sound-front.ensures.0, c.before.before.before.before.before.least.ensures.0)) c.before.before.before.before.sound-front.ensures.1
-    (ap (λ (x : Cursor). record { state = x; taken = c.before.before.before.before.sound-front.result * 40 }) (c.at-goal.ensures ∙ ap (λ (g : Goal). at_goal g (c.before.before.before.before.before.before.before.args.state.place + c.before.before.before.before.sound-front.result * 40)) c.before.before.blocks_goal_lem.ensures))
+    (ap (λ (x : Cursor). record { state = x; taken = c.before.before.before.before.sound-front.result * 40 }) (c.at-goal.ensures ∙ ap (λ (g : Goal). at_goal g (c.before.before.before.before.before.before.before.args.state.place + c.before.before.before.before.sound-front.result * 40)) c.before.before.blocks_goal.ensures))
 
 pub block_move_spec : {M : Type 1} → statement M
 block_move_spec =

@@ -17,7 +17,7 @@ add-at-goal c = omega (arith, c.before.before.if2.false, bounded_at c.before.bef
 returns-3 : tie.Need-returns-3
 returns-3 c = let some : 1 ≤ c.before.before.before.before.before.file-end.result = omega (arith, c.before.before.before.before.if1.false) in
     file_moves c.before.before.before.before.before.before.before.args.state c.before.before.before.before.before.before.before.args.part.now _ c.before.before.before.before.before.file-end.result c.before.before.before.before.before.before.before.requires.0 c.before.before.before.before.before.before.before.requires.2 some c.before.before.before.before.before.before.before.args.files c.before.before.before.before.before.before.before.requires.1 (c.before.before.before.before.before.file-end.ensures some) c.before.before.before.if2.false
-    (ap (λ (x : Cursor). record { state = x; taken = c.before.before.before.before.before.file-end.result }) (c.at-goal.ensures ∙ ap (λ (g : Goal). at_goal g (c.before.before.before.before.before.before.before.args.state.place + c.before.before.before.before.before.file-end.result)) c.before.before.files_goal_lem.ensures))
+    (ap (λ (x : Cursor). record { state = x; taken = c.before.before.before.before.before.file-end.result }) (c.at-goal.ensures ∙ ap (λ (g : Goal). at_goal g (c.before.before.before.before.before.before.before.args.state.place + c.before.before.before.before.before.file-end.result)) c.before.before.files_goal.ensures))
 
 pub file_move_spec : {M : Type 1} → statement M
 file_move_spec =

@@ -13,7 +13,7 @@ gap-after-requires : tie.Need-gap-after-requires
 gap-after-requires c κs = let f = fits_at c.before.before.requires.1 c.before.before.requires.0 in (omega (arith, bounded_at c.before.before.args.state _ c.before.before.requires.1 c.before.before.requires.0, c.if1.true), omega (arith, c.if1.true))
 
 returns : tie.Need-returns
-returns c = gap_moves c.before.before.before.args.state c.before.before.before.args.part.now _ c.before.before.before.args.n c.before.before.before.args.gap (length c.before.before.before.args.part.now) c.before.before.before.requires.0 c.before.before.before.requires.1 c.before.before.before.requires.2 (omega (arith, c.before.if1.true)) (omega arith) (ap (λ (x : Cursor). record { state = x; taken = length c.before.before.before.args.part.now }) c.gap_after_lem.ensures)
+returns c = gap_moves c.before.before.before.args.state c.before.before.before.args.part.now _ c.before.before.before.args.n c.before.before.before.args.gap (length c.before.before.before.args.part.now) c.before.before.before.requires.0 c.before.before.before.requires.1 c.before.before.before.requires.2 (omega (arith, c.before.if1.true)) (omega arith) (ap (λ (x : Cursor). record { state = x; taken = length c.before.before.before.args.part.now }) c.gap_after.ensures)
 
 gap-after-requires-2 : tie.Need-gap-after-requires-2
 gap-after-requires-2 c κs = let f = fits_at c.before.before.requires.1 c.before.before.requires.0 in (omega (arith, bounded_at c.before.before.args.state _ c.before.before.requires.1 c.before.before.requires.0), omega (arith))

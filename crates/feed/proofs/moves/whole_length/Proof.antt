@@ -17,7 +17,7 @@ after-length-requires c κs = omega (arith, bounded_at c.before.before.before.be
 
 returns-2 : tie.Need-returns-2
 returns-2 c = length_moves c.before.before.before.before.before.before.args.state c.before.before.before.before.before.before.args.part.now _ c.before.before.before.before.before.before.requires.0 c.before.before.before.before.before.before.requires.2 c.before.before.before.before.before.before.args.string c.before.before.w.given.0.0 c.before.before.before.before.before.before.requires.1
-    (word_taken c.before.before.before.before.read_word.ensures c.before.before.w.given.1) (ap (λ (x : Cursor). record { state = x; taken = 4 }) c.after_length_lem.ensures)
+    (word_taken c.before.before.before.before.read_word.ensures c.before.before.w.given.1) (ap (λ (x : Cursor). record { state = x; taken = 4 }) c.after_length.ensures)
 
 pub whole_length_spec : {M : Type 1} → statement M
 whole_length_spec =

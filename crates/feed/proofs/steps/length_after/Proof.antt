@@ -9,7 +9,7 @@ returns : tie.Need-returns
 returns c = simp (c.gathered.ensures, c.before.joined.ensures, lt-ltb c.before.before.before.args.have 3 c.before.before.if1.true)
 
 returns-2 : tie.Need-returns-2
-returns-2 c = simp (c.after_length_lem.ensures, c.before.joined2.ensures, le-ltb c.before.before.before.args.have 3 c.before.before.if1.false)
+returns-2 c = simp (c.after_length.ensures, c.before.joined2.ensures, le-ltb c.before.before.before.args.have 3 c.before.before.if1.false)
 
 pub length_after_spec : {M : Type 1} → statement M
 length_after_spec =

@@ -27,7 +27,7 @@ returns-2 c = c.string-after.ensures ∙ ap (λ (g : Goal). goal_after g c.befor
 
 returns-3 : tie.Need-returns-3
 unfolding stepped
-returns-3 c = c.gap_after_lem.ensures ∙ ap (λ (g : Goal). goal_after g c.before.before.before.before.args.state c.before.before.before.before.args.b) (sym c.before.before.goal3.given.1)
+returns-3 c = c.gap_after.ensures ∙ ap (λ (g : Goal). goal_after g c.before.before.before.before.args.state c.before.before.before.before.args.b) (sym c.before.before.goal3.given.1)
 
 returns-4 : tie.Need-returns-4
 unfolding stepped

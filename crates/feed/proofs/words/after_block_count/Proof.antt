@@ -17,7 +17,7 @@ returns-2 c = simp (c.stopped2.ensures, le-leb c.before.before.before.before.arg
 
 returns-3 : tie.Need-returns-3
 unfolding after_word
-returns-3 c = simp (c.at-goal.ensures, c.before.blocks_goal_lem.ensures, le-leb c.before.before.before.before.before.args.n 1024 c.before.before.before.before.if1.false, sym c.before.before.before.may-have.ensures ∙ not-false _ c.before.before.if2.false)
+returns-3 c = simp (c.at-goal.ensures, c.before.blocks_goal.ensures, le-leb c.before.before.before.before.before.args.n 1024 c.before.before.before.before.if1.false, sym c.before.before.before.may-have.ensures ∙ not-false _ c.before.before.if2.false)
 
 pub after_block_count_spec : {M : Type 1} → statement M
 after_block_count_spec =

@@ -8,7 +8,7 @@ use Rattle.feed.proofs.words.after_option_count.Tie as tie
 
 returns : tie.Need-returns
 unfolding after_word
-returns c = simp (c.at-goal.ensures, c.before.options_goal_lem.ensures, le-leb c.before.before.before.args.n 64 c.before.before.if1.true)
+returns c = simp (c.at-goal.ensures, c.before.options_goal.ensures, le-leb c.before.before.before.args.n 64 c.before.before.if1.true)
 
 returns-2 : tie.Need-returns-2
 unfolding after_word

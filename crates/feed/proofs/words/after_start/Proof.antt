@@ -27,7 +27,7 @@ returns-4 c = simp (c.stopped4.ensures, eq-eqb (version_of c.before.before.befor
 
 returns-5 : tie.Need-returns-5
 unfolding after_word
-returns-5 c = simp (c.at-goal.ensures, c.before.body_goal_lem.ensures, c.before.before.before.before.before.before.before.type-of.ensures, eq-eqb (version_of c.before.before.before.before.before.before.before.before.before.before.args.h) 0 (sym c.before.before.before.before.before.before.before.before.before.version_of.ensures ∙ c.before.before.before.before.before.before.before.before.if1.false), type_right c.before.before.before.before.before.before.before.before.before.before.args.edition (type_of c.before.before.before.before.before.before.before.before.before.before.args.h) (λ e. c.before.before.before.before.before.before.if2.false (c.before.before.before.before.before.before.before.type-of.ensures ∙ e)) (omega (arith, c.before.before.before.before.if3.false, c.before.before.before.before.before.last-type.ensures, c.before.before.before.before.before.before.before.type-of.ensures)), eq-eqb (reserved_of c.before.before.before.before.before.before.before.before.before.before.args.h) 0 (sym c.before.before.before.reserved-of.ensures ∙ c.before.before.if4.false))
+returns-5 c = simp (c.at-goal.ensures, c.before.body_goal.ensures, c.before.before.before.before.before.before.before.type-of.ensures, eq-eqb (version_of c.before.before.before.before.before.before.before.before.before.before.args.h) 0 (sym c.before.before.before.before.before.before.before.before.before.version_of.ensures ∙ c.before.before.before.before.before.before.before.before.if1.false), type_right c.before.before.before.before.before.before.before.before.before.before.args.edition (type_of c.before.before.before.before.before.before.before.before.before.before.args.h) (λ e. c.before.before.before.before.before.before.if2.false (c.before.before.before.before.before.before.before.type-of.ensures ∙ e)) (omega (arith, c.before.before.before.before.if3.false, c.before.before.before.before.before.last-type.ensures, c.before.before.before.before.before.before.before.type-of.ensures)), eq-eqb (reserved_of c.before.before.before.before.before.before.before.before.before.before.args.h) 0 (sym c.before.before.before.reserved-of.ensures ∙ c.before.before.if4.false))
 
 pub after_start_spec : {M : Type 1} → statement M
 after_start_spec =

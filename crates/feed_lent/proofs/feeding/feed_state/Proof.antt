@@ -9,7 +9,7 @@ use Rattle.feed_lent.proofs.feeding.feed_state.Statement.{statement}
 use Rattle.feed_lent.proofs.feeding.feed_state.Tie as tie
 
 returns : tie.Need-returns
-returns c = fed_unsound (ap is_sound (sym c.before.before.before.unpacked.ensures) ∙ sym c.before.before.is-sound.ensures ∙ not-true _ c.before.if1.true) (ap A.Refused c.at_start_lem.ensures) refl
+returns c = fed_unsound (ap is_sound (sym c.before.before.before.unpacked.ensures) ∙ sym c.before.before.is-sound.ensures ∙ not-true _ c.before.if1.true) (ap A.Refused c.at_start.ensures) refl
 
 returns-2 : tie.Need-returns-2
 returns-2 c = fed_sound c.before.before.before.before.before.unpacked.ensures (sym c.before.before.before.before.is-sound.ensures ∙ not-false _ c.before.before.before.if1.false) c.before.before.feed.ensures c.packed.ensures

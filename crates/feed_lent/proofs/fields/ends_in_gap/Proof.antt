@@ -31,7 +31,7 @@ returns-6 c e = record {
   few = c.before.before.before.before.before.if3.false;
   none = c.before.before.before.before.if4.false;
   zero = c.before.before.before.if5.false;
-  room = omega (arith, has_room_lem c.before.before.before.before.before.before.before.before.args.place (c.before.before.before.before.before.before.before.before.args.n + c.before.most_gap_lem.result) (sym c.room_for_lem.ensures ∙ e), c.before.most_gap_lem.ensures.0, ap most_gap c.before.before.gap_of.ensures);
+  room = omega (arith, has_room_lem c.before.before.before.before.before.before.before.before.args.place (c.before.before.before.before.before.before.before.before.args.n + c.before.most_gap.result) (sym c.room_for.ensures ∙ e), c.before.most_gap.ensures.0, ap most_gap c.before.before.gap_of.ensures);
 }
 
 pub ends_in_gap_spec : {M : Type 1} → statement M

@@ -30,7 +30,7 @@ returns-5 c e = says_no e
 returns-6 : tie.Need-returns-6
 returns-6 c e =
     let a = c.before.before.before.before.before.before.before.before.before.before.args in
-    let r : a.place + most_word (word_of (a.tag - 1) a.m a.k) ≤ longest = omega (arith, has_room_lem a.place c.before.most-word.result (sym c.room_for_lem.ensures ∙ e), c.before.most-word.ensures.0, ap most_word c.before.before.word_of.ensures) in
+    let r : a.place + most_word (word_of (a.tag - 1) a.m a.k) ≤ longest = omega (arith, has_room_lem a.place c.before.most-word.result (sym c.room_for.ensures ∙ e), c.before.most-word.ensures.0, ap most_word c.before.before.word_of.ensures) in
     record {
       low = omega (arith, c.before.before.before.before.before.before.before.before.before.if1.false);
       high = c.before.before.before.before.before.before.before.before.if2.false;
@@ -43,7 +43,7 @@ returns-6 c e =
 returns-7 : tie.Need-returns-7
 returns-7 c e =
     let a = c.before.before.before.before.before.before.before.before.before.before.args in
-    let r : a.place + most_string (string_of (a.tag - 10) a.k) ≤ longest = omega (arith, has_room_lem a.place c.before.most_string_lem.result (sym c.room-for2.ensures ∙ e), c.before.most_string_lem.ensures.0, ap most_string c.before.before.string-of.ensures) in
+    let r : a.place + most_string (string_of (a.tag - 10) a.k) ≤ longest = omega (arith, has_room_lem a.place c.before.most_string.result (sym c.room-for2.ensures ∙ e), c.before.most_string.ensures.0, ap most_string c.before.before.string-of.ensures) in
     record {
       low = omega (arith, c.before.before.before.before.before.before.before.before.before.if1.false);
       high = c.before.before.before.before.before.before.before.before.if2.false;

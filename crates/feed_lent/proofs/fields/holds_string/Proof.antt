@@ -24,7 +24,7 @@ returns-4 c e = let a = c.before.before.before.before.before.before.before.args 
   low = c.before.before.before.before.before.before.if1.false;
   high = c.before.before.before.before.before.if2.false;
   parts = ap (λ (l : StringField). parts_test l a.have a.value a.at a.todo a.pad a.zeros) (sym c.before.before.before.before.string-of.ensures) ∙ sym c.before.before.before.is_inside.ensures ∙ not-false _ c.before.before.if3.false;
-  room = omega (arith, has_room_lem a.place c.before.most_string_lem.result (sym c.room_for_lem.ensures ∙ e), c.before.most_string_lem.ensures.0, ap most_string c.before.before.before.before.string-of.ensures);
+  room = omega (arith, has_room_lem a.place c.before.most_string.result (sym c.room_for.ensures ∙ e), c.before.most_string.ensures.0, ap most_string c.before.before.before.before.string-of.ensures);
 }
 
 pub holds_string_spec : {M : Type 1} → statement M

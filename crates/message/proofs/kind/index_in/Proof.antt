@@ -17,7 +17,7 @@ returns-3 : tie.Need-returns-3
 returns-3 c = ap index_in (sym c.before.m3.given.1)
 
 returns-4 : tie.Need-returns-4
-returns-4 c = ap E.Refused c.at_start_lem.ensures ∙ not_index c.before.before.args.m c.before.match.keys4
+returns-4 c = ap E.Refused c.at_start.ensures ∙ not_index c.before.before.args.m c.before.match.keys4
 
 pub index_in_spec : {M : Type 1} → statement M
 index_in_spec = tie.close (tie.spec (λ c. search rules) (λ c. search rules) (λ c. search rules) (λ c κs. search rules) returns returns-2 returns-3 returns-4)

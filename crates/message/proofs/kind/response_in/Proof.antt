@@ -14,7 +14,7 @@ returns-2 : tie.Need-returns-2
 returns-2 c = ap response_in (sym c.before.m2.given.1)
 
 returns-3 : tie.Need-returns-3
-returns-3 c = ap E.Refused c.at_start_lem.ensures ∙ not_response c.before.before.args.m c.before.match.keys3
+returns-3 c = ap E.Refused c.at_start.ensures ∙ not_response c.before.before.args.m c.before.match.keys3
 
 pub response_in_spec : {M : Type 1} → statement M
 response_in_spec = tie.close (tie.spec (λ c. search rules) (λ c. search rules) (λ c κs. search rules) returns returns-2 returns-3)

@@ -61,7 +61,7 @@ returns-2 : tie.Need-returns-2
 returns-2 c =
     let k = c.before.before.before in
     c.index-message.ensures
-    ∙ ap (λ (i : ℕ). index_message i c.before.read-index.result) k.before.id_of_lem.ensures
+    ∙ ap (λ (i : ℕ). index_message i c.before.read-index.result) k.before.id_of.ensures
     ∙ ap (index_message (id_of (h k.before.before))) c.before.read-index.ensures
     ∙ by_body (edition k.before.before) is_index (kind-is k 1 c.before.before.match2.keys1) (header_read k.before.before)
 
@@ -69,33 +69,33 @@ returns-3 : tie.Need-returns-3
 returns-3 c =
     let k = c.before.before in
     c.read-request.ensures
-    ∙ ap (λ (i : ℕ). request_answer (edition k.before.before) i (read_at (request (edition k.before.before)) (s k.before.before) 4)) k.before.id_of_lem.ensures
+    ∙ ap (λ (i : ℕ). request_answer (edition k.before.before) i (read_at (request (edition k.before.before)) (s k.before.before) 4)) k.before.id_of.ensures
     ∙ by_body (edition k.before.before) is_request (kind-is k 2 c.before.match2.keys2) (header_read k.before.before)
 
 returns-4 : tie.Need-returns-4
 returns-4 c =
     let k = c.before.before in
     c.read-response.ensures
-    ∙ ap (λ (i : ℕ). response_answer i (read_at response (s k.before.before) 4)) k.before.id_of_lem.ensures
+    ∙ ap (λ (i : ℕ). response_answer i (read_at response (s k.before.before) 4)) k.before.id_of.ensures
     ∙ by_body (edition k.before.before) is_response (kind-is k 3 c.before.match2.keys3) (header_read k.before.before)
 
 returns-5 : tie.Need-returns-5
 returns-5 c =
     let k = c.before in
-    ap (λ (i : ℕ). M.Ping i 4) k.before.id_of_lem.ensures
+    ap (λ (i : ℕ). M.Ping i 4) k.before.id_of.ensures
     ∙ by_kind (edition k.before.before) is_ping (kind-is k 4 c.match2.keys4) (header_read k.before.before) (nothing_read (s k.before.before) 4)
 
 returns-6 : tie.Need-returns-6
 returns-6 c =
     let k = c.before in
-    ap (λ (i : ℕ). M.Pong i 4) k.before.id_of_lem.ensures
+    ap (λ (i : ℕ). M.Pong i 4) k.before.id_of.ensures
     ∙ by_kind (edition k.before.before) is_pong (kind-is k 5 c.match2.keys5) (header_read k.before.before) (nothing_read (s k.before.before) 4)
 
 returns-7 : tie.Need-returns-7
 returns-7 c =
     let k = c.before.before.before in
     c.update-message.ensures
-    ∙ ap (λ (i : ℕ). update_message i c.before.read-index2.result) k.before.id_of_lem.ensures
+    ∙ ap (λ (i : ℕ). update_message i c.before.read-index2.result) k.before.id_of.ensures
     ∙ ap (update_message (id_of (h k.before.before))) c.before.read-index2.ensures
     ∙ by_body (edition k.before.before) is_index_update (kind-is k 6 c.before.before.match2.keys6) (header_read k.before.before)
 
@@ -104,7 +104,7 @@ returns-8 c =
     let k = c.before.before in
     let r = c.before.match2.rest in
     c.read-options.ensures
-    ∙ ap (λ (i : ℕ). options_answer i (read_at (options options_limit) (s k.before.before) 4)) k.before.id_of_lem.ensures
+    ∙ ap (λ (i : ℕ). options_answer i (read_at (options options_limit) (s k.before.before) 4)) k.before.id_of.ensures
     ∙ by_body (edition k.before.before) is_options (kind-is k _ refl ∙ kind_rest _ r.0.0.0.0.0.1 r.0.0.0.0.1 r.0.0.0.1 r.0.0.1 r.0.1 r.1) (header_read k.before.before)
 
 pub read_spec : {M : Type 1} → statement M

@@ -15,54 +15,54 @@ use borrow.Author.Rules.{rules}
 use Rattle.order.proofs.compare.compare_bytes.Statement.{statement}
 use Rattle.order.proofs.compare.compare_bytes.Tie as tie
 
-abbrev invariant-loop : tie.invariant-loop
+abbrev invariant-loop : tie.invariant-loop-x
 invariant-loop a b i₀ i = (i ≤ length a) × (i ≤ length b) × (compare_lists a b ≡ compare_lists (drop i a) (drop i b))
 
-abbrev decreases-loop : tie.decreases-loop
+abbrev decreases-loop : tie.decreases-loop-x
 decreases-loop a b i₀ i = length a - i
 
-abbrev left : tie.At-loop invariant-loop decreases-loop → List ℕ
+abbrev left : tie.At-loop-x invariant-loop decreases-loop → List ℕ
 left l = l.before.before.before.args.a.now
 
-abbrev right : tie.At-loop invariant-loop decreases-loop → List ℕ
+abbrev right : tie.At-loop-x invariant-loop decreases-loop → List ℕ
 right l = l.before.before.before.args.b.now
 
 -- the next eight bytes of each
-abbrev at-loop : tie.After-known-told2 invariant-loop decreases-loop → tie.At-loop invariant-loop decreases-loop
+abbrev at-loop : tie.In-Taken-read_hyper invariant-loop decreases-loop → tie.At-loop-x invariant-loop decreases-loop
 at-loop c = c.before.before.before.before.before.before.before.before
 
-abbrev first : tie.After-known-told2 invariant-loop decreases-loop → tie.After-known-told invariant-loop decreases-loop
+abbrev first : tie.In-Taken-read_hyper invariant-loop decreases-loop → tie.In-Taken invariant-loop decreases-loop
 first c = c.before.before.before.before
 
-first_read : (c : tie.After-known-told2 invariant-loop decreases-loop) → Reads hyper (left (at-loop c)) (at-loop c).loop.i (taken (first c).before.x.given.0.0 (first c).before.x.given.0.1.0)
+first_read : (c : tie.In-Taken-read_hyper invariant-loop decreases-loop) → Reads hyper (left (at-loop c)) (at-loop c).loop.i (taken (first c).before.x.given.0.0 (first c).before.x.given.0.1.0)
 first_read c = hyper_taken (first c).before.before.before.read-hyper.ensures (first c).before.x.given.1
 
-second-read : (c : tie.After-known-told2 invariant-loop decreases-loop) → Reads hyper (right (at-loop c)) (at-loop c).loop.i (taken c.before.y.given.0.0 c.before.y.given.0.1.0)
-second-read c = hyper_taken c.before.before.before.read-hyper2.ensures c.before.y.given.1
+second-read : (c : tie.In-Taken-read_hyper invariant-loop decreases-loop) → Reads hyper (right (at-loop c)) (at-loop c).loop.i (taken c.in-Taken-read_hyper.y c.in-Taken-read_hyper.field-1)
+second-read c = hyper_taken c.before.read_hyper-in-loop-x.ensures c.in-Taken-read_hyper.is
 
-loop-holds : tie.Need-loop-init invariant-loop decreases-loop
+loop-holds : tie.Need-loop-x-init invariant-loop decreases-loop
 loop-holds c = (omega arith, omega arith, refl)
 
-returns : tie.Need-returns invariant-loop decreases-loop
-returns c = c.compare-rest.ensures ∙ sym c.before.before.before.before.loop.invariant.2
+returns-in_default : tie.Need-returns-in_default invariant-loop decreases-loop
+returns-in_default c = c.compare_rest.ensures ∙ sym c.before.before.before.loop-x.invariant.2
 
-returns-2 : tie.Need-returns-2 invariant-loop decreases-loop
-returns-2 c = c.compare-rest2.ensures ∙ sym c.before.before.before.before.before.before.before.before.loop.invariant.2
+returns-in_default-read_hyper : tie.Need-returns-in_default-read_hyper invariant-loop decreases-loop
+returns-in_default-read_hyper c = c.compare_rest-in_default-read_hyper.ensures ∙ sym c.before.before.before.before.before.loop-x.invariant.2
 
-returns-3 : tie.Need-returns-3 invariant-loop decreases-loop
-returns-3 c =
+returns-then-x-y : tie.Need-returns-then-x-y invariant-loop decreases-loop
+returns-then-x-y c =
     let r = c.before.before in
     let l = at-loop r in
     let p = ends_word (first_read r) in
     let q = ends_word (second-read r) in
-    c.compare-numbers.ensures
+    c.compare_numbers.ensures
     ∙ sym (l.loop.inv.2 ∙ word_differs 8 (left l) (right l) l.loop.i (λ i. (l.before.before.shared-slice-known.given i).fits) (λ i. (l.before.shared-slice-known2.given i).fits)
-    (omega (arith, p.0, p.1)) (omega (arith, q.0, q.1)) (number_value (first_read r)) (number_value (second-read r)) c.before.if1.true)
+    (omega (arith, p.0, p.1)) (omega (arith, q.0, q.1)) (number_value (first_read r)) (number_value (second-read r)) c.before.if-x-y.true)
 
-loop-less : tie.Need-loop-smaller invariant-loop decreases-loop
+loop-less : tie.Need-loop-x-smaller invariant-loop decreases-loop
 loop-less c = let p = ends_word (first_read c.before) in omega (arith, p.0, p.1)
 
-loop-again : tie.Need-loop-preserved invariant-loop decreases-loop
+loop-again : tie.Need-loop-x-preserved invariant-loop decreases-loop
 loop-again c =
     let r = c.before in
     let l = at-loop r in
@@ -72,7 +72,7 @@ loop-again c =
       omega (arith, p.0, q.0, q.1),
       l.loop.inv.2
           ∙ word_same 8 (left l) (right l) l.loop.i (λ i. (l.before.before.shared-slice-known.given i).fits) (λ i. (l.before.shared-slice-known2.given i).fits)
-          (omega (arith, p.0, p.1)) (omega (arith, q.0, q.1)) (number_value (first_read r)) (number_value (second-read r)) c.if1.false
+          (omega (arith, p.0, p.1)) (omega (arith, q.0, q.1)) (number_value (first_read r)) (number_value (second-read r)) c.if-x-y.false
           ∙ ap (λ (n : ℕ). compare_lists (drop n (left l)) (drop n (right l))) (sym p.0),
     )
 
@@ -87,13 +87,13 @@ compare_bytes_spec =
     (λ c. search rules)
     (λ c. search rules)
     (λ c κs. search rules)
-    returns
+    returns-in_default
     (λ c κs. search rules)
     (λ c. search rules)
     (λ c. search rules)
     (λ c κs. search rules)
-    returns-2
+    returns-in_default-read_hyper
     (λ c κs. search rules)
-    returns-3
+    returns-then-x-y
     loop-less
     loop-again)

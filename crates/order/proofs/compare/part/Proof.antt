@@ -5,14 +5,14 @@ use borrow.Author.Rules.{rules}
 use Rattle.order.proofs.compare.part.Statement.{statement}
 use Rattle.order.proofs.compare.part.Tie as tie
 
-returns : tie.Need-returns
-returns c = let a = c.before.before.args in part_beyond a.s.now a.from a.to (omega arith)
+returns-then-len-from : tie.Need-returns-then-len-from
+returns-then-len-from c = let a = c.before.before.args in part_beyond a.s.now a.from a.to (omega arith)
 
-returns-2 : tie.Need-returns-2
-returns-2 c = let a = c.before.before.before.args in part_empty a.s.now a.from a.to (omega arith)
+returns-then-to-from : tie.Need-returns-then-to-from
+returns-then-to-from c = let a = c.before.before.before.args in part_empty a.s.now a.from a.to (omega arith)
 
-returns-3 : tie.Need-returns-3
-returns-3 c = let a = c.before.before.before.before.args in part_cut a.s.now a.from a.to (omega arith) (omega arith)
+returns-then-len-to : tie.Need-returns-then-len-to
+returns-then-len-to c = let a = c.before.before.before.before.args in part_cut a.s.now a.from a.to (omega arith) (omega arith)
 
 pub part_spec : {M : Type 1} → statement M
 part_spec =
@@ -21,14 +21,14 @@ part_spec =
     (λ c. search rules)
     (λ c. search rules)
     (λ c. search rules)
-    returns
+    returns-then-len-from
     (λ c. search rules)
     (λ c. search rules)
     (λ c. search rules)
-    returns-2
+    returns-then-to-from
     (λ c. search rules)
     (λ c. search rules)
-    returns-3
+    returns-then-len-to
     (λ c. search rules)
     (λ c. search rules)
     (λ c. search rules))

@@ -8,23 +8,23 @@ use Rattle.order.proofs.SameLaws.{differ, Alike, alike_starts, alike_turn, alike
 use Rattle.order.proofs.long.same_bytes.Statement.{statement}
 use Rattle.order.proofs.long.same_bytes.Tie as tie
 
-abbrev invariant-loop : tie.invariant-loop
+abbrev invariant-loop : tie.invariant-loop-i
 invariant-loop a b same₀ i₀ same i = Alike a b i same
 
-abbrev decreases-loop : tie.decreases-loop
+abbrev decreases-loop : tie.decreases-loop-i
 decreases-loop a b same₀ i₀ same i = length a - i
 
-returns : tie.Need-returns invariant-loop decreases-loop
-returns c = differ _ _ (λ e. c.if1.true (ap length e))
+returns-then-a-b : tie.Need-returns-then-a-b invariant-loop decreases-loop
+returns-then-a-b c = differ _ _ (λ e. c.if-a-b.true (ap length e))
 
-loop-holds : tie.Need-loop-init invariant-loop decreases-loop
+loop-holds : tie.Need-loop-i-init invariant-loop decreases-loop
 loop-holds c = alike_starts c.before.args.a.now c.before.args.b.now
 
-loop-again : tie.Need-loop-preserved invariant-loop decreases-loop
-loop-again c = let w = c.before.before.before.before.loop.invariant in ⊎_elim (λ p. alike_turn w (inl (p.0.taken, p.1))) (λ p. alike_turn w (inr (p.0.left, p.1))) c.if2.branch
+loop-again : tie.Need-loop-i-preserved invariant-loop decreases-loop
+loop-again c = let w = c.before.before.before.before.loop-i.invariant in ⊎_elim (λ p. alike_turn w (inl (p.0.taken, p.1))) (λ p. alike_turn w (inr (p.0.left, p.1))) c.if-a-i.branch
 
-returns-2 : tie.Need-returns-2 invariant-loop decreases-loop
-returns-2 c = alike_ends c.before.loop.invariant (search rules) (search rules)
+returns : tie.Need-returns invariant-loop decreases-loop
+returns c = alike_ends c.before.loop-i.invariant (search rules) (search rules)
 
 pub same_bytes_spec : {M : Type 1} → statement M
 same_bytes_spec =
@@ -32,11 +32,11 @@ same_bytes_spec =
     (tie.spec
     invariant-loop
     decreases-loop
-    returns
+    returns-then-a-b
     loop-holds
     (λ c. search rules)
     (λ c. search rules)
     (λ c. search rules)
     (λ c. search rules)
     loop-again
-    returns-2)
+    returns)

@@ -8,38 +8,38 @@ use borrow.Author.Rules.{rules}
 use Rattle.order.proofs.names.compare_last.Statement.{statement}
 use Rattle.order.proofs.names.compare_last.Tie as tie
 
-abbrev start : tie.After-eight-at2 → tie.Start
+abbrev start : tie.After-eight_at-y → tie.Start
 start c = c.before.before.before.before
 
-returns : tie.Need-returns
-returns c =
+returns-then-x-y : tie.Need-returns-then-x-y
+returns-then-x-y c =
     let k = c.before.before in
     let s = start k in
     eight_decide s.args.a.now s.args.b.now (s.args.n - 8)
-    (λ i. (k.before.before.before.shared-slice-known.given i).fits) (λ i. (k.before.before.shared-slice-known2.given i).fits)
+    (λ i. (k.before.before.before.shared_slice_known-1.given i).fits) (λ i. (k.before.before.shared_slice_known-2-1.given i).fits)
     (omega (arith, s.pre.0.first, s.pre.1.0)) (omega (arith, s.pre.0.second, s.pre.1.0))
-    k.before.eight-at.ensures k.eight-at2.ensures s.pre.1.1 c.compare-numbers.ensures c.before.if1.true
+    k.before.eight_at-x.ensures k.eight_at-y.ensures s.pre.1.1 c.compare_numbers.ensures c.before.if-x-y.true
 
 -- the shorter is a part of the other
-alike : (c : tie.Else1) → let s = start c.before in take s.args.n s.args.a.now ≡ take s.args.n s.args.b.now
+alike : (c : tie.Else-x-y) → let s = start c.before in take s.args.n s.args.a.now ≡ take s.args.n s.args.b.now
 alike c =
     let k = c.before in
     let s = start k in
     let n : s.args.n - 8 + 8 ≡ s.args.n = omega (arith, s.pre.1.0) in
     subst (λ (m : ℕ). take m s.args.a.now ≡ take m s.args.b.now) n
     (eight_more s.args.a.now s.args.b.now (s.args.n - 8)
-    (λ i. (k.before.before.before.shared-slice-known.given i).fits) (λ i. (k.before.before.shared-slice-known2.given i).fits)
+    (λ i. (k.before.before.before.shared_slice_known-1.given i).fits) (λ i. (k.before.before.shared_slice_known-2-1.given i).fits)
     (omega (arith, s.pre.0.first, s.pre.1.0)) (omega (arith, s.pre.0.second, s.pre.1.0))
-    k.before.eight-at.ensures k.eight-at2.ensures s.pre.1.1 c.if1.false)
+    k.before.eight_at-x.ensures k.eight_at-y.ensures s.pre.1.1 c.if-x-y.false)
 
-returns-2 : tie.Need-returns-2
-returns-2 c = let s = start c.before.before in first_shorter s.args.a.now s.args.b.now s.args.n s.pre.0 (alike c.before) c.if2.true
+returns-then-a-b : tie.Need-returns-then-a-b
+returns-then-a-b c = let s = start c.before.before in first_shorter s.args.a.now s.args.b.now s.args.n s.pre.0 (alike c.before) c.if-a-b.true
 
-returns-3 : tie.Need-returns-3
-returns-3 c = let s = start c.before.before.before in second_shorter s.args.a.now s.args.b.now s.args.n s.pre.0 (alike c.before.before) c.if3.true
+returns-then-b-a : tie.Need-returns-then-b-a
+returns-then-b-a c = let s = start c.before.before.before in second_shorter s.args.a.now s.args.b.now s.args.n s.pre.0 (alike c.before.before) c.if-b-a.true
 
-returns-4 : tie.Need-returns-4
-returns-4 c = let s = start c.before.before.before in as_long s.args.a.now s.args.b.now s.args.n s.pre.0 (alike c.before.before) c.before.if2.false c.if3.false
+returns : tie.Need-returns
+returns c = let s = start c.before.before.before in as_long s.args.a.now s.args.b.now s.args.n s.pre.0 (alike c.before.before) c.before.if-a-b.false c.if-b-a.false
 
 pub compare_last_spec : {M : Type 1} → statement M
 compare_last_spec =
@@ -49,7 +49,7 @@ compare_last_spec =
     (λ c κs. search rules)
     (λ c κs. search rules)
     (λ c κs. search rules)
-    returns
-    returns-2
-    returns-3
-    returns-4)
+    returns-then-x-y
+    returns-then-a-b
+    returns-then-b-a
+    returns)

@@ -8,52 +8,52 @@ use borrow.Author.Rules.{rules}
 use Rattle.order.proofs.names.compare_names.Statement.{statement}
 use Rattle.order.proofs.names.compare_names.Tie as tie
 
-abbrev invariant-loop : tie.invariant-loop
+abbrev invariant-loop : tie.invariant-loop-i
 invariant-loop a b n i₀ i = take i a ≡ take i b
 
-abbrev decreases-loop : tie.decreases-loop
+abbrev decreases-loop : tie.decreases-loop-i
 decreases-loop a b n i₀ i = n - i
 
-loop-holds : tie.Need-loop-init invariant-loop decreases-loop
+loop-holds : tie.Need-loop-i-init invariant-loop decreases-loop
 loop-holds c = refl
 
-eight-at-requires : tie.Need-eight-at-requires invariant-loop decreases-loop
-eight-at-requires c κs = omega (arith, c.before.before.before.shorter.ensures.first)
+eight_at-x-requires : tie.Need-eight_at-x-requires invariant-loop decreases-loop
+eight_at-x-requires c κs = omega (arith, c.before.before.before.shorter-n.ensures.first)
 
-eight-at-requires-2 : tie.Need-eight-at-requires-2 invariant-loop decreases-loop
-eight-at-requires-2 c κs = omega (arith, c.before.before.before.before.shorter.ensures.second)
+eight_at-y-requires : tie.Need-eight_at-y-requires invariant-loop decreases-loop
+eight_at-y-requires c κs = omega (arith, c.before.before.before.before.shorter-n.ensures.second)
 
-returns-2 : tie.Need-returns-2 invariant-loop decreases-loop
-returns-2 c =
+returns-then-x-y : tie.Need-returns-then-x-y invariant-loop decreases-loop
+returns-then-x-y c =
     let k = c.before.before in
     let l = k.before.before.before in
     let s = l.before.before.before.before.before in
-    eight_decide s.args.a.now s.args.b.now l.loop.i
-    (λ i. (l.before.before.before.before.shared-slice-known.given i).fits) (λ i. (l.before.before.before.shared-slice-known2.given i).fits)
-    (omega (arith, l.before.before.shorter.ensures.first, k.before.before.loop-test.true)) (omega (arith, l.before.before.shorter.ensures.second, k.before.before.loop-test.true))
-    k.before.eight-at.ensures k.eight-at2.ensures l.loop.invariant c.compare-numbers.ensures c.before.if2.true
+    eight_decide s.args.a.now s.args.b.now l.loop-i.i
+    (λ i. (l.before.before.before.before.shared_slice_known-1.given i).fits) (λ i. (l.before.before.before.shared_slice_known-2-1.given i).fits)
+    (omega (arith, l.before.before.shorter-n.ensures.first, k.before.before.loop-i-test.true)) (omega (arith, l.before.before.shorter-n.ensures.second, k.before.before.loop-i-test.true))
+    k.before.eight_at-x.ensures k.eight_at-y.ensures l.loop-i.invariant c.compare_numbers.ensures c.before.if-x-y.true
 
-add-i : tie.Need-overflow-add-i invariant-loop decreases-loop
-add-i c = omega (arith, c.before.before.before.loop-test.true)
+overflow_add-i : tie.Need-overflow_add-i invariant-loop decreases-loop
+overflow_add-i c = omega (arith, c.before.before.before.loop-i-test.true)
 
-loop-less : tie.Need-loop-smaller invariant-loop decreases-loop
-loop-less c = omega (arith, c.before.before.before.loop-test.true)
+loop-less : tie.Need-loop-i-smaller invariant-loop decreases-loop
+loop-less c = omega (arith, c.before.before.before.loop-i-test.true)
 
-loop-again : tie.Need-loop-preserved invariant-loop decreases-loop
+loop-again : tie.Need-loop-i-preserved invariant-loop decreases-loop
 loop-again c =
     let k = c.before in
     let l = k.before.before.before in
     let s = l.before.before.before.before.before in
-    eight_more s.args.a.now s.args.b.now l.loop.i
-    (λ i. (l.before.before.before.before.shared-slice-known.given i).fits) (λ i. (l.before.before.before.shared-slice-known2.given i).fits)
-    (omega (arith, l.before.before.shorter.ensures.first, k.before.before.loop-test.true)) (omega (arith, l.before.before.shorter.ensures.second, k.before.before.loop-test.true))
-    k.before.eight-at.ensures k.eight-at2.ensures l.loop.invariant c.if2.false
+    eight_more s.args.a.now s.args.b.now l.loop-i.i
+    (λ i. (l.before.before.before.before.shared_slice_known-1.given i).fits) (λ i. (l.before.before.before.shared_slice_known-2-1.given i).fits)
+    (omega (arith, l.before.before.shorter-n.ensures.first, k.before.before.loop-i-test.true)) (omega (arith, l.before.before.shorter-n.ensures.second, k.before.before.loop-i-test.true))
+    k.before.eight_at-x.ensures k.eight_at-y.ensures l.loop-i.invariant c.if-x-y.false
 
-compare-last-requires : tie.Need-compare-last-requires invariant-loop decreases-loop
-compare-last-requires c κs =
+compare_last-requires : tie.Need-compare_last-requires invariant-loop decreases-loop
+compare_last-requires c κs =
     let l = c.before in
     let s = l.before.before.before.before.before in
-    (l.before.before.shorter.ensures, (l.before.if1.false, take_fewer s.args.a.now s.args.b.now l.loop.i (l.before.before.shorter.result - 8) l.loop.invariant c.loop-test.false))
+    (l.before.before.shorter-n.ensures, (l.before.if-n-lt8.false, take_fewer s.args.a.now s.args.b.now l.loop-i.i (l.before.before.shorter-n.result - 8) l.loop-i.invariant c.loop-i-test.false))
 
 pub compare_names_spec : {M : Type 1} → statement M
 compare_names_spec =
@@ -65,12 +65,12 @@ compare_names_spec =
     (λ c κs. search rules)
     (λ c. search rules)
     loop-holds
-    eight-at-requires
-    eight-at-requires-2
+    eight_at-x-requires
+    eight_at-y-requires
     (λ c κs. search rules)
-    returns-2
-    add-i
+    returns-then-x-y
+    overflow_add-i
     loop-less
     loop-again
-    compare-last-requires
+    compare_last-requires
     (λ c. search rules))

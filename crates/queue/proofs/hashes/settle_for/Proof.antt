@@ -28,7 +28,7 @@ returns c =
     let a = c.before.before.before.before.args in
     let hs = a.hashes.now in
     let no = sym c.before.before.is-peer.ensures ∙ not-true _ c.before.if1.true in (
-      ap A.Refused c.at_start_lem.ensures ∙ sym (at_23 a.peer (arrival_of (share_of hash_bytes hs a.peer) a.message.now a.release) (A.Refused (at_start 23)) no),
+      ap A.Refused c.at_start.ensures ∙ sym (at_23 a.peer (arrival_of (share_of hash_bytes hs a.peer) a.message.now a.release) (A.Refused (at_start 23)) no),
       sym (at_23 a.peer (with_share hash_bytes hs a.peer (hashes_released (share_of hash_bytes hs a.peer) a.release)) hs no),
     )
 

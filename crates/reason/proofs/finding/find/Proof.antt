@@ -27,7 +27,7 @@ returns c = seek_ends c.before.before.before.loop.invariant c.before.before.outl
 returns-2 : tie.Need-returns-2 invariant-loop decreases-loop
 returns-2 c =
     seek_found c.before.before.before.before.before.before.before.before.loop.invariant c.before.before.before.before.before.before.before.outline-at.ensures c.before.before.before.before.before.f.given.1
-    (ap (λ (l : List ℕ). is_equal (compare_lists l c.before.before.before.before.before.before.before.before.before.before.before.args.name.now)) (sym c.before.before.before.part.ensures) ∙ ap is_equal (sym c.before.before.compare-bytes.ensures) ∙ sym c.before.is_equal_lem.ensures ∙ c.if1.true)
+    (ap (λ (l : List ℕ). is_equal (compare_lists l c.before.before.before.before.before.before.before.before.before.before.before.args.name.now)) (sym c.before.before.before.part.ensures) ∙ ap is_equal (sym c.before.before.compare-bytes.ensures) ∙ sym c.before.is_equal.ensures ∙ c.if1.true)
 
 loop-less : tie.Need-loop-smaller invariant-loop decreases-loop
 loop-less c = let g = seek_grows c.before.before.before.before.before.before.before.before.loop.invariant c.before.before.before.before.before.before.before.outline-at.ensures c.before.before.before.before.before.f.given.1 in omega (arith, g.0, g.1)
@@ -35,7 +35,7 @@ loop-less c = let g = seek_grows c.before.before.before.before.before.before.bef
 loop-again : tie.Need-loop-preserved invariant-loop decreases-loop
 loop-again c =
     seek_on c.before.before.before.before.before.before.before.before.loop.invariant c.before.before.before.before.before.before.before.outline-at.ensures c.before.before.before.before.before.f.given.1
-    (ap (λ (l : List ℕ). is_equal (compare_lists l c.before.before.before.before.before.before.before.before.before.before.before.args.name.now)) (sym c.before.before.before.part.ensures) ∙ ap is_equal (sym c.before.before.compare-bytes.ensures) ∙ sym c.before.is_equal_lem.ensures ∙ c.if1.false)
+    (ap (λ (l : List ℕ). is_equal (compare_lists l c.before.before.before.before.before.before.before.before.before.before.before.args.name.now)) (sym c.before.before.before.part.ensures) ∙ ap is_equal (sym c.before.before.compare-bytes.ensures) ∙ sym c.before.is_equal.ensures ∙ c.if1.false)
 
 pub find_spec : {M : Type 1} → statement M
 find_spec =

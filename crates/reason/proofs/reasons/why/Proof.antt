@@ -38,7 +38,7 @@ five c =
     five_good s.local.now s.peer1.now s.peer2.now s.peer3.now s.peer4.now
     (λ i. (c.before.before.before.before.before.before.before.shared-slice-known.given i).fits) (λ i. (c.before.before.before.before.before.before.shared-slice-known2.given i).fits) (λ i. (c.before.before.before.before.before.shared-slice-known3.given i).fits)
     (λ i. (c.before.before.before.before.shared-slice-known4.given i).fits) (λ i. (c.before.before.before.shared-slice-known5.given i).fits)
-    c.before.all_good_lem.ensures (not-false _ c.if1.false)
+    c.before.all_good.ensures (not-false _ c.if1.false)
 
 -- the records of all, and the reason of each
 abbrev merged : tie.Start → List File
@@ -46,12 +46,12 @@ merged c = merged_of (map records (tables c))
 
 good : (c : tie.Else1) → let s = start c in why_of s.args.local.now (peers s) s.args.name.now s.args.block
     ≡ why_named (why_record (records s.args.local.now) (map records (peers s)) s.args.block) s.args.name.now (merged s)
-good c = let s = start c in why_good s.args.local.now (peers s) s.args.name.now s.args.block c.before.all_good_lem.ensures (not-false _ c.if1.false)
+good c = let s = start c in why_good s.args.local.now (peers s) s.args.name.now s.args.block c.before.all_good.ensures (not-false _ c.if1.false)
 
 returns : tie.Need-returns
 returns c =
     let s = c.before.before.before.before.before.before.before.before.before in
-    ap R.Refused c.at_start_lem.ensures ∙ why_bad s.args.local.now (peers s) s.args.name.now s.args.block c.before.before.all_good_lem.ensures (not-true _ c.before.if1.true)
+    ap R.Refused c.at_start.ensures ∙ why_bad s.args.local.now (peers s) s.args.name.now s.args.block c.before.before.all_good.ensures (not-true _ c.before.if1.true)
 
 highest-requires : tie.Need-highest-requires
 highest-requires c κs = five c

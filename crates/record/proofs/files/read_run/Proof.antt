@@ -105,7 +105,7 @@ returns-3 c =
     let r = c.before.before.before.before.before.before.before in
     let l = at-loop r in
     let n = record-there r in
-    let e = sym (ap is_less c.before.before.compare-bytes.ensures) ∙ sym c.before.is_less_lem.ensures ∙ not-true _ c.if2.true in
+    let e = sym (ap is_less c.before.before.compare-bytes.ensures) ∙ sym c.before.is_less.ensures ∙ not-true _ c.if2.true in
     broken_answers (rising l.before) (limit l.before) l.loop.inv.0 (count-read l.before) c.before.before.before.before.before.if1.true n.reads n.name r.before.before.before.before.before.loop-test.true e
 
 add-next : tie.Need-overflow-add-next invariant-loop decreases-loop

@@ -20,13 +20,13 @@ returns : tie.Need-returns invariant-loop decreases-loop
 returns c = let s = c.before.before.before.before.before.before.before.args in look_ends c.before.before.before.loop.invariant c.before.before.outline-at.ensures s.offset (block_with s.size s.hash.now) c.enum_told.given.1
 
 returns-2 : tie.Need-returns-2 invariant-loop decreases-loop
-returns-2 c = let s = c.before.before.before.before.before.before.before.before.before.before.before.before.before.args in look_found c.before.before.before.before.before.before.before.before.before.loop.invariant c.before.before.before.before.before.before.before.before.outline-at.ensures c.before.before.before.before.before.before.f.given.1 c.before.before.before.before.part.ensures c.before.before.before.compare-bytes.ensures c.before.before.is_equal_lem.ensures s.offset (block_with s.size s.hash.now) c.before.if1.true c.lists_at.ensures
+returns-2 c = let s = c.before.before.before.before.before.before.before.before.before.before.before.before.before.args in look_found c.before.before.before.before.before.before.before.before.before.loop.invariant c.before.before.before.before.before.before.before.before.outline-at.ensures c.before.before.before.before.before.before.f.given.1 c.before.before.before.before.part.ensures c.before.before.before.compare-bytes.ensures c.before.before.is_equal.ensures s.offset (block_with s.size s.hash.now) c.before.if1.true c.lists_at.ensures
 
 loop-less : tie.Need-loop-smaller invariant-loop decreases-loop
 loop-less c = look_less c.before.before.before.before.before.before.before.before.loop.invariant c.before.before.before.before.before.before.before.outline-at.ensures c.before.before.before.before.before.f.given.1
 
 loop-again : tie.Need-loop-preserved invariant-loop decreases-loop
-loop-again c = look_on c.before.before.before.before.before.before.before.before.loop.invariant c.before.before.before.before.before.before.before.outline-at.ensures c.before.before.before.before.before.f.given.1 c.before.before.before.part.ensures c.before.before.compare-bytes.ensures c.before.is_equal_lem.ensures c.if1.false
+loop-again c = look_on c.before.before.before.before.before.before.before.before.loop.invariant c.before.before.before.before.before.before.before.outline-at.ensures c.before.before.before.before.before.f.given.1 c.before.before.before.part.ensures c.before.before.compare-bytes.ensures c.before.is_equal.ensures c.if1.false
 
 pub lists_spec : {M : Type 1} → statement M
 lists_spec =

@@ -16,7 +16,7 @@ asked : (c : tie.After-known-told2)
 asked c =
     let s = c.before.before.before.before.before.before.before.before.before.before.before.args in
     table_good s.table.now s.repository.now s.message.now s.out.now (sym c.before.before.before.before.before.before.is-good.ensures ∙ not-false _ c.before.before.before.before.before.if1.false)
-    c.before.before.before.before.read.ensures c.before.before.before.request_in_lem.ensures c.before.id.given.1
+    c.before.before.before.before.read.ensures c.before.before.before.request_in.ensures c.before.id.given.1
 
 returns : tie.Need-returns
 returns c =
@@ -40,7 +40,7 @@ returns-3 c =
     let s = c.before.before.before.before.before.before.before.before.before.before.before.args in
     ruled s.table.now s.repository.now s.message.now s.out.now
     (table_good s.table.now s.repository.now s.message.now s.out.now (sym c.before.before.before.before.before.before.is-good.ensures ∙ not-false _ c.before.before.before.before.before.if1.false)
-    c.before.before.before.before.read.ensures c.before.before.before.request_in_lem.ensures c.before.r.given.1)
+    c.before.before.before.before.read.ensures c.before.before.before.request_in.ensures c.before.r.given.1)
     (filled_in (fills_refused s.out.now refl refl))
 
 returns-4 : tie.Need-returns-4

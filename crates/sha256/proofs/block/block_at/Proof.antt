@@ -4,23 +4,23 @@ use Rattle.sha256.proofs.WordLaws.{block_words, both}
 use Rattle.sha256.proofs.block.block_at.Statement.{statement}
 use Rattle.sha256.proofs.block.block_at.Tie as tie
 
-add-word-at-13 : tie.Need-overflow-add-word-at-13
-add-word-at-13 c = omega (arith, c.before.before.before.before.before.before.before.before.before.before.before.before.before.before.requires)
+overflow_add-at-13 : tie.Need-overflow_add-at-13
+overflow_add-at-13 c = omega (arith, c.before.before.before.before.before.before.before.before.before.before.before.before.before.before.requires)
 
-word-at-requires-14 : tie.Need-word-at-requires-14
-word-at-requires-14 c κs = omega (arith, c.before.before.before.before.before.before.before.before.before.before.before.before.before.before.requires)
+word_at-requires-14 : tie.Need-word_at-requires-14
+word_at-requires-14 c κs = omega (arith, c.before.before.before.before.before.before.before.before.before.before.before.before.before.before.requires)
 
-add-word-at-14 : tie.Need-overflow-add-word-at-14
-add-word-at-14 c = omega (arith, c.before.before.before.before.before.before.before.before.before.before.before.before.before.before.before.requires)
+overflow_add-at-14 : tie.Need-overflow_add-at-14
+overflow_add-at-14 c = omega (arith, c.before.before.before.before.before.before.before.before.before.before.before.before.before.before.before.requires)
 
-word-at-requires-15 : tie.Need-word-at-requires-15
-word-at-requires-15 c κs = omega (arith, c.before.before.before.before.before.before.before.before.before.before.before.before.before.before.before.requires)
+word_at-requires-15 : tie.Need-word_at-requires-15
+word_at-requires-15 c κs = omega (arith, c.before.before.before.before.before.before.before.before.before.before.before.before.before.before.before.requires)
 
-add-word-at-15 : tie.Need-overflow-add-word-at-15
-add-word-at-15 c = omega (arith, c.before.before.before.before.before.before.before.before.before.before.before.before.before.before.before.before.requires)
+overflow_add-at-15 : tie.Need-overflow_add-at-15
+overflow_add-at-15 c = omega (arith, c.before.before.before.before.before.before.before.before.before.before.before.before.before.before.before.before.requires)
 
-word-at-requires-16 : tie.Need-word-at-requires-16
-word-at-requires-16 c κs = omega (arith, c.before.before.before.before.before.before.before.before.before.before.before.before.before.before.before.before.requires)
+word_at-requires-16 : tie.Need-word_at-requires-16
+word_at-requires-16 c κs = omega (arith, c.before.before.before.before.before.before.before.before.before.before.before.before.before.before.before.before.requires)
 
 returns : tie.Need-returns
 returns c =
@@ -41,21 +41,21 @@ returns c =
     let c1 = c2.before in
     let start = c1.before.before in
     (both c1.word_at.ensures
-    (both c2.word-at2.ensures
-    (both c3.word-at3.ensures
-    (both c4.word-at4.ensures
-    (both c5.word-at5.ensures
-    (both c6.word-at6.ensures
-    (both c7.word-at7.ensures
-    (both c8.word-at8.ensures
-    (both c9.word-at9.ensures
-    (both c10.word-at10.ensures
-    (both c11.word-at11.ensures
-    (both c12.word-at12.ensures
-    (both c13.word-at13.ensures
-    (both c14.word-at14.ensures
-    (both c15.word-at15.ensures
-    (both c.word-at16.ensures
+    (both c2.word_at-2.ensures
+    (both c3.word_at-3.ensures
+    (both c4.word_at-4.ensures
+    (both c5.word_at-5.ensures
+    (both c6.word_at-6.ensures
+    (both c7.word_at-7.ensures
+    (both c8.word_at-8.ensures
+    (both c9.word_at-9.ensures
+    (both c10.word_at-10.ensures
+    (both c11.word_at-11.ensures
+    (both c12.word_at-12.ensures
+    (both c13.word_at-13.ensures
+    (both c14.word_at-14.ensures
+    (both c15.word_at-15.ensures
+    (both c.word_at-16.ensures
     refl))))))))))))))))
     ∙ sym (block_words start.args.s.now start.args.at)
 
@@ -88,10 +88,10 @@ block_at_spec =
     (λ c κs. search rules)
     (λ c. search rules)
     (λ c κs. search rules)
-    add-word-at-13
-    word-at-requires-14
-    add-word-at-14
-    word-at-requires-15
-    add-word-at-15
-    word-at-requires-16
+    overflow_add-at-13
+    word_at-requires-14
+    overflow_add-at-14
+    word_at-requires-15
+    overflow_add-at-15
+    word_at-requires-16
     returns)

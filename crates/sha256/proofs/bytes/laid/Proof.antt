@@ -4,18 +4,18 @@ use lib.Seq.{paste, paste-zero, paste-suc}
 use Rattle.sha256.proofs.bytes.laid.Statement.{statement}
 use Rattle.sha256.proofs.bytes.laid.Tie as tie
 
-abbrev invariant-loop : tie.invariant-loop
+abbrev invariant-loop : tie.invariant-loop-i
 invariant-loop at s out₀ i₀ out i = (i ≤ length s) × (out ≡ paste out₀ at s i)
 
-abbrev decreases-loop : tie.decreases-loop
+abbrev decreases-loop : tie.decreases-loop-i
 decreases-loop at s out₀ i₀ out i = length s - i
 
-loop-holds : tie.Need-loop-init invariant-loop decreases-loop
+loop-holds : tie.Need-loop-i-init invariant-loop decreases-loop
 loop-holds c = (omega arith, paste-zero c.args.block c.args.at c.args.s.now)
 
-loop-again : tie.Need-loop-preserved invariant-loop decreases-loop
+loop-again : tie.Need-loop-i-preserved invariant-loop decreases-loop
 loop-again c =
-    let l = c.before.before.loop in
+    let l = c.before.before.loop-i in
     let a = c.before.before.before.args in
     let s = a.s.now in
     let long : length a.block ≡ 64 = search rules in
@@ -28,7 +28,7 @@ loop-again c =
 
 returns : tie.Need-returns invariant-loop decreases-loop
 returns c =
-    let l = c.before.loop in
+    let l = c.before.loop-i in
     let a = c.before.before.args in
     let e : l.i ≡ length a.s.now = omega arith in
     l.invariant.1 ∙ ap (paste a.block a.at a.s.now) e

@@ -5,24 +5,24 @@ use Rattle.sha256.proofs.ByteLaws.{all_bytes, in_words, word_put, state_bytes_le
 use Rattle.sha256.proofs.bytes.state_bytes.Statement.{statement}
 use Rattle.sha256.proofs.bytes.state_bytes.Tie as tie
 
-abbrev invariant-loop : tie.invariant-loop
+abbrev invariant-loop : tie.invariant-loop-i
 invariant-loop words out₀ i₀ out i = (i ≤ 8) × (out ≡ all_bytes (take i words) ++ blank (32 - 4 * i))
 
-abbrev decreases-loop : tie.decreases-loop
+abbrev decreases-loop : tie.decreases-loop-i
 decreases-loop words out₀ i₀ out i = 8 - i
 
-loop-holds : tie.Need-loop-init invariant-loop decreases-loop
+loop-holds : tie.Need-loop-i-init invariant-loop decreases-loop
 loop-holds c = (omega arith, refl)
 
-loop-again : tie.Need-loop-preserved invariant-loop decreases-loop
+loop-again : tie.Need-loop-i-preserved invariant-loop decreases-loop
 loop-again c =
-    let l = c.before.loop in
+    let l = c.before.loop-i in
     let n : l.i < 8 = omega arith in
     (omega arith, word_put (in_words c.before.before.args.s) l.out l.i n refl l.invariant.1)
 
 returns : tie.Need-returns invariant-loop decreases-loop
 returns c =
-    let l = c.before.loop in
+    let l = c.before.loop-i in
     let s = c.before.before.args.s in
     let e : l.i ≡ 8 = omega arith in
     l.invariant.1 ∙ ap (λ (n : ℕ). all_bytes (take n (in_words s)) ++ blank (32 - 4 * n)) e

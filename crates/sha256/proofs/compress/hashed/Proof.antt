@@ -4,9 +4,9 @@ use Rattle.sha256.specs.Constants.{K}
 use Rattle.sha256.proofs.compress.hashed.Statement.{statement}
 use Rattle.sha256.proofs.compress.hashed.Tie as tie
 
-hash-blocks-requires : tie.Need-hash-blocks-requires
+hash_blocks-requires : tie.Need-hash_blocks-requires
 unfolding K
-hash-blocks-requires c κs = refl
+hash_blocks-requires c κs = refl
 
 pub hashed_spec : {M : Type 1} → statement M
-hashed_spec = tie.close (tie.spec hash-blocks-requires (λ c. search rules))
+hashed_spec = tie.close (tie.spec hash_blocks-requires (λ c. search rules))

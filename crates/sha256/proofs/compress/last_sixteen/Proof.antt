@@ -24,22 +24,22 @@ returns c =
     let start = c1.before.before in
     rw (last_items start.args.k.now start.requires)
     (rounded
-    (one_round c1.round.ensures
-    (one_round c2.round2.ensures
-    (one_round c3.round3.ensures
-    (one_round c4.round4.ensures
-    (one_round c5.round5.ensures
-    (one_round c6.round6.ensures
-    (one_round c7.round7.ensures
-    (one_round c8.round8.ensures
-    (one_round c9.round9.ensures
-    (one_round c10.round10.ensures
-    (one_round c11.round11.ensures
-    (one_round c12.round12.ensures
-    (one_round c13.round13.ensures
-    (one_round c14.round14.ensures
-    (one_round c15.round15.ensures
-    (one_round c.round16.ensures
+    (one_round c1.round-s.ensures
+    (one_round c2.round-s-2.ensures
+    (one_round c3.round-s-3.ensures
+    (one_round c4.round-s-4.ensures
+    (one_round c5.round-s-5.ensures
+    (one_round c6.round-s-6.ensures
+    (one_round c7.round-s-7.ensures
+    (one_round c8.round-s-8.ensures
+    (one_round c9.round-s-9.ensures
+    (one_round c10.round-s-10.ensures
+    (one_round c11.round-s-11.ensures
+    (one_round c12.round-s-12.ensures
+    (one_round c13.round-s-13.ensures
+    (one_round c14.round-s-14.ensures
+    (one_round c15.round-s-15.ensures
+    (one_round c.round-s-16.ensures
     no_round)))))))))))))))))
 
 pub last_sixteen_spec : {M : Type 1} → statement M

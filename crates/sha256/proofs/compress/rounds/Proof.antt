@@ -8,30 +8,30 @@ use Rattle.sha256.proofs.RoundLaws.{row_turn, row_end}
 use Rattle.sha256.proofs.compress.rounds.Statement.{statement}
 use Rattle.sha256.proofs.compress.rounds.Tie as tie
 
-abbrev invariant-loop : tie.invariant-loop
+abbrev invariant-loop : tie.invariant-loop-row
 invariant-loop k state₀ block₀ row₀ state block row =
     (row ≤ 3)
     × (fips.rounds K (schedule (words_in block₀)) state₀ ≡ fips.rounds (drop (row * 16) K) (extended ((3 - row) * 16) (words_in block)) state)
 
-abbrev decreases-loop : tie.decreases-loop
+abbrev decreases-loop : tie.decreases-loop-row
 decreases-loop k state₀ block₀ row₀ state block row = 3 - row
 
-loop-holds : tie.Need-loop-init invariant-loop decreases-loop
+loop-holds : tie.Need-loop-row-init invariant-loop decreases-loop
 loop-holds c = (omega arith, refl)
 
-loop-again : tie.Need-loop-preserved invariant-loop decreases-loop
+loop-again : tie.Need-loop-row-preserved invariant-loop decreases-loop
 loop-again c =
     let l = c.before.before.before.before.before.loop in
     let e = c.before.before.before.first-eight in
-    let f = c.before.before.second-eight in
+    let f = c.before.before.second_eight-step in
     let n : l.row < 3 = omega arith in
     (omega arith, l.invariant.1 ∙ row_turn l.block e.result.block f.result.block l.state e.result.state f.result.state l.row n e.ensures f.ensures)
 
 returns : tie.Need-returns invariant-loop decreases-loop
 returns c =
-    let l = c.before.before.loop in
+    let l = c.before.before.loop-row in
     let n : l.row ≡ 3 = omega arith in
-    c.last-sixteen.ensures ∙ sym (l.invariant.1 ∙ row_end l.row (words_in l.block) l.state n)
+    c.last_sixteen.ensures ∙ sym (l.invariant.1 ∙ row_end l.row (words_in l.block) l.state n)
 
 pub rounds_spec : {M : Type 1} → statement M
 rounds_spec =

@@ -18,24 +18,24 @@ returns c =
     record {
       state = rw (row_items a.k.now start.requires (a.row % 4 * 16) 8 8 (omega arith))
           (rounded
-          (one_round c1.before.round.ensures
-          (one_round c2.before.round2.ensures
-          (one_round c3.before.round3.ensures
-          (one_round c4.before.round4.ensures
-          (one_round c5.before.round5.ensures
-          (one_round c6.before.round6.ensures
-          (one_round c7.before.round7.ensures
-          (one_round c.before.round8.ensures
+          (one_round c1.before.round-s.ensures
+          (one_round c2.before.round-s-2.ensures
+          (one_round c3.before.round-s-3.ensures
+          (one_round c4.before.round-s-4.ensures
+          (one_round c5.before.round-s-5.ensures
+          (one_round c6.before.round-s-6.ensures
+          (one_round c7.before.round-s-7.ensures
+          (one_round c.before.round-s-8.ensures
           no_round)))))))));
       words = made
           (one_word c1.next_word.ensures
-          (one_word c2.next-word2.ensures
-          (one_word c3.next-word3.ensures
-          (one_word c4.next-word4.ensures
-          (one_word c5.next-word5.ensures
-          (one_word c6.next-word6.ensures
-          (one_word c7.next-word7.ensures
-          (one_word c.next-word8.ensures
+          (one_word c2.next_word-2.ensures
+          (one_word c3.next_word-3.ensures
+          (one_word c4.next_word-4.ensures
+          (one_word c5.next_word-5.ensures
+          (one_word c6.next_word-6.ensures
+          (one_word c7.next_word-7.ensures
+          (one_word c.next_word-8.ensures
           no_word))))))));
       kept = refl;
     }

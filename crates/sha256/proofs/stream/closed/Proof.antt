@@ -4,25 +4,25 @@ use Rattle.sha256.proofs.FinishLaws.{closed_short, closed_long}
 use Rattle.sha256.proofs.stream.closed.Statement.{statement}
 use Rattle.sha256.proofs.stream.closed.Tie as tie
 
-returns : tie.Need-returns
-returns c =
+returns-then-held-lt56 : tie.Need-returns-then-held-lt56
+returns-then-held-lt56 c =
     let start = c.before.before.before.before.before.before.before.before in
     let a = start.args in
-    let bits = c.before.before.before.before.before.before.eight_bytes in
-    let block = c.before.before.before.before.before.laid in
-    let full = c.before.before.laid2 in
+    let bits = c.before.before.before.before.before.before.eight_bytes-bits in
+    let block = c.before.before.before.before.before.laid-block in
+    let full = c.before.before.laid-full in
     closed_short a.rest.now a.state a.size _ refl start.requires (omega arith) block.result bits.result full.result c.hashed.result
     block.ensures bits.ensures full.ensures c.hashed.ensures
 
-returns-2 : tie.Need-returns-2
-returns-2 c =
+returns : tie.Need-returns
+returns c =
     let start = c.before.before.before.before.before.before.before.before.before.before in
     let a = start.args in
-    let bits = c.before.before.before.before.before.before.before.before.eight_bytes in
-    let block = c.before.before.before.before.before.before.before.laid in
-    let last = c.before.before.laid3 in
-    closed_long a.rest.now a.state a.size _ refl start.requires (omega arith) block.result bits.result last.result c.before.before.before.before.hashed2.result c.hashed3.result
-    block.ensures bits.ensures c.before.before.before.before.hashed2.ensures last.ensures c.hashed3.ensures
+    let bits = c.before.before.before.before.before.before.before.before.eight_bytes-bits in
+    let block = c.before.before.before.before.before.before.before.laid-block in
+    let last = c.before.before.laid-last in
+    closed_long a.rest.now a.state a.size _ refl start.requires (omega arith) block.result bits.result last.result c.before.before.before.before.hashed-first.result c.hashed-2.result
+    block.ensures bits.ensures c.before.before.before.before.hashed-first.ensures last.ensures c.hashed-2.ensures
 
 pub closed_spec : {M : Type 1} → statement M
 closed_spec =
@@ -35,11 +35,11 @@ closed_spec =
     (λ c κs. search rules)
     (λ c. search rules)
     (λ c κs. search rules)
-    returns
+    returns-then-held-lt56
     (λ c. search rules)
     (λ c κs. search rules)
     (λ c. search rules)
     (λ c κs. search rules)
     (λ c. search rules)
     (λ c κs. search rules)
-    returns-2)
+    returns)

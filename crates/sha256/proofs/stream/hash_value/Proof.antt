@@ -11,7 +11,7 @@ returns : tie.Need-returns
 unfolding hash_value
 returns c =
     let s = c.before.before.before.before.before.args.message.now in
-    let h = c.before.before.hashed in
+    let h = c.before.before.hashed-state in
     let i = c.before.before.before.initial in
     c.closed.ensures
     ∙ ap (λ x. hash_all h.result (x ++ padding (length s))) (to_end s (length s / 64 * 64))

@@ -37,7 +37,7 @@ parts-compared c = record { is = c.compare-long.ensures ∙ rw (c.before.before.
 module _ {xs ys : List ℕ} {r : Order} where
   past-modified : (c : tie.Else1) → let a = c.before.before.before.before.before.args in
       Compared xs ys r → Compared (raised a.f.modified ∷ xs) (raised a.g.modified ∷ ys) r
-  past-modified c k = passes c.before.before.compare-modified.ensures (sym c.before.is_equal_lem.ensures ∙ not-false _ c.if1.false) k
+  past-modified c k = passes c.before.before.compare-modified.ensures (sym c.before.is_equal.ensures ∙ not-false _ c.if1.false) k
 
   past-version : (c : tie.Else2) → let a = c.before.before.before.before.before.before.before.before.before.before.args in
       Compared xs ys r → Compared (a.f.version ∷ xs) (a.g.version ∷ ys) r
@@ -55,7 +55,7 @@ returns : tie.Need-returns
 returns c =
     let a = c.before.before.before.before.before.args in
     compared_at a.s.now a.f a.t.now a.g
-    (decides c.before.before.compare-modified.ensures (sym c.before.is_equal_lem.ensures ∙ not-true _ c.if1.true))
+    (decides c.before.before.compare-modified.ensures (sym c.before.is_equal.ensures ∙ not-true _ c.if1.true))
 
 returns-2 : tie.Need-returns-2
 returns-2 c =

@@ -27,12 +27,12 @@ five c =
     five_good s.local.now s.peer1.now s.peer2.now s.peer3.now s.peer4.now
     (λ i. (c.before.before.before.before.before.before.shared-slice-known.given i).fits) (λ i. (c.before.before.before.before.before.shared-slice-known2.given i).fits) (λ i. (c.before.before.before.before.shared-slice-known3.given i).fits)
     (λ i. (c.before.before.before.shared-slice-known4.given i).fits) (λ i. (c.before.before.shared-slice-known5.given i).fits)
-    c.before.all_good_lem.ensures (not-false _ c.if1.false)
+    c.before.all_good.ensures (not-false _ c.if1.false)
 
 returns : tie.Need-returns
 returns c =
     let s = c.before.before.before.before.before.before.before.before in
-    ap D.Refused c.at_start_lem.ensures ∙ details_bad s.args.local.now (peers s) s.args.file s.args.block c.before.before.all_good_lem.ensures (not-true _ c.before.if1.true)
+    ap D.Refused c.at_start.ensures ∙ details_bad s.args.local.now (peers s) s.args.file s.args.block c.before.before.all_good.ensures (not-true _ c.before.if1.true)
 
 numbered-requires : tie.Need-numbered-requires
 numbered-requires c κs = five c
@@ -41,7 +41,7 @@ returns-2 : tie.Need-returns-2
 returns-2 c =
     let g = c.before.before.before in
     let s = start g in
-    details_none s.args.local.now (peers s) s.args.file s.args.block g.before.all_good_lem.ensures (not-false _ g.if1.false) c.before.before.numbered.ensures c.enum_told.given.1
+    details_none s.args.local.now (peers s) s.args.file s.args.block g.before.all_good.ensures (not-false _ g.if1.false) c.before.before.numbered.ensures c.enum_told.given.1
 
 mul-by-fields : tie.Need-overflow-mul-by-fields
 mul-by-fields c = omega (arith, c.before.before.before.numbered.ensures.small)
@@ -55,7 +55,7 @@ returns-3 c =
     let s = start g in
     let a = s.args in
     let n = c.before.before.before.before.before.numbered in
-    details_found a.local.now (peers s) a.file a.block g.before.all_good_lem.ensures (not-false _ g.if1.false) n.ensures c.before.before.before.fields.given.1
+    details_found a.local.now (peers s) a.file a.block g.before.all_good.ensures (not-false _ g.if1.false) n.ensures c.before.before.before.fields.given.1
     (element (λ x. x.now) (a.local ∷ a.peer1 ∷ a.peer2 ∷ a.peer3 ∷ a.peer4 ∷ []) n.result.best _ refl) c.by_fields.ensures
 
 pub details_of_spec : {M : Type 1} → statement M

@@ -25,7 +25,7 @@ returns-3 c =
     let k = c.before.before.before.before.before.before in
     let s = k.before.before.before.before in
     told_same s.requires.0 s.requires.1 (k.before.is-alike.ensures (not-false _ k.if1.false))
-    c.before.before.before.between.ensures c.before.before.between2.ensures c.before.compare-long.ensures c.is_equal_lem.ensures
+    c.before.before.before.between.ensures c.before.before.between2.ensures c.before.compare-long.ensures c.is_equal.ensures
 
 pub is_same_spec : {M : Type 1} → statement M
 is_same_spec =

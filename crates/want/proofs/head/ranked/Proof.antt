@@ -20,7 +20,7 @@ abbrev start : tie.After-compare-names → tie.Start
 start c = c.before.before.before.before.before
 
 compared : (c : tie.After-compare-names) → let s = (start c).args in c.compare-names.result ≡ compare_lists (name_at s.a.now s.f) (name_at s.b.now (fields_at s.b.now s.at))
-compared c = names_by c.before.before.between.ensures c.before.name_at_lem.ensures c.compare-names.ensures
+compared c = names_by c.before.before.between.ensures c.before.name_at.ensures c.compare-names.ensures
 
 fields-at-requires : tie.Need-fields-at-requires
 fields-at-requires c κs = (within (start c.before.before).requires.1).inside

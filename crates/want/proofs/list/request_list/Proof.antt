@@ -32,13 +32,13 @@ start c = c.before.before.before.before.before.before.before.before
 five : (c : tie.Else1) → Five (tables (start c))
 five c =
     let s = (start c).args in
-    five_good s.local.now s.peer1.now s.peer2.now s.peer3.now s.peer4.now (λ i. (c.before.before.before.before.before.before.before.shared-slice-known.given i).fits) (λ i. (c.before.before.before.before.before.before.shared-slice-known2.given i).fits) (λ i. (c.before.before.before.before.before.shared-slice-known3.given i).fits) (λ i. (c.before.before.before.before.shared-slice-known4.given i).fits) (λ i. (c.before.before.before.shared-slice-known5.given i).fits) c.before.all_good_lem.ensures (not-false _ c.if1.false)
+    five_good s.local.now s.peer1.now s.peer2.now s.peer3.now s.peer4.now (λ i. (c.before.before.before.before.before.before.before.shared-slice-known.given i).fits) (λ i. (c.before.before.before.before.before.before.shared-slice-known2.given i).fits) (λ i. (c.before.before.before.before.before.shared-slice-known3.given i).fits) (λ i. (c.before.before.before.before.shared-slice-known4.given i).fits) (λ i. (c.before.before.before.shared-slice-known5.given i).fits) c.before.all_good.ensures (not-false _ c.if1.false)
 
 good : (c : tie.Else1) → request_outcome (start c).args.local.now (peers (start c)) ≡ gives (list_bytes (list_of (tables (start c))))
-good c = request_good (start c).args.local.now (peers (start c)) c.before.all_good_lem.ensures (not-false _ c.if1.false)
+good c = request_good (start c).args.local.now (peers (start c)) c.before.all_good.ensures (not-false _ c.if1.false)
 
 returns : tie.Need-returns
-returns c = let s = c.before.before.before.before.before.before.before.before.before in fills_refused s.args.out.now (request_bad s.args.local.now (peers s) c.before.before.all_good_lem.ensures (not-true _ c.before.if1.true)) c.refused.ensures
+returns c = let s = c.before.before.before.before.before.before.before.before.before in fills_refused s.args.out.now (request_bad s.args.local.now (peers s) c.before.before.all_good.ensures (not-true _ c.before.if1.true)) c.refused.ensures
 
 seek-requires : tie.Need-seek-requires
 seek-requires c κs = five c

@@ -37,7 +37,7 @@ returns-3 c =
     let k = c.before.before.before in
     let s = k.before.before.before.before.args in
     names_compared s.a.now s.b.now (whole_there s.b.now s.j (other-stood k.before)) (whole_there s.a.now s.i (stood k))
-    (names_by c.before.before.name_at_lem.ensures c.before.name-at2.ensures c.compare-bytes.ensures)
+    (names_by c.before.before.name_at.ensures c.before.name-at2.ensures c.compare-bytes.ensures)
 
 pub compare_at_spec : {M : Type 1} → statement M
 compare_at_spec =

@@ -18,7 +18,7 @@ at-start-requires-2 : tie.Need-at-start-requires-2
 at-start-requires-2 c κs = search rules
 
 returns : tie.Need-returns
-returns c = c.at_start_lem.ensures ∙ ap refusal_of (sym c.before.enum_told.given.1)
+returns c = c.at_start.ensures ∙ ap refusal_of (sym c.before.enum_told.given.1)
 
 returns-2 : tie.Need-returns-2
 returns-2 c = c.at-start2.ensures ∙ ap refusal_of (sym c.before.before.self.given.1)

@@ -18,7 +18,7 @@ at-start-requires : tie.Need-at-start-requires
 at-start-requires c κs = search rules
 
 returns : tie.Need-returns
-returns c = open_refused c.before.before.before.before.args.t1 (sym c.before.before.before.all_fit.ensures ∙ not-true _ c.before.before.if1.true) c.before.empty.ensures c.at_start_lem.ensures
+returns c = open_refused c.before.before.before.before.args.t1 (sym c.before.before.before.all_fit.ensures ∙ not-true _ c.before.before.if1.true) c.before.empty.ensures c.at_start.ensures
 
 array-copy-out-a : tie.Need-array-copy-out-a
 array-copy-out-a c = search rules

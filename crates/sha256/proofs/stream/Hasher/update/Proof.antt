@@ -9,36 +9,36 @@ use Rattle.sha256.proofs.stream.Hasher.update.Tie as tie
 long : (c : tie.Start) → length c.args.self.tail ≡ 64
 long c = search rules
 
-array-share-prefix-tail : tie.Need-array-share-prefix-tail
-array-share-prefix-tail c = held_within c.before.before.before.before.before.before.args.self _ (long c.before.before.before.before.before.before) c.before.before.before.before.place.ensures
+slice_bounds-tail-end : tie.Need-slice_bounds-tail-end
+slice_bounds-tail-end c = held_within c.before.before.before.before.before.before.args.self _ (long c.before.before.before.before.before.before) c.before.before.before.before.place-held.ensures
 
-slice-aggregate-laid : tie.Need-slice-aggregate-laid
-slice-aggregate-laid c = sym (held_long c.before.before.before.before.before.before.before.args.self _ (long c.before.before.before.before.before.before.before) c.before.before.before.before.before.place.ensures)
+slice_bounds-laid-end : tie.Need-slice_bounds-laid-end
+slice_bounds-laid-end c = sym (held_long c.before.before.before.before.before.before.before.args.self _ (long c.before.before.before.before.before.before.before) c.before.before.before.before.before.place-held.ensures)
 
-laid-requires : tie.Need-laid-requires
-laid-requires c κs = omega (arith, held_long c.before.before.before.before.before.before.before.args.self _ (long c.before.before.before.before.before.before.before) c.before.before.before.before.before.place.ensures)
+laid-before-requires : tie.Need-laid-before-requires
+laid-before-requires c κs = omega (arith, held_long c.before.before.before.before.before.before.before.args.self _ (long c.before.before.before.before.before.before.before) c.before.before.before.before.before.place-held.ensures)
+
+returns-then-s-room : tie.Need-returns-then-s-room
+unfolding continued
+returns-then-s-room c =
+    let start = c.before.before.before.before.before.before.before.before.before in
+    let h = start.args.self in
+    let s = start.args.s.now in
+    let at = c.before.before.before.before.before.before.before.place-held in
+    updated_short (take at.result h.tail) s h.state (h.size + length s) c.before.before.before.before.before.before.wrapping_add_u64-size.result at.result
+    (held_long h at.result (long start) at.ensures) (omega arith) c.before.before.before.before.before.before.wrapping_add_u64-size.ensures
+    c.before.laid-before.result c.laid-longer.result (omega arith) c.before.laid-before.ensures c.laid-longer.ensures
+    ∙ ap (λ (l : List ℕ). kept h.state (l ++ s) (h.size + length s)) (held_pending h at.result (long start) at.ensures)
+
+slice_bounds-laid-end-2 : tie.Need-slice_bounds-laid-end-2
+slice_bounds-laid-end-2 c = sym (length-take-le (64 - c.before.before.before.before.before.place.result) c.before.before.before.before.before.before.before.args.s.now (omega arith))
+
+laid-block-requires : tie.Need-laid-block-requires
+laid-block-requires c κs = omega (arith, length-take-le (64 - c.before.before.before.before.before.place.result) c.before.before.before.before.before.before.before.args.s.now (omega arith))
 
 returns : tie.Need-returns
 unfolding continued
 returns c =
-    let start = c.before.before.before.before.before.before.before.before.before in
-    let h = start.args.self in
-    let s = start.args.s.now in
-    let at = c.before.before.before.before.before.before.before.place in
-    updated_short (take at.result h.tail) s h.state (h.size + length s) c.before.before.before.before.before.before.wrapping-add-u64.result at.result
-    (held_long h at.result (long start) at.ensures) (omega arith) c.before.before.before.before.before.before.wrapping-add-u64.ensures
-    c.before.laid.result c.laid2.result (omega arith) c.before.laid.ensures c.laid2.ensures
-    ∙ ap (λ (l : List ℕ). kept h.state (l ++ s) (h.size + length s)) (held_pending h at.result (long start) at.ensures)
-
-slice-aggregate-laid-2 : tie.Need-slice-aggregate-laid-2
-slice-aggregate-laid-2 c = sym (length-take-le (64 - c.before.before.before.before.before.place.result) c.before.before.before.before.before.before.before.args.s.now (omega arith))
-
-laid-requires-3 : tie.Need-laid-requires-3
-laid-requires-3 c κs = omega (arith, length-take-le (64 - c.before.before.before.before.before.place.result) c.before.before.before.before.before.before.before.args.s.now (omega arith))
-
-returns-2 : tie.Need-returns-2
-unfolding continued
-returns-2 c =
     let start = c.before.before.before.before.before.before.before.before.before.before.before.before.before.before in
     let h = start.args.self in
     let s = start.args.s.now in
@@ -47,8 +47,8 @@ returns-2 c =
     let past = room + (length s - room) / 64 * 64 in
     updated_long (take at.result h.tail) s h.state (h.size + length s) c.before.before.before.before.before.before.before.before.before.before.before.wrapping-add-u64.result at.result
     (held_long h at.result (long start) at.ensures) (omega arith) c.before.before.before.before.before.before.before.before.before.before.before.wrapping-add-u64.ensures
-    h.tail (long start) refl (omega arith) c.before.before.before.before.before.before.laid3.result (take (length s - room) (drop room s)) (take (length s - past) (drop past s)) c.laid4.result c.before.before.before.before.hashed.result c.before.before.hashed2.result
-    c.before.before.before.before.before.before.laid3.ensures c.before.before.before.before.hashed.ensures (to_end s room) c.before.before.hashed2.ensures (to_end s past) c.laid4.ensures
+    h.tail (long start) refl (omega arith) c.before.before.before.before.before.before.laid-block.result (take (length s - room) (drop room s)) (take (length s - past) (drop past s)) c.laid-left.result c.before.before.before.before.hashed-first.result c.before.before.hashed-last.result
+    c.before.before.before.before.before.before.laid-block.ensures c.before.before.before.before.hashed-first.ensures (to_end s room) c.before.before.hashed-last.ensures (to_end s past) c.laid-left.ensures
     ∙ ap (λ (l : List ℕ). kept h.state (l ++ s) (h.size + length s)) (held_pending h at.result (long start) at.ensures)
 
 pub update_spec : {M : Type 1} → statement M
@@ -58,24 +58,24 @@ update_spec =
     (λ c κs. search rules)
     (λ c. search rules)
     (λ c κs. search rules)
-    array-share-prefix-tail
-    slice-aggregate-laid
-    laid-requires
+    slice_bounds-tail-end
+    slice_bounds-laid-end
+    laid-before-requires
     (λ c κs. search rules)
-    returns
-    slice-aggregate-laid-2
-    laid-requires-3
-    (λ c. search rules)
-    (λ c κs. search rules)
-    (λ c. search rules)
-    (λ c. search rules)
-    (λ c. search rules)
-    (λ c. search rules)
+    returns-then-s-room
+    slice_bounds-laid-end-2
+    laid-block-requires
     (λ c. search rules)
     (λ c κs. search rules)
     (λ c. search rules)
     (λ c. search rules)
     (λ c. search rules)
     (λ c. search rules)
+    (λ c. search rules)
     (λ c κs. search rules)
-    returns-2)
+    (λ c. search rules)
+    (λ c. search rules)
+    (λ c. search rules)
+    (λ c. search rules)
+    (λ c κs. search rules)
+    returns)

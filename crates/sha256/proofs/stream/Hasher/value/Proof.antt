@@ -9,28 +9,28 @@ use Rattle.sha256.proofs.stream.Hasher.value.Tie as tie
 long : (c : tie.Start) → length c.args.self.tail ≡ 64
 long c = search rules
 
-array-share-prefix-tail : tie.Need-array-share-prefix-tail
-array-share-prefix-tail c = held_within c.before.before.before.args.self _ (long c.before.before.before) c.before.before.place.ensures
+slice_bounds-tail-end : tie.Need-slice_bounds-tail-end
+slice_bounds-tail-end c = held_within c.before.before.before.args.self _ (long c.before.before.before) c.before.before.place-held.ensures
 
-slice-aggregate-closed : tie.Need-slice-aggregate-closed
-slice-aggregate-closed c = sym (held_long c.before.before.before.before.args.self _ (long c.before.before.before.before) c.before.before.before.place.ensures)
+slice_bounds-closed-end : tie.Need-slice_bounds-closed-end
+slice_bounds-closed-end c = sym (held_long c.before.before.before.before.args.self _ (long c.before.before.before.before) c.before.before.before.place-held.ensures)
 
 closed-requires : tie.Need-closed-requires
-closed-requires c κs = held_long c.before.before.before.before.args.self _ (long c.before.before.before.before) c.before.before.before.place.ensures ∙ c.before.before.before.place.ensures
+closed-requires c κs = held_long c.before.before.before.before.args.self _ (long c.before.before.before.before) c.before.before.before.place-held.ensures ∙ c.before.before.before.place-held.ensures
 
 returns : tie.Need-returns
 unfolding ended
 returns c =
     let start = c.before.before.before.before.before in
     let h = start.args.self in
-    c.closed.ensures ∙ ap (λ (l : List ℕ). hash_all h.state (l ++ padding h.size)) (held_pending h _ (long start) c.before.before.before.before.place.ensures)
+    c.closed.ensures ∙ ap (λ (l : List ℕ). hash_all h.state (l ++ padding h.size)) (held_pending h _ (long start) c.before.before.before.before.place-held.ensures)
 
 pub value_spec : {M : Type 1} → statement M
 value_spec =
     tie.close
     (tie.spec
     (λ c κs. search rules)
-    array-share-prefix-tail
-    slice-aggregate-closed
+    slice_bounds-tail-end
+    slice_bounds-closed-end
     closed-requires
     returns)
