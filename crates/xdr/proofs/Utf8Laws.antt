@@ -24,7 +24,7 @@ digit q r h = (omega arith, omega arith)
 
 pub record Point (b : ℕ) (l : List ℕ) (n : ℕ) : Type 0 where
   pub point : ℕ
-  pub is_point_lem : is_point point ≡ true
+  pub is_a_point : is_point point ≡ true
   pub bytes_are : b ∷ l ≡ point_bytes point ++ drop n l
 
 low_point : (c : ℕ) → c ≤ 55295 → is_point c ≡ true
@@ -64,7 +64,7 @@ point_two b x l p q r s =
     let last : six_bits c ≡ x = omega (arith, d.1) in
     record {
       point = c;
-      is_point_lem = low_point c (omega arith);
+      is_a_point = low_point c (omega arith);
       bytes_are = ap (λ (m : List ℕ). m ++ l) (sym (bytes_two c (omega arith) (omega arith) ∙ same_two lead last));
     }
 
@@ -106,7 +106,7 @@ module _ (b x y : ℕ) (l : List ℕ) (p : 224 ≤ b) (q : b ≤ 239) (r : lowes
       let last : six_bits c3 ≡ y = omega (arith, d.1) in
       record {
         point = c3;
-        is_point_lem = point_three_is;
+        is_a_point = point_three_is;
         bytes_are = ap (λ (m : List ℕ). m ++ l) (sym (bytes_three c3 least_three most_three ∙ same_three lead middle last));
       }
 
@@ -146,7 +146,7 @@ module _ (b x y z : ℕ) (l : List ℕ) (p : 240 ≤ b) (q : b ≤ 244) (r : low
       let last : six_bits c4 ≡ z = omega (arith, d.1) in
       record {
         point = c4;
-        is_point_lem = high_point c4 (omega (arith, least_four)) most_four;
+        is_a_point = high_point c4 (omega (arith, least_four)) most_four;
         bytes_are = ap (λ (m : List ℕ). m ++ l) (sym (bytes_four c4 least_four ∙ same_four lead second third last));
       }
 
@@ -156,7 +156,7 @@ never : {P : Type 0} → false ≡ true → P
 never e = let z : ◌≡◌ {A = ℕ} 0 1 = cc in absurd (omega arith)
 
 by_one : (b : ℕ) (l : List ℕ) → b ≤ 127 → Point b l 0
-by_one b l h = record { point = b; is_point_lem = low_point b (omega arith); bytes_are = ap (λ (m : List ℕ). m ++ l) (sym (bytes_one b h)) }
+by_one b l h = record { point = b; is_a_point = low_point b (omega arith); bytes_are = ap (λ (m : List ℕ). m ++ l) (sym (bytes_one b h)) }
 
 by_two : (b : ℕ) (l : List ℕ) → Lead b 1 194 223 → followed_by 1 (lowest b) (highest b) l ≡ true → Point b l 1
 by_two b [] w e = never e
@@ -213,7 +213,7 @@ module _ (b : ℕ) (l : List ℕ) (at fuel : ℕ) (short : length l ≤ fuel) (s
         let p = first q in
         record {
           points = p.point ∷ w.points;
-          are = rw p.is_point w.are;
+          are = rw p.is_a_point w.are;
           is = p.bytes_are ∙ ap (λ (m : List ℕ). point_bytes p.point ++ m) w.is;
         }
 
