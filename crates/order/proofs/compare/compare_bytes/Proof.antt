@@ -29,15 +29,15 @@ right l = l.before.before.before.args.b.now
 
 -- the next eight bytes of each
 abbrev at-loop : tie.In-Taken-read_hyper invariant-loop decreases-loop → tie.At-loop-x invariant-loop decreases-loop
-at-loop c = c.before.before.before.before.before.before.before.before
+at-loop c = c.before.before.before.before
 
 abbrev first : tie.In-Taken-read_hyper invariant-loop decreases-loop → tie.In-Taken invariant-loop decreases-loop
-first c = c.before.before.before.before
+first c = c.before.before
 
-first_read : (c : tie.In-Taken-read_hyper invariant-loop decreases-loop) → Reads hyper (left (at-loop c)) (at-loop c).loop.i (taken (first c).before.x.given.0.0 (first c).before.x.given.0.1.0)
-first_read c = hyper_taken (first c).before.before.before.read-hyper.ensures (first c).before.x.given.1
+first_read : (c : tie.In-Taken-read_hyper invariant-loop decreases-loop) → Reads hyper (left (at-loop c)) (at-loop c).loop-x.i (taken (first c).in-Taken.x (first c).in-Taken.next)
+first_read c = hyper_taken (first c).before.read_hyper.ensures (first c).in-Taken.is
 
-second-read : (c : tie.In-Taken-read_hyper invariant-loop decreases-loop) → Reads hyper (right (at-loop c)) (at-loop c).loop.i (taken c.in-Taken-read_hyper.y c.in-Taken-read_hyper.field-1)
+second-read : (c : tie.In-Taken-read_hyper invariant-loop decreases-loop) → Reads hyper (right (at-loop c)) (at-loop c).loop-x.i (taken c.in-Taken-read_hyper.y c.in-Taken-read_hyper.field-1)
 second-read c = hyper_taken c.before.read_hyper-in-loop-x.ensures c.in-Taken-read_hyper.is
 
 loop-holds : tie.Need-loop-x-init invariant-loop decreases-loop
@@ -56,7 +56,7 @@ returns-then-x-y c =
     let p = ends_word (first_read r) in
     let q = ends_word (second-read r) in
     c.compare_numbers.ensures
-    ∙ sym (l.loop.inv.2 ∙ word_differs 8 (left l) (right l) l.loop.i (λ i. (l.before.before.shared-slice-known.given i).fits) (λ i. (l.before.shared-slice-known2.given i).fits)
+    ∙ sym (l.loop-x.invariant.2 ∙ word_differs 8 (left l) (right l) l.loop-x.i (λ i. (l.before.before.shared_slice_known-1.given i).fits) (λ i. (l.before.shared_slice_known-2-1.given i).fits)
     (omega (arith, p.0, p.1)) (omega (arith, q.0, q.1)) (number_value (first_read r)) (number_value (second-read r)) c.before.if-x-y.true)
 
 loop-less : tie.Need-loop-x-smaller invariant-loop decreases-loop
@@ -70,8 +70,8 @@ loop-again c =
     let q = ends_word (second-read r) in (
       omega (arith, p.1),
       omega (arith, p.0, q.0, q.1),
-      l.loop.inv.2
-          ∙ word_same 8 (left l) (right l) l.loop.i (λ i. (l.before.before.shared-slice-known.given i).fits) (λ i. (l.before.shared-slice-known2.given i).fits)
+      l.loop-x.invariant.2
+          ∙ word_same 8 (left l) (right l) l.loop-x.i (λ i. (l.before.before.shared_slice_known-1.given i).fits) (λ i. (l.before.shared_slice_known-2-1.given i).fits)
           (omega (arith, p.0, p.1)) (omega (arith, q.0, q.1)) (number_value (first_read r)) (number_value (second-read r)) c.if-x-y.false
           ∙ ap (λ (n : ℕ). compare_lists (drop n (left l)) (drop n (right l))) (sym p.0),
     )

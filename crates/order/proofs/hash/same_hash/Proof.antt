@@ -9,6 +9,7 @@ use Rattle.order.proofs.HashLaws.{Agree, agree_starts, agree_turn, agree_ends}
 use borrow.Author.Rules.{rules}
 use Rattle.order.proofs.hash.same_hash.Statement.{statement}
 use Rattle.order.proofs.hash.same_hash.Tie as tie
+use Rattle.order.proofs.hash.same_hash.Lts.{then-eight_at, else-eight_at}
 
 -- the place is one of 0, 8, 16, 24 and 32
 abbrev invariant-loop : tie.invariant-loop-i
@@ -39,7 +40,7 @@ loop-again c =
     let turn = agree_turn l.loop-i.invariant.0 (λ i. (l.before.before.before.before.shared_slice_known-1.given i).fits) (λ i. (l.before.before.before.shared_slice_known-2-1.given i).fits)
     (omega (arith, v.1, v.2, c.before.before.before.loop-i-test.true, l.before.before.if-a-ne32.false)) (omega (arith, v.1, v.2, c.before.before.before.loop-i-test.true, l.before.if-b-ne32.false))
     c.before.before.eight_at.ensures c.before.eight_at-in-loop-i.ensures in
-    (⊎_elim (λ p. turn (inl (p.0.taken, p.1))) (λ p. turn (inr (p.0.left, p.1))) c.if-eight_at.branch, (v.0 + 1, omega (arith, v.1), omega (arith, v.1, c.before.before.before.loop-i-test.true)))
+    (elim c.if-eight_at.branch [ then-eight_at p ↦ turn (inl (p.if-eight_at.true, p.same-is)) | else-eight_at p ↦ turn (inr (p.if-eight_at.false, p.same-is)) ], (v.0 + 1, omega (arith, v.1), omega (arith, v.1, c.before.before.before.loop-i-test.true)))
 
 returns : tie.Need-returns invariant-loop decreases-loop
 returns c = agree_ends c.before.loop-i.invariant.0 (omega (arith, c.loop-i-test.false, c.before.before.before.if-a-ne32.false)) (omega (arith, c.loop-i-test.false, c.before.before.if-b-ne32.false))

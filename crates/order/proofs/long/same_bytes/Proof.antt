@@ -7,6 +7,7 @@ use lib.ListN.{length}
 use Rattle.order.proofs.SameLaws.{differ, Alike, alike_starts, alike_turn, alike_ends}
 use Rattle.order.proofs.long.same_bytes.Statement.{statement}
 use Rattle.order.proofs.long.same_bytes.Tie as tie
+use Rattle.order.proofs.long.same_bytes.Lts.{then-a-i, else-a-i}
 
 abbrev invariant-loop : tie.invariant-loop-i
 invariant-loop a b same₀ i₀ same i = Alike a b i same
@@ -21,7 +22,7 @@ loop-holds : tie.Need-loop-i-init invariant-loop decreases-loop
 loop-holds c = alike_starts c.before.args.a.now c.before.args.b.now
 
 loop-again : tie.Need-loop-i-preserved invariant-loop decreases-loop
-loop-again c = let w = c.before.before.before.before.loop-i.invariant in ⊎_elim (λ p. alike_turn w (inl (p.0.taken, p.1))) (λ p. alike_turn w (inr (p.0.left, p.1))) c.if-a-i.branch
+loop-again c = let w = c.before.before.before.before.loop-i.invariant in elim c.if-a-i.branch [ then-a-i p ↦ alike_turn w (inl (p.if-a-i.true, p.same-is)) | else-a-i p ↦ alike_turn w (inr (p.if-a-i.false, p.same-is)) ]
 
 returns : tie.Need-returns invariant-loop decreases-loop
 returns c = alike_ends c.before.loop-i.invariant (search rules) (search rules)
