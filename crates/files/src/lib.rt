@@ -7,7 +7,6 @@ mod table;
 use std::fs;
 use std::io::ErrorKind;
 use std::rt::Files;
-
 pub use table::{Sizes, first, load, read_full};
 
 // What opening gives: a file; that there is no such file; or that there is one, which can't be read.
