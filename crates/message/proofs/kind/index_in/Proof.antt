@@ -7,17 +7,17 @@ use borrow.Author.Rules.{rules}
 use Rattle.message.proofs.kind.index_in.Statement.{statement}
 use Rattle.message.proofs.kind.index_in.Tie as tie
 
-returns : tie.Need-returns
-returns c = ap index_in (sym c.before.m.given.1)
+returns-in-Index : tie.Need-returns-in-Index
+returns-in-Index c = ap index_in (sym c.in-Index.is)
 
-returns-2 : tie.Need-returns-2
-returns-2 c = ap index_in (sym c.before.m2.given.1)
+returns-in-IndexUpdate : tie.Need-returns-in-IndexUpdate
+returns-in-IndexUpdate c = ap index_in (sym c.in-IndexUpdate.is)
 
-returns-3 : tie.Need-returns-3
-returns-3 c = ap index_in (sym c.before.m3.given.1)
+returns-in-Refused : tie.Need-returns-in-Refused
+returns-in-Refused c = ap index_in (sym c.in-Refused.is)
 
-returns-4 : tie.Need-returns-4
-returns-4 c = ap E.Refused c.at_start.ensures ∙ not_index c.before.before.args.m c.before.match.keys4
+returns-in_default : tie.Need-returns-in_default
+returns-in_default c = ap E.Refused c.at_start.ensures ∙ not_index c.before.before.args.m c.before.in_default.in_default-own.keys4
 
 pub index_in_spec : {M : Type 1} → statement M
-index_in_spec = tie.close (tie.spec (λ c. search rules) (λ c. search rules) (λ c. search rules) (λ c κs. search rules) returns returns-2 returns-3 returns-4)
+index_in_spec = tie.close (tie.spec (λ c. search rules) (λ c. search rules) (λ c. search rules) (λ c κs. search rules) returns-in-Index returns-in-IndexUpdate returns-in-Refused returns-in_default)

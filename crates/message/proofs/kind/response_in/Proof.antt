@@ -7,14 +7,14 @@ use borrow.Author.Rules.{rules}
 use Rattle.message.proofs.kind.response_in.Statement.{statement}
 use Rattle.message.proofs.kind.response_in.Tie as tie
 
-returns : tie.Need-returns
-returns c = ap response_in (sym c.before.m.given.1)
+returns-in-Response : tie.Need-returns-in-Response
+returns-in-Response c = ap response_in (sym c.in-Response.is)
 
-returns-2 : tie.Need-returns-2
-returns-2 c = ap response_in (sym c.before.m2.given.1)
+returns-in-Refused : tie.Need-returns-in-Refused
+returns-in-Refused c = ap response_in (sym c.in-Refused.is)
 
-returns-3 : tie.Need-returns-3
-returns-3 c = ap E.Refused c.at_start.ensures ∙ not_response c.before.before.args.m c.before.match.keys3
+returns-in_default : tie.Need-returns-in_default
+returns-in_default c = ap E.Refused c.at_start.ensures ∙ not_response c.before.before.args.m c.before.in_default.in_default-own.keys3
 
 pub response_in_spec : {M : Type 1} → statement M
-response_in_spec = tie.close (tie.spec (λ c. search rules) (λ c. search rules) (λ c κs. search rules) returns returns-2 returns-3)
+response_in_spec = tie.close (tie.spec (λ c. search rules) (λ c. search rules) (λ c κs. search rules) returns-in-Response returns-in-Refused returns-in_default)

@@ -18,16 +18,16 @@ use Rattle.message.proofs.reading.read_repository.Tie as tie
 in-edition : {e x : Edition} {w : Bytes} (s : List ℕ) → e ≡ x → w ≡ repository_answer x (read_at (repository x) s 4) → w ≡ repository_answer e (read_at (repository e) s 4)
 in-edition {w = w} s same a = subst (λ (y : Edition). w ≡ repository_answer y (read_at (repository y) s 4)) (sym same) a
 
-returns : tie.Need-returns
-returns c =
-    let s : List ℕ = c.before.before.before.args.s.now in
-    in-edition s c.enum_told.given.1 (ap (repository_answer E.Old) (sym (nothing_read s 4).is))
+returns-in-Old : tie.Need-returns-in-Old
+returns-in-Old c =
+    let s : List ℕ = c.before.before.args.s.now in
+    in-edition s c.in-Old.is (ap (repository_answer E.Old) (sym (nothing_read s 4).is))
 
-returns-2 : tie.Need-returns-2
-returns-2 c =
-    let s : List ℕ = c.before.before.before.before.args.s.now in
-    in-edition s c.before.enum-told2.given.1 (c.read-text.ensures ∙ new_answer (read_at (repository E.New) s 4))
+returns-in-New : tie.Need-returns-in-New
+returns-in-New c =
+    let s : List ℕ = c.before.before.before.args.s.now in
+    in-edition s c.before.in-New.is (c.read_text.ensures ∙ new_answer (read_at (repository E.New) s 4))
 
 pub read_repository_spec : {M : Type 1} → statement M
 read_repository_spec =
-    tie.close (tie.spec (λ c. search rules) (λ c. search rules) (λ c κs. search rules) returns returns-2)
+    tie.close (tie.spec (λ c. search rules) (λ c. search rules) (λ c κs. search rules) returns-in-Old returns-in-New)

@@ -5,11 +5,11 @@ use Rattle.message.specs.Answers.{update_message}
 use Rattle.message.proofs.reading.update_message.Statement.{statement}
 use Rattle.message.proofs.reading.update_message.Tie as tie
 
-returns : tie.Need-returns
-returns c = ap (update_message c.before.before.before.args.id) (sym c.before.read.given.1)
+returns-in-Taken : tie.Need-returns-in-Taken
+returns-in-Taken c = ap (update_message c.before.args.id) (sym c.in-Taken.is)
 
-returns-2 : tie.Need-returns-2
-returns-2 c = ap (update_message c.before.before.before.args.id) (sym c.before.read2.given.1)
+returns-in-Refused : tie.Need-returns-in-Refused
+returns-in-Refused c = ap (update_message c.before.args.id) (sym c.in-Refused.is)
 
 pub update_message_spec : {M : Type 1} → statement M
-update_message_spec = tie.close (tie.spec (λ c. search rules) (λ c. search rules) returns returns-2)
+update_message_spec = tie.close (tie.spec (λ c. search rules) (λ c. search rules) returns-in-Taken returns-in-Refused)

@@ -7,14 +7,14 @@ use Rattle.xdr.proofs.Steps.{answered, checked_refused, checked_failed, checked_
 use Rattle.record.proofs.array.read_count.Statement.{statement}
 use Rattle.record.proofs.array.read_count.Tie as tie
 
+returns-in_default : tie.Need-returns-in_default
+returns-in_default c = answered word_answer (checked_refused (word_refused c.before.before.read_word-answer.ensures c.before.in_default.is c.refusal.ensures))
+
+returns-then-limit-count : tie.Need-returns-then-limit-count
+returns-then-limit-count c = answered word_answer (checked_failed (word_taken c.before.before.read_word-answer.ensures c.before.in-Taken.is) (lt-leb _ _ c.if-limit-count.true))
+
 returns : tie.Need-returns
-returns c = answered word_answer (checked_refused (word_refused c.before.before.before.read_word.ensures c.before.enum_told.given.1 c.refusal.ensures))
-
-returns-2 : tie.Need-returns-2
-returns-2 c = answered word_answer (checked_failed (word_taken c.before.before.before.before.read_word.ensures c.before.before.answer.given.1) (lt-leb _ _ c.if1.true))
-
-returns-3 : tie.Need-returns-3
-returns-3 c = answered word_answer (checked_passed (word_taken c.before.before.before.before.read_word.ensures c.before.before.answer.given.1) (le-leb _ _ c.if1.false))
+returns c = answered word_answer (checked_passed (word_taken c.before.before.read_word-answer.ensures c.before.in-Taken.is) (le-leb _ _ c.if-limit-count.false))
 
 pub read_count_spec : {M : Type 1} → statement M
 read_count_spec =
@@ -24,6 +24,6 @@ read_count_spec =
     (λ c. search rules)
     (λ c. search rules)
     (λ c κs. search rules)
-    returns
-    returns-2
-    returns-3)
+    returns-in_default
+    returns-then-limit-count
+    returns)

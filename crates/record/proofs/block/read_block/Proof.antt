@@ -9,23 +9,23 @@ use Rattle.record.proofs.block.read_block.Statement.{statement}
 use Rattle.record.proofs.block.read_block.Tie as tie
 
 -- the Length that was read
-size-read : (c : tie.After-known-told) → Reads size c.before.before.before.before.before.args.s.now 0 (taken c.before.length.given.0.0 c.before.length.given.0.1.0)
-size-read c = word_taken c.before.before.before.read-size.ensures c.before.length.given.1
+size-read : (c : tie.In-Taken) → Reads size c.before.before.before.args.s.now 0 (taken c.in-Taken.n c.in-Taken.hash_at)
+size-read c = word_taken c.before.read_size-length.ensures c.in-Taken.is
+
+returns-in_default : tie.Need-returns-in_default
+returns-in_default c =
+    answered block_answer (via_refused (first_refused
+    (word_refused c.before.before.read_size-length.ensures c.before.in_default.is c.refusal.ensures)))
+
+returns-in_default-bytes : tie.Need-returns-in_default-bytes
+returns-in_default-bytes c =
+    answered block_answer (via_refused (both_read (size-read c.before.before.before)
+    (bytes_refused c.before.before.read_hash-bytes.ensures c.before.in_default-bytes.is c.refusal-in_default-bytes.ensures)))
 
 returns : tie.Need-returns
 returns c =
-    answered block_answer (via_refused (first_refused
-    (word_refused c.before.before.before.read-size.ensures c.before.enum_told.given.1 c.refusal.ensures)))
-
-returns-2 : tie.Need-returns-2
-returns-2 c =
-    answered block_answer (via_refused (both_read (size-read c.before.before.before.before)
-    (bytes_refused c.before.before.before.read-hash.ensures c.before.enum-told2.given.1 c.refusal2.ensures)))
-
-returns-3 : tie.Need-returns-3
-returns-3 c =
-    answered block_answer (via_taken (both_read (size-read c.before.before.before.before)
-    (bytes_taken c.before.before.before.read-hash.ensures c.before.bytes.given.1).1))
+    answered block_answer (via_taken (both_read (size-read c.before.before)
+    (bytes_taken c.before.read_hash-bytes.ensures c.in-Taken-bytes.is).1))
 
 pub read_block_spec : {M : Type 1} → statement M
 read_block_spec =
@@ -35,10 +35,10 @@ read_block_spec =
     (λ c. search rules)
     (λ c. search rules)
     (λ c κs. search rules)
-    returns
+    returns-in_default
     (λ c κs. search rules)
     (λ c. search rules)
     (λ c. search rules)
     (λ c κs. search rules)
-    returns-2
-    returns-3)
+    returns-in_default-bytes
+    returns)

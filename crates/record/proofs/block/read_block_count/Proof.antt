@@ -7,14 +7,14 @@ use Rattle.xdr.proofs.Steps.{answered, checked_refused, checked_failed, checked_
 use Rattle.record.proofs.block.read_block_count.Statement.{statement}
 use Rattle.record.proofs.block.read_block_count.Tie as tie
 
+returns-in_default : tie.Need-returns-in_default
+returns-in_default c = answered word_answer (checked_refused (word_refused c.before.before.read_count-answer.ensures c.before.in_default.is c.refusal.ensures))
+
+returns-then-not-may_have : tie.Need-returns-then-not-may_have
+returns-then-not-may_have c = answered word_answer (checked_failed (word_taken c.before.before.before.read_count-answer.ensures c.before.before.in-Taken.is) (sym c.before.may_have.ensures ∙ c.if-not-may_have.true))
+
 returns : tie.Need-returns
-returns c = answered word_answer (checked_refused (word_refused c.before.before.before.read_count.ensures c.before.enum_told.given.1 c.refusal.ensures))
-
-returns-2 : tie.Need-returns-2
-returns-2 c = answered word_answer (checked_failed (word_taken c.before.before.before.before.before.read_count.ensures c.before.before.before.answer.given.1) (sym c.before.may-have.ensures ∙ not-true _ c.if1.true))
-
-returns-3 : tie.Need-returns-3
-returns-3 c = answered word_answer (checked_passed (word_taken c.before.before.before.before.before.read_count.ensures c.before.before.before.answer.given.1) (sym c.before.may-have.ensures ∙ not-false _ c.if1.false))
+returns c = answered word_answer (checked_passed (word_taken c.before.before.before.read_count-answer.ensures c.before.before.in-Taken.is) (sym c.before.may_have.ensures ∙ c.if-not-may_have.false))
 
 pub read_block_count_spec : {M : Type 1} → statement M
 read_block_count_spec =
@@ -24,7 +24,7 @@ read_block_count_spec =
     (λ c. search rules)
     (λ c. search rules)
     (λ c κs. search rules)
-    returns
+    returns-in_default
     (λ c κs. search rules)
-    returns-2
-    returns-3)
+    returns-then-not-may_have
+    returns)

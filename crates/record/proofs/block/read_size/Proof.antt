@@ -7,14 +7,14 @@ use Rattle.xdr.proofs.Steps.{answered, checked_refused, checked_failed, checked_
 use Rattle.record.proofs.block.read_size.Statement.{statement}
 use Rattle.record.proofs.block.read_size.Tie as tie
 
+returns-in_default : tie.Need-returns-in_default
+returns-in_default c = answered word_answer (checked_refused (word_refused c.before.before.read_word-answer.ensures c.before.in_default.is c.refusal.ensures))
+
+returns-then-not-is_size : tie.Need-returns-then-not-is_size
+returns-then-not-is_size c = answered word_answer (checked_failed (word_taken c.before.before.before.read_word-answer.ensures c.before.before.in-Taken.is) (sym c.before.is_size.ensures ∙ c.if-not-is_size.true))
+
 returns : tie.Need-returns
-returns c = answered word_answer (checked_refused (word_refused c.before.before.before.read_word.ensures c.before.enum_told.given.1 c.refusal.ensures))
-
-returns-2 : tie.Need-returns-2
-returns-2 c = answered word_answer (checked_failed (word_taken c.before.before.before.before.before.read_word.ensures c.before.before.before.answer.given.1) (sym c.before.is-size.ensures ∙ not-true _ c.if1.true))
-
-returns-3 : tie.Need-returns-3
-returns-3 c = answered word_answer (checked_passed (word_taken c.before.before.before.before.before.read_word.ensures c.before.before.before.answer.given.1) (sym c.before.is-size.ensures ∙ not-false _ c.if1.false))
+returns c = answered word_answer (checked_passed (word_taken c.before.before.before.read_word-answer.ensures c.before.before.in-Taken.is) (sym c.before.is_size.ensures ∙ c.if-not-is_size.false))
 
 pub read_size_spec : {M : Type 1} → statement M
 read_size_spec =
@@ -24,7 +24,7 @@ read_size_spec =
     (λ c. search rules)
     (λ c. search rules)
     (λ c κs. search rules)
-    returns
+    returns-in_default
     (λ c κs. search rules)
-    returns-2
-    returns-3)
+    returns-then-not-is_size
+    returns)

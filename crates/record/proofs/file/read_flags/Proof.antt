@@ -6,14 +6,14 @@ use Rattle.xdr.proofs.Steps.{answered, checked_refused, checked_failed, checked_
 use Rattle.record.proofs.file.read_flags.Statement.{statement}
 use Rattle.record.proofs.file.read_flags.Tie as tie
 
+returns-in_default : tie.Need-returns-in_default
+returns-in_default c = answered word_answer (checked_refused (word_refused c.before.before.read_word-answer.ensures c.before.in_default.is c.refusal.ensures))
+
+returns-then-f-ge-FLAGS_BOUND : tie.Need-returns-then-f-ge-FLAGS_BOUND
+returns-then-f-ge-FLAGS_BOUND c = answered word_answer (checked_failed (word_taken c.before.before.read_word-answer.ensures c.before.in-Taken.is) (le-ltb _ _ c.if-f-ge-FLAGS_BOUND.true))
+
 returns : tie.Need-returns
-returns c = answered word_answer (checked_refused (word_refused c.before.before.before.read_word.ensures c.before.enum_told.given.1 c.refusal.ensures))
-
-returns-2 : tie.Need-returns-2
-returns-2 c = answered word_answer (checked_failed (word_taken c.before.before.before.before.read_word.ensures c.before.before.answer.given.1) (le-ltb _ _ c.if1.true))
-
-returns-3 : tie.Need-returns-3
-returns-3 c = answered word_answer (checked_passed (word_taken c.before.before.before.before.read_word.ensures c.before.before.answer.given.1) (lt-ltb _ _ c.if1.false))
+returns c = answered word_answer (checked_passed (word_taken c.before.before.read_word-answer.ensures c.before.in-Taken.is) (lt-ltb _ _ c.if-f-ge-FLAGS_BOUND.false))
 
 pub read_flags_spec : {M : Type 1} → statement M
 read_flags_spec =
@@ -23,6 +23,6 @@ read_flags_spec =
     (λ c. search rules)
     (λ c. search rules)
     (λ c κs. search rules)
-    returns
-    returns-2
-    returns-3)
+    returns-in_default
+    returns-then-f-ge-FLAGS_BOUND
+    returns)

@@ -4,20 +4,20 @@ use Rattle.record.proofs.PathSteps.{empty_part, one_byte, plain_part, two_bytes,
 use Rattle.record.proofs.name.is_part.Statement.{statement}
 use Rattle.record.proofs.name.is_part.Tie as tie
 
-returns : tie.Need-returns
-returns c = sym (empty_part _ c.match.keys1)
+returns-in-0 : tie.Need-returns-in-0
+returns-in-0 c = sym (empty_part _ c.in-0.is)
 
-returns-2 : tie.Need-returns-2
-returns-2 c = sym (one_byte _ c.before.match.keys2)
+returns-in-1 : tie.Need-returns-in-1
+returns-in-1 c = sym (one_byte _ c.before.in-1.is)
 
-returns-3 : tie.Need-returns-3
-returns-3 c = ap not (ne_eqb _ 46 c.if1.true) ∙ sym (plain_part c.before.before.before.args.p.now (omega arith) c.if1.true)
+returns-then-p-ne46 : tie.Need-returns-then-p-ne46
+returns-then-p-ne46 c = ap not (ne_eqb _ 46 c.if-p-ne46.true) ∙ sym (plain_part c.before.before.before.args.p.now (omega arith) c.if-p-ne46.true)
 
-returns-4 : tie.Need-returns-4
-returns-4 c = sym (two_bytes _ c.before.before.before.match.keys3 c.before.if1.false)
+returns-else-p-ne46 : tie.Need-returns-else-p-ne46
+returns-else-p-ne46 c = sym (two_bytes _ c.before.before.before.in-2.is c.before.if-p-ne46.false)
 
-returns-5 : tie.Need-returns-5
-returns-5 c = sym (long_part c.before.args.p.now (omega arith))
+returns-in_default : tie.Need-returns-in_default
+returns-in_default c = sym (long_part c.before.args.p.now (omega arith))
 
 pub is_part_spec : {M : Type 1} → statement M
 is_part_spec =
@@ -26,8 +26,8 @@ is_part_spec =
     (λ c. search rules)
     (λ c. search rules)
     (λ c. search rules)
-    returns
-    returns-2
-    returns-3
-    returns-4
-    returns-5)
+    returns-in-0
+    returns-in-1
+    returns-then-p-ne46
+    returns-else-p-ne46
+    returns-in_default)

@@ -4,37 +4,37 @@ use Rattle.record.specs.Steps.{Smooth}
 use Rattle.record.proofs.SmoothLaws.{smooth_none, smooth_more}
 use Rattle.record.proofs.name.is_smooth.Statement.{statement}
 use Rattle.record.proofs.name.is_smooth.Tie as tie
+use Rattle.record.proofs.name.is_smooth.Lts.{then-b-eq0, else-b-eq0, then-b-eq47+then-c-eq47, then-c-eq46, else-c-eq46, then-b-eq47+else-c-eq47, else-b-eq47}
 
-abbrev invariant-loop : tie.invariant-loop
+abbrev invariant-loop : tie.invariant-loop-i
 invariant-loop s smooth₀ i₀ smooth i = (1 ≤ i) × (smooth ≡ true → Smooth s (i - 1))
 
-abbrev decreases-loop : tie.decreases-loop
+abbrev decreases-loop : tie.decreases-loop-i
 decreases-loop s smooth₀ i₀ smooth i = length s - i
 
-loop-holds : tie.Need-loop-init invariant-loop decreases-loop
+loop-holds : tie.Need-loop-i-init invariant-loop decreases-loop
 loop-holds c = (omega arith, λ e. smooth_none c.args.s.now)
 
-loop-again : tie.Need-loop-preserved invariant-loop decreases-loop
+loop-again : tie.Need-loop-i-preserved invariant-loop decreases-loop
 loop-again c = (
   omega arith,
   λ e.
       let l = c.before.before.before.before.before in
       let t = l.before.args.s.now in
-      let slash : (c.before.if1.smooth ≡ true) × (get_or t (l.loop.i - 1) 0 ≡ 47 → (get_or t l.loop.i 0 ≡ 46 → ⊥) × (get_or t l.loop.i 0 ≡ 47 → ⊥)) =
-      ⊎_elim
-      (λ w. absurd (true≢false (sym e ∙ w.3)))
-      (⊎_elim
-      (λ w. ⊎_elim (λ x. absurd (true≢false (sym e ∙ w.3 ∙ x.1))) (λ x. (sym x.1 ∙ sym w.3 ∙ e, λ z. (x.0.left, w.2.left))) w.1.came)
-      (λ w. (sym w.1 ∙ e, λ z. absurd (w.0.left z))))
-      c.if2.branch in
-      ⊎_elim
-      (λ w. absurd (true≢false (sym slash.0 ∙ w.1)))
-      (λ w. smooth_more t l.loop.i l.loop.invariant.0 (l.loop.invariant.1 (sym w.1 ∙ slash.0)) (record { some = w.0.left; plain = slash.1 }))
-      c.before.if1.branch,
+      let slash : (c.before.if-b-eq0.smooth ≡ true) × (get_or t (l.loop-i.i - 1) 0 ≡ 47 → (get_or t l.loop-i.i 0 ≡ 46 → ⊥) × (get_or t l.loop-i.i 0 ≡ 47 → ⊥)) =
+      elim c.if-b-eq47.branch [
+        then-b-eq47+then-c-eq47 w ↦ absurd (true≢false (sym e ∙ w.smooth-is))
+      | then-b-eq47+else-c-eq47 w ↦ elim w.if-c-eq46.branch [
+          then-c-eq46 x ↦ absurd (true≢false (sym e ∙ w.smooth-is ∙ x.smooth-is))
+        | else-c-eq46 x ↦ (sym x.smooth-is ∙ sym w.smooth-is ∙ e, λ z. (x.if-c-eq46.false, w.if-c-eq47.false)) ]
+      | else-b-eq47 w ↦ (sym w.smooth-is ∙ e, λ z. absurd (w.if-b-eq47.false z)) ] in
+      elim c.before.if-b-eq0.branch [
+        then-b-eq0 w ↦ absurd (true≢false (sym slash.0 ∙ w.smooth-is))
+      | else-b-eq0 w ↦ smooth_more t l.loop-i.i l.loop-i.invariant.0 (l.loop-i.invariant.1 (sym w.smooth-is ∙ slash.0)) (record { some = w.if-b-eq0.false; plain = slash.1 }) ],
 )
 
 returns : tie.Need-returns invariant-loop decreases-loop
-returns c = λ e k h. c.before.loop.invariant.1 e k (omega arith)
+returns c = λ e k h. c.before.loop-i.invariant.1 e k (omega arith)
 
 pub is_smooth_spec : {M : Type 1} → statement M
 is_smooth_spec =

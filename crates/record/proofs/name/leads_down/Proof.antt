@@ -4,11 +4,11 @@ use Rattle.record.proofs.SmoothLaws.{smooth_path, smooth_on}
 use Rattle.record.proofs.name.leads_down.Statement.{statement}
 use Rattle.record.proofs.name.leads_down.Tie as tie
 
-returns-7 : tie.Need-returns-7
-returns-7 c = λ e.
+returns : tie.Need-returns
+returns c = λ e.
     let s = c.before.before.before.before.before.before.before.before.before.before.before.before.before.args.s.now in
-    smooth_path s (search rules) c.before.before.before.before.before.before.before.before.before.if2.false c.before.before.before.before.before.before.before.if3.false c.before.before.before.before.before.if4.false c.before.before.before.before.if5.false
-    (smooth_on s (length s - 9) (length s) (search rules) (search rules) c.before.before.before.past-eights.result (length s - 1) (search rules) (search rules) c.before.before.before.past-eights.ensures.1 (c.is-smooth.ensures e))
+    smooth_path s (search rules) c.before.before.before.before.before.before.before.before.before.if-s-eq46.false c.before.before.before.before.before.before.before.if-s-eq47.false c.before.before.before.before.before.if-last-eq0.false c.before.before.before.before.if-last-eq47.false
+    (smooth_on s (length s - 9) (length s) (search rules) (search rules) c.before.before.before.past_eights.result (length s - 1) (search rules) (search rules) c.before.before.before.past_eights.ensures.1 (c.is_smooth.ensures e))
 
 pub leads_down_spec : {M : Type 1} → statement M
 leads_down_spec =
@@ -31,4 +31,4 @@ leads_down_spec =
     (λ c. search rules)
     (λ c. search rules)
     (λ c κs. search rules)
-    returns-7)
+    returns)

@@ -12,9 +12,9 @@ use Rattle.record.proofs.option.read_option.Statement.{statement}
 use Rattle.record.proofs.option.read_option.Tie as tie
 
 -- the Key that was read
-key-read : (c : tie.After-known-told)
-    → (l : List ℕ) × Reads (text key_limit) c.before.before.before.before.before.args.s.now 0 (taken l c.before.key.given.0.1.0) × (length l ≡ c.before.key.given.0.0)
-key-read c = bytes_taken c.before.before.before.read-text.ensures c.before.key.given.1
+key-read : (c : tie.In-Taken)
+    → (l : List ℕ) × Reads (text key_limit) c.before.before.before.args.s.now 0 (taken l c.in-Taken.value_at) × (length l ≡ c.in-Taken.key_length)
+key-read c = bytes_taken c.before.read_text-key.ensures c.in-Taken.is
 
 -- an answer with the lengths of what was read
 same_span : {k x p q v y next : ℕ} → x ≡ k → p ≡ q → y ≡ v
@@ -22,25 +22,25 @@ same_span : {k x p q v y next : ℕ} → x ≡ k → p ≡ q → y ≡ v
     ≡ O.Taken (record { key_length = x; value_start = q; value_length = y; next = next })
 same_span d e f = rw (d, e, f) refl
 
-returns : tie.Need-returns
-returns c =
+returns-in_default : tie.Need-returns-in_default
+returns-in_default c =
     answered option_answer (via_refused (first_refused
-    (bytes_refused c.before.before.before.read-text.ensures c.before.enum_told.given.1 c.refusal.ensures)))
+    (bytes_refused c.before.before.read_text-key.ensures c.before.in_default.is c.refusal.ensures)))
 
-returns-2 : tie.Need-returns-2
-returns-2 c =
-    answered option_answer (via_refused (both_read (key-read c.before.before.before.before).1
-    (bytes_refused c.before.before.before.read-text2.ensures c.before.enum-told2.given.1 c.refusal2.ensures)))
+returns-in_default-value : tie.Need-returns-in_default-value
+returns-in_default-value c =
+    answered option_answer (via_refused (both_read (key-read c.before.before.before).1
+    (bytes_refused c.before.before.read_text-value.ensures c.before.in_default-value.is c.refusal-in_default-value.ensures)))
 
-add-t10 : tie.Need-overflow-add-t10
-add-t10 c =
-    let w = (ends (omega arith) (key-read c.before.before.before.before).1).1 in
+overflow_add-result : tie.Need-overflow_add-result
+overflow_add-result c =
+    let w = (ends (omega arith) (key-read c.before.before).1).1 in
     omega arith
 
-returns-3 : tie.Need-returns-3
-returns-3 c =
-    let k = key-read c.before.before.before.before in
-    let v = bytes_taken c.before.before.before.read-text2.ensures c.before.value.given.1 in
+returns : tie.Need-returns
+returns c =
+    let k = key-read c.before.before in
+    let v = bytes_taken c.before.read_text-value.ensures c.in-Taken-value.is in
     same_span k.2 (omega (arith, string_ends (passed k.1))) v.2
     ∙ answered option_answer (via_taken (both_read k.1 v.1))
 
@@ -52,11 +52,11 @@ read_option_spec =
     (λ c. search rules)
     (λ c. search rules)
     (λ c κs. search rules)
-    returns
+    returns-in_default
     (λ c κs. search rules)
     (λ c. search rules)
     (λ c. search rules)
     (λ c κs. search rules)
-    returns-2
-    add-t10
-    returns-3)
+    returns-in_default-value
+    overflow_add-result
+    returns)

@@ -6,49 +6,49 @@ use Rattle.record.proofs.outline.block_at.Statement.{statement}
 use Rattle.record.proofs.outline.block_at.Tie as tie
 
 -- the Length of the block
-size-there : (c : tie.After-known-told)
-    → let a = c.before.before.before.before.before.before.before.args in
-    There 4 word_at a.s.now (a.first + a.i * 40) c.before.size.given.0.0 c.before.size.given.0.1.0
-size-there c = word_there c.before.before.before.read_word.ensures c.before.size.given.1
+size-there : (c : tie.In-Taken)
+    → let a = c.before.before.before.before.before.args in
+    There 4 word_at a.s.now (a.first + a.i * 40) c.in-Taken.size c.in-Taken.next
+size-there c = word_there c.before.read_word.ensures c.in-Taken.is
 
-returns : tie.Need-returns
-returns c =
+returns-then-s-first : tie.Need-returns-then-s-first
+returns-then-s-first c =
     let a = c.before.before.args in
     block_short a.s.now a.first a.i (omega arith)
 
-returns-2 : tie.Need-returns-2
-returns-2 c =
+returns-then-s-first-2 : tie.Need-returns-then-s-first-2
+returns-then-s-first-2 c =
     let a = c.before.before.before.args in
     block_short a.s.now a.first a.i (omega arith)
 
-returns-3 : tie.Need-returns-3
-returns-3 c =
-    let a = c.before.before.before.before.before.before.args in
-    let h = (word_missing c.before.before.read_word.ensures c.enum_told.given.1).cut in
+returns-in_default : tie.Need-returns-in_default
+returns-in_default c =
+    let a = c.before.before.before.before.before.args in
+    let h = (word_missing c.before.read_word.ensures c.in_default.is).cut in
     block_short a.s.now a.first a.i (omega (arith, h))
 
-add-t8 : tie.Need-overflow-add-t8
-add-t8 c = let w = size-there c in omega (arith, w.ends, w.room, c.before.before.before.before.if2.false)
+overflow_add-result : tie.Need-overflow_add-result
+overflow_add-result c = let w = size-there c in omega (arith, w.ends, w.room, c.before.before.if-s-first-2.false)
 
-returns-4 : tie.Need-returns-4
-returns-4 c =
-    let a = c.before.before.before.before.before.before.before.args in
+returns : tie.Need-returns
+returns c =
+    let a = c.before.before.before.before.before.args in
     let w = size-there c in
-    block_whole a.s.now a.first a.i c.before.size.given.0.0 (c.before.size.given.0.1.0 + 4) w.is (omega (arith, w.ends)) (omega (arith, c.before.before.before.before.if2.false))
+    block_whole a.s.now a.first a.i c.in-Taken.size (c.in-Taken.next + 4) w.is (omega (arith, w.ends)) (omega (arith, c.before.before.if-s-first-2.false))
 
 pub block_at_spec : {M : Type 1} → statement M
 block_at_spec =
     tie.close
     (tie.spec
-    returns
+    returns-then-s-first
     (λ c. search rules)
     (λ c. search rules)
     (λ c. search rules)
-    returns-2
+    returns-then-s-first-2
     (λ c. search rules)
     (λ c κs. search rules)
     (λ c. search rules)
     (λ c. search rules)
-    returns-3
-    add-t8
-    returns-4)
+    returns-in_default
+    overflow_add-result
+    returns)

@@ -6,34 +6,34 @@ use Rattle.record.proofs.OutlineLaws.{offset_stays}
 use Rattle.record.proofs.outline.offset_of.Statement.{statement}
 use Rattle.record.proofs.outline.offset_of.Tie as tie
 
-abbrev invariant-loop : tie.invariant-loop
+abbrev invariant-loop : tie.invariant-loop-j
 invariant-loop s first i sum₀ j₀ sum j = (sum ≡ offset_of s first j) × (j ≤ i) × (sum ≤ j * 4294967295)
 
-abbrev decreases-loop : tie.decreases-loop
+abbrev decreases-loop : tie.decreases-loop-j
 decreases-loop s first i sum₀ j₀ sum j = i - j
 
-returns : tie.Need-returns invariant-loop decreases-loop
-returns c =
-    let a = c.before.before.before.before.before.before.args in
-    let l = c.before.before.before.before.loop in
-    let none : block_of a.s.now a.first l.j ≡ B.Short = sym c.before.before.block_at.ensures ∙ c.enum_told.given.1 in
+returns-in_default : tie.Need-returns-in_default invariant-loop decreases-loop
+returns-in_default c =
+    let a = c.before.before.before.before.before.args in
+    let l = c.before.before.before.loop-j in
+    let none : block_of a.s.now a.first l.j ≡ B.Short = sym c.before.block_at.ensures ∙ c.in_default.is in
     let whole : l.j + (a.i - l.j) ≡ a.i = omega arith in
     l.invariant.0 ∙ sym (offset_stays a.s.now a.first l.j (a.i - l.j) none) ∙ ap (offset_of a.s.now a.first) whole
 
-add-sum : tie.Need-overflow-add-sum invariant-loop decreases-loop
-add-sum c = omega (arith, c.before.before.before.before.before.loop.invariant.2)
+overflow_add-sum : tie.Need-overflow_add-sum invariant-loop decreases-loop
+overflow_add-sum c = omega (arith, c.before.before.before.loop-j.invariant.2)
 
-loop-again : tie.Need-loop-preserved invariant-loop decreases-loop
+loop-again : tie.Need-loop-j-preserved invariant-loop decreases-loop
 loop-again c =
-    let a = c.before.before.before.before.before.before.before.args in
-    let l = c.before.before.before.before.before.loop in
-    let size : size_of (block_of a.s.now a.first l.j) ≡ c.before.size.given.0.0 = ap size_of (sym c.before.before.before.block_at.ensures ∙ c.before.size.given.1) in
+    let a = c.before.before.before.before.before.args in
+    let l = c.before.before.before.loop-j in
+    let size : size_of (block_of a.s.now a.first l.j) ≡ c.in-Whole.size = ap size_of (sym c.before.block_at.ensures ∙ c.in-Whole.is) in
     (rw (add-one, size, ← l.invariant.0) refl, omega arith, omega (arith, l.invariant.2))
 
-returns-2 : tie.Need-returns-2 invariant-loop decreases-loop
-returns-2 c =
+returns : tie.Need-returns invariant-loop decreases-loop
+returns c =
     let a = c.before.before.before.args in
-    let l = c.before.loop in
+    let l = c.before.loop-j in
     let all : l.j ≡ a.i = omega (arith, l.invariant.1) in
     l.invariant.0 ∙ ap (offset_of a.s.now a.first) all
 
@@ -47,10 +47,10 @@ offset_of_spec =
     (λ c κs. search rules)
     (λ c. search rules)
     (λ c. search rules)
-    returns
+    returns-in_default
     (λ c. search rules)
-    add-sum
+    overflow_add-sum
     (λ c. search rules)
     (λ c. search rules)
     loop-again
-    returns-2)
+    returns)

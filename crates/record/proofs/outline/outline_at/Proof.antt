@@ -7,30 +7,30 @@ use Rattle.record.proofs.OutlineLaws.{outline_cut, outline_is}
 use Rattle.record.proofs.outline.outline_at.Statement.{statement}
 use Rattle.record.proofs.outline.outline_at.Tie as tie
 
-abbrev start : tie.After-known-told → tie.Start
-start c = c.before.before.before.before.before
+abbrev start : tie.In-Whole → tie.Start
+start c = c.before.before.before
 
 -- the name
-name_there : (c : tie.After-known-told) → StringThere (start c).args.s.now (start c).args.at c.before.n.given.0.0 c.before.n.given.0.1.0
-name_there c = string_there _ _ (sym c.before.n.given.1 ∙ c.before.before.before.string-at.ensures)
+name_there : (c : tie.In-Whole) → StringThere (start c).args.s.now (start c).args.at c.in-Whole.n c.in-Whole.rest
+name_there c = string_there _ _ (sym c.in-Whole.is ∙ c.before.string_at.ensures)
+
+returns-in_default : tie.Need-returns-in_default
+returns-in_default c =
+    let a = c.before.before.before.args in
+    outline_cut a.s.now a.at (word_at a.s.now a.at) refl (string_missing _ _ (sym c.in_default.is ∙ c.before.string_at.ensures))
+
+overflow_add-name : tie.Need-overflow_add-name
+overflow_add-name c = let k = name_there c in omega (arith, k.ends, k.room)
+
+overflow_add-name-2 : tie.Need-overflow_add-name-2
+overflow_add-name-2 c = let k = name_there c in omega (arith, k.is, k.ends, k.room)
 
 returns : tie.Need-returns
 returns c =
-    let a = c.before.before.before.before.args in
-    outline_cut a.s.now a.at (word_at a.s.now a.at) refl (string_missing _ _ (sym c.enum_told.given.1 ∙ c.before.before.string-at.ensures))
-
-add-name : tie.Need-overflow-add-name
-add-name c = let k = name_there c in omega (arith, k.ends, k.room)
-
-add-outline-from : tie.Need-overflow-add-outline-from
-add-outline-from c = let k = name_there c in omega (arith, k.is, k.ends, k.room)
-
-returns-2 : tie.Need-returns-2
-returns-2 c =
     let a = (start c.before).args in
-    let n = c.before.before.n.given.0.0 in
+    let n = c.before.in-Whole.n in
     let k = name_there c.before in
-    c.outline-from.ensures
+    c.outline_from.ensures
     ∙ ap (outline_from a.s.now (a.at + 4) (a.at + 4 + n)) (k.ends ∙ ap (λ (m : ℕ). a.at + 4 + padded m) (sym k.is))
     ∙ outline_is a.s.now a.at n (a.at + 4) k.is refl
 
@@ -41,8 +41,8 @@ outline_at_spec =
     (λ c κs. search rules)
     (λ c. search rules)
     (λ c. search rules)
-    returns
-    add-name
-    add-outline-from
+    returns-in_default
+    overflow_add-name
+    overflow_add-name-2
     (λ c κs. search rules)
-    returns-2)
+    returns)

@@ -6,33 +6,33 @@ use Rattle.record.proofs.StringLaws.{string_short, string_whole}
 use Rattle.record.proofs.string_outline.string_at.Statement.{statement}
 use Rattle.record.proofs.string_outline.string_at.Tie as tie
 
-abbrev start : tie.After-known-told → tie.Start
-start c = c.before.before.before.before.before
+abbrev start : tie.In-Taken → tie.Start
+start c = c.before.before.before
 
 -- the length of the contents
-length-there : (c : tie.After-known-told) → There 4 word_at (start c).args.s.now (start c).args.at c.before.len.given.0.0 c.before.len.given.0.1.0
-length-there c = word_there c.before.before.before.read_word.ensures c.before.len.given.1
+length-there : (c : tie.In-Taken) → There 4 word_at (start c).args.s.now (start c).args.at c.in-Taken.len c.in-Taken.start
+length-there c = word_there c.before.read_word.ensures c.in-Taken.is
+
+returns-in_default : tie.Need-returns-in_default
+returns-in_default c =
+    let a = c.before.before.before.args in
+    let h = (word_missing c.before.read_word.ensures c.in_default.is).cut in
+    string_short a.s.now a.at (word_at a.s.now a.at) refl (omega (arith, h))
+
+overflow_sub-s : tie.Need-overflow_sub-s
+overflow_sub-s c = (length-there c).room
+
+returns-then-s-start : tie.Need-returns-then-s-start
+returns-then-s-start c =
+    let a = (start c.before).args in
+    let l = length-there c.before in
+    string_short a.s.now a.at c.before.in-Taken.len l.is (omega (arith, l.ends, l.room))
 
 returns : tie.Need-returns
 returns c =
-    let a = c.before.before.before.before.args in
-    let h = (word_missing c.before.before.read_word.ensures c.enum_told.given.1).cut in
-    string_short a.s.now a.at (word_at a.s.now a.at) refl (omega (arith, h))
-
-sub-if1 : tie.Need-overflow-sub-if1
-sub-if1 c = (length-there c).room
-
-returns-2 : tie.Need-returns-2
-returns-2 c =
     let a = (start c.before).args in
     let l = length-there c.before in
-    string_short a.s.now a.at c.before.before.len.given.0.0 l.is (omega (arith, l.ends, l.room))
-
-returns-3 : tie.Need-returns-3
-returns-3 c =
-    let a = (start c.before).args in
-    let l = length-there c.before in
-    string_whole a.s.now a.at c.before.before.len.given.0.0 _ l.is (omega (arith, l.ends)) (omega (arith, l.room))
+    string_whole a.s.now a.at c.before.in-Taken.len _ l.is (omega (arith, l.ends)) (omega (arith, l.room))
 
 pub string_at_spec : {M : Type 1} → statement M
 string_at_spec =
@@ -41,11 +41,11 @@ string_at_spec =
     (λ c κs. search rules)
     (λ c. search rules)
     (λ c. search rules)
-    returns
+    returns-in_default
     (λ c. search rules)
     (λ c. search rules)
     (λ c. search rules)
-    sub-if1
-    returns-2
+    overflow_sub-s
+    returns-then-s-start
     (λ c. search rules)
-    returns-3)
+    returns)

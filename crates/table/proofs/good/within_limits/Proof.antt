@@ -4,11 +4,11 @@ use Rattle.table.specs.Limits.{records_limit}
 use Rattle.table.proofs.good.within_limits.Statement.{statement}
 use Rattle.table.proofs.good.within_limits.Tie as tie
 
-returns : tie.Need-returns
-returns c = simp (lt-leb c.before.args.count records_limit c.if1.true)
+returns-then-count-gt-RECORDS_LIMIT : tie.Need-returns-then-count-gt-RECORDS_LIMIT
+returns-then-count-gt-RECORDS_LIMIT c = simp (lt-leb c.before.args.count records_limit c.if-count-gt-RECORDS_LIMIT.true)
 
-returns-2 : tie.Need-returns-2
-returns-2 c = simp (le-leb c.before.args.count records_limit c.if1.false)
+returns : tie.Need-returns
+returns c = simp (le-leb c.before.args.count records_limit c.if-count-gt-RECORDS_LIMIT.false)
 
 pub within_limits_spec : {M : Type 1} → statement M
-within_limits_spec = tie.close (tie.spec returns returns-2)
+within_limits_spec = tie.close (tie.spec returns-then-count-gt-RECORDS_LIMIT returns)

@@ -5,7 +5,7 @@ use Rattle.table.proofs.newest.compare_bits.Statement.{statement}
 use Rattle.table.proofs.newest.compare_bits.Tie as tie
 
 returns : tie.Need-returns
-returns c = c.compare-numbers.ensures ∙ rw (c.before.before.number_of_lem.ensures, c.before.number-of2.ensures)
+returns c = c.compare_numbers.ensures ∙ rw (c.before.before.number_of.ensures, c.before.number_of-2.ensures)
 
 pub compare_bits_spec : {M : Type 1} → statement M
 compare_bits_spec =

@@ -5,7 +5,7 @@ use Rattle.table.proofs.newest.compare_modified.Statement.{statement}
 use Rattle.table.proofs.newest.compare_modified.Tie as tie
 
 returns : tie.Need-returns
-returns c = c.compare-numbers.ensures ∙ rw (c.before.before.raised.ensures, c.before.raised2.ensures)
+returns c = c.compare_numbers.ensures ∙ rw (c.before.before.raised.ensures, c.before.raised-2.ensures)
 
 pub compare_modified_spec : {M : Type 1} → statement M
 compare_modified_spec =

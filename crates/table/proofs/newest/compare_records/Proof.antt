@@ -17,72 +17,72 @@ use Rattle.table.proofs.newest.compare_records.Tie as tie
 
 -- what the comparisons of flags say
 
-valid-compared : (c : tie.After-compare-bits)
+valid-compared : (c : tie.After-compare_bits-valid)
     → let a = c.before.before.before.before.before.before.before.before.before.before.before.before.before.args in
-    c.compare-bits.result ≡ compare_numbers (bit (not (is_invalid a.f.flags))) (bit (not (is_invalid a.g.flags)))
-valid-compared c = c.compare-bits.ensures ∙ rw (c.before.before.is-invalid.ensures, c.before.is-invalid2.ensures)
+    c.compare_bits-valid.result ≡ compare_numbers (bit (not (is_invalid a.f.flags))) (bit (not (is_invalid a.g.flags)))
+valid-compared c = c.compare_bits-valid.ensures ∙ rw (c.before.before.is_invalid.ensures, c.before.is_invalid-2.ensures)
 
-deleted-compared : (c : tie.After-compare-bits2)
+deleted-compared : (c : tie.After-compare_bits-deleted)
     → let a = c.before.before.before.before.before.before.before.before.before.before.before.before.before.before.before.before.before.before.args in
-    c.compare-bits2.result ≡ compare_numbers (bit (is_deleted a.f.flags)) (bit (is_deleted a.g.flags))
-deleted-compared c = c.compare-bits2.ensures ∙ rw (c.before.before.is-deleted.ensures, c.before.is-deleted2.ensures)
+    c.compare_bits-deleted.result ≡ compare_numbers (bit (is_deleted a.f.flags)) (bit (is_deleted a.g.flags))
+deleted-compared c = c.compare_bits-deleted.ensures ∙ rw (c.before.before.is_deleted.ensures, c.before.is_deleted-2.ensures)
 
-parts-compared : (c : tie.After-compare-long)
+parts-compared : (c : tie.After-compare_long)
     → let a = c.before.before.before.before.before.before.before.before.before.before.before.before.before.before.before.before.before.before.before.before.before.before.before.args in
-    Compared (part a.s.now a.f.rest a.f.past) (part a.t.now a.g.rest a.g.past) c.compare-long.result
-parts-compared c = record { is = c.compare-long.ensures ∙ rw (c.before.before.part.ensures, c.before.part2.ensures) }
+    Compared (part a.s.now a.f.rest a.f.past) (part a.t.now a.g.rest a.g.past) c.compare_long.result
+parts-compared c = record { is = c.compare_long.ensures ∙ rw (c.before.before.part.ensures, c.before.part-2.ensures) }
 
 -- past each field that is the same in both
 
 module _ {xs ys : List ℕ} {r : Order} where
-  past-modified : (c : tie.Else1) → let a = c.before.before.before.before.before.args in
+  past-modified : (c : tie.Else-not-is_equal) → let a = c.before.before.before.before.before.args in
       Compared xs ys r → Compared (raised a.f.modified ∷ xs) (raised a.g.modified ∷ ys) r
-  past-modified c k = passes c.before.before.compare-modified.ensures (sym c.before.is_equal.ensures ∙ not-false _ c.if1.false) k
+  past-modified c k = passes c.before.before.compare_modified-modified.ensures (sym c.before.is_equal.ensures ∙ c.if-not-is_equal.false) k
 
-  past-version : (c : tie.Else2) → let a = c.before.before.before.before.before.before.before.before.before.before.args in
+  past-version : (c : tie.Else-not-is_equal-2) → let a = c.before.before.before.before.before.before.before.before.before.before.args in
       Compared xs ys r → Compared (a.f.version ∷ xs) (a.g.version ∷ ys) r
-  past-version c k = passes c.before.before.compare-numbers.ensures (sym c.before.is-equal2.ensures ∙ not-false _ c.if2.false) k
+  past-version c k = passes c.before.before.compare_numbers-version.ensures (sym c.before.is_equal-2.ensures ∙ c.if-not-is_equal-2.false) k
 
-  past-valid : (c : tie.Else3) → let a = c.before.before.before.before.before.before.before.before.before.before.before.before.before.before.before.args in
+  past-valid : (c : tie.Else-not-is_equal-3) → let a = c.before.before.before.before.before.before.before.before.before.before.before.before.before.before.before.args in
       Compared xs ys r → Compared (bit (not (is_invalid a.f.flags)) ∷ xs) (bit (not (is_invalid a.g.flags)) ∷ ys) r
-  past-valid c k = passes (valid-compared c.before.before) (sym c.before.is-equal3.ensures ∙ not-false _ c.if3.false) k
+  past-valid c k = passes (valid-compared c.before.before) (sym c.before.is_equal-3.ensures ∙ c.if-not-is_equal-3.false) k
 
-  past-deleted : (c : tie.Else4) → let a = c.before.before.before.before.before.before.before.before.before.before.before.before.before.before.before.before.before.before.before.before.args in
+  past-deleted : (c : tie.Else-not-is_equal-4) → let a = c.before.before.before.before.before.before.before.before.before.before.before.before.before.before.before.before.before.before.before.before.args in
       Compared xs ys r → Compared (bit (is_deleted a.f.flags) ∷ xs) (bit (is_deleted a.g.flags) ∷ ys) r
-  past-deleted c k = passes (deleted-compared c.before.before) (sym c.before.is-equal4.ensures ∙ not-false _ c.if4.false) k
+  past-deleted c k = passes (deleted-compared c.before.before) (sym c.before.is_equal-4.ensures ∙ c.if-not-is_equal-4.false) k
 
-returns : tie.Need-returns
-returns c =
+returns-then-not-is_equal : tie.Need-returns-then-not-is_equal
+returns-then-not-is_equal c =
     let a = c.before.before.before.before.before.args in
     compared_at a.s.now a.f a.t.now a.g
-    (decides c.before.before.compare-modified.ensures (sym c.before.is_equal.ensures ∙ not-true _ c.if1.true))
+    (decides c.before.before.compare_modified-modified.ensures (sym c.before.is_equal.ensures ∙ c.if-not-is_equal.true))
 
-returns-2 : tie.Need-returns-2
-returns-2 c =
+returns-then-not-is_equal-2 : tie.Need-returns-then-not-is_equal-2
+returns-then-not-is_equal-2 c =
     let c1 = c.before.before.before.before.before in
     let a = c1.before.before.before.before.before.args in
     compared_at a.s.now a.f a.t.now a.g
-    (past-modified c1 (decides c.before.before.compare-numbers.ensures (sym c.before.is-equal2.ensures ∙ not-true _ c.if2.true)))
+    (past-modified c1 (decides c.before.before.compare_numbers-version.ensures (sym c.before.is_equal-2.ensures ∙ c.if-not-is_equal-2.true)))
 
-returns-3 : tie.Need-returns-3
-returns-3 c =
+returns-then-not-is_equal-3 : tie.Need-returns-then-not-is_equal-3
+returns-then-not-is_equal-3 c =
     let c2 = c.before.before.before.before.before in
     let c1 = c2.before.before.before.before.before in
     let a = c1.before.before.before.before.before.args in
     compared_at a.s.now a.f a.t.now a.g
-    (past-modified c1 (past-version c2 (decides (valid-compared c.before.before) (sym c.before.is-equal3.ensures ∙ not-true _ c.if3.true))))
+    (past-modified c1 (past-version c2 (decides (valid-compared c.before.before) (sym c.before.is_equal-3.ensures ∙ c.if-not-is_equal-3.true))))
 
-returns-4 : tie.Need-returns-4
-returns-4 c =
+returns-then-not-is_equal-4 : tie.Need-returns-then-not-is_equal-4
+returns-then-not-is_equal-4 c =
     let c3 = c.before.before.before.before.before in
     let c2 = c3.before.before.before.before.before in
     let c1 = c2.before.before.before.before.before in
     let a = c1.before.before.before.before.before.args in
     compared_at a.s.now a.f a.t.now a.g
-    (past-modified c1 (past-version c2 (past-valid c3 (decides (deleted-compared c.before.before) (sym c.before.is-equal4.ensures ∙ not-true _ c.if4.true)))))
+    (past-modified c1 (past-version c2 (past-valid c3 (decides (deleted-compared c.before.before) (sym c.before.is_equal-4.ensures ∙ c.if-not-is_equal-4.true)))))
 
-returns-5 : tie.Need-returns-5
-returns-5 c =
+returns : tie.Need-returns
+returns c =
     let c4 = c.before.before.before in
     let c3 = c4.before.before.before.before.before in
     let c2 = c3.before.before.before.before.before in
@@ -97,23 +97,23 @@ compare_records_spec =
     (tie.spec
     (λ c κs. search rules)
     (λ c κs. search rules)
-    returns
+    returns-then-not-is_equal
     (λ c. search rules)
     (λ c. search rules)
     (λ c κs. search rules)
     (λ c κs. search rules)
-    returns-2
+    returns-then-not-is_equal-2
     (λ c κs. search rules)
     (λ c κs. search rules)
     (λ c κs. search rules)
     (λ c κs. search rules)
-    returns-3
+    returns-then-not-is_equal-3
     (λ c κs. search rules)
     (λ c κs. search rules)
     (λ c κs. search rules)
     (λ c κs. search rules)
-    returns-4
+    returns-then-not-is_equal-4
     (λ c κs. search rules)
     (λ c κs. search rules)
     (λ c κs. search rules)
-    returns-5)
+    returns)

@@ -5,29 +5,29 @@ use borrow.Author.Rules.{rules}
 use Rattle.table.proofs.side.side_at.Statement.{statement}
 use Rattle.table.proofs.side.side_at.Tie as tie
 
-returns : tie.Need-returns
-returns c =
-    let e = c.before.before.before.before.before in
+returns-in-Short-outline_at : tie.Need-returns-in-Short-outline_at
+returns-in-Short-outline_at c =
+    let e = c.before.before.before in
     let s = e.before.before.before.args in
-    side_by_lem s.a.now s.i s.b.now s.j e.outline-at.ensures c.before.before.before.enum_told.given.1 c.before.before.outline-at2.ensures c.enum-told2.given.1 refl
+    side_by_lem s.a.now s.i s.b.now s.j e.outline_at.ensures c.before.before.in-Short.is c.before.outline_at-in-Short.ensures c.in-Short-outline_at.is refl
 
-returns-2 : tie.Need-returns-2
-returns-2 c =
-    let e = c.before.before.before.before.before.before in
+returns-in-Whole-outline_at : tie.Need-returns-in-Whole-outline_at
+returns-in-Whole-outline_at c =
+    let e = c.before.before.before in
     let s = e.before.before.before.args in
-    side_by_lem s.a.now s.i s.b.now s.j e.outline-at.ensures c.before.before.before.before.enum_told.given.1 c.before.before.before.outline-at2.ensures c.before.g.given.1 refl
+    side_by_lem s.a.now s.i s.b.now s.j e.outline_at.ensures c.before.before.in-Short.is c.before.outline_at-in-Short.ensures c.in-Whole-outline_at.is refl
 
-returns-3 : tie.Need-returns-3
-returns-3 c =
-    let e = c.before.before.before.before.before.before in
+returns-in-Short-outline_at-2 : tie.Need-returns-in-Short-outline_at-2
+returns-in-Short-outline_at-2 c =
+    let e = c.before.before.before in
     let s = e.before.before.before.args in
-    side_by_lem s.a.now s.i s.b.now s.j e.outline-at.ensures c.before.before.before.before.f.given.1 c.before.before.outline-at3.ensures c.enum-told3.given.1 refl
+    side_by_lem s.a.now s.i s.b.now s.j e.outline_at.ensures c.before.before.in-Whole.is c.before.outline_at-in-Whole.ensures c.in-Short-outline_at-2.is refl
 
-returns-4 : tie.Need-returns-4
-returns-4 c =
-    let e = c.before.before.before.before.before.before.before.before in
+returns-in-Whole-outline_at-2 : tie.Need-returns-in-Whole-outline_at-2
+returns-in-Whole-outline_at-2 c =
+    let e = c.before.before.before.before in
     let s = e.before.before.before.args in
-    side_by_lem s.a.now s.i s.b.now s.j e.outline-at.ensures c.before.before.before.before.before.before.f.given.1 c.before.before.before.before.outline-at3.ensures c.before.before.g2.given.1 c.side-of-two.ensures
+    side_by_lem s.a.now s.i s.b.now s.j e.outline_at.ensures c.before.before.before.in-Whole.is c.before.before.outline_at-in-Whole.ensures c.before.in-Whole-outline_at-2.is c.side_of_two.ensures
 
 pub side_at_spec : {M : Type 1} → statement M
 side_at_spec =
@@ -43,7 +43,7 @@ side_at_spec =
     (λ c. search rules)
     (λ c. search rules)
     (λ c κs. search rules)
-    returns
-    returns-2
-    returns-3
-    returns-4)
+    returns-in-Short-outline_at
+    returns-in-Whole-outline_at
+    returns-in-Short-outline_at-2
+    returns-in-Whole-outline_at-2)

@@ -4,8 +4,8 @@ use Rattle.record.specs.Answers.{option_refusal}
 use Rattle.record.proofs.option.OptionRead.refusal.Statement.{statement}
 use Rattle.record.proofs.option.OptionRead.refusal.Tie as tie
 
-returns : tie.Need-returns
-returns c = ap option_refusal (sym c.enum_told.given.1)
+returns-in-Taken : tie.Need-returns-in-Taken
+returns-in-Taken c = ap option_refusal (sym c.in-Taken.is)
 
 pub refusal_spec : {M : Type 1} → statement M
-refusal_spec = tie.close (tie.spec (λ c. search rules) (λ c. search rules) returns (λ c. search rules))
+refusal_spec = tie.close (tie.spec (λ c. search rules) (λ c. search rules) returns-in-Taken (λ c. search rules))
