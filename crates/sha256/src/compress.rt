@@ -6,7 +6,7 @@ ghost use Rattle.sha256.specs.Hash as fips;
 ghost use Rattle.sha256.specs.Steps.{low_words, high_words, words_in, Eight};
 
 use crate::block::{Block, block_at, next_word};
-use crate::constants::K;
+use crate::constants;
 use crate::state::{State, added, round};
 
 // The working variables after some rounds, and the sixteen newest words of the schedule.
@@ -125,6 +125,6 @@ fn hash_blocks(start: State, s: &[u8], k: &[u32; 64]) -> State
 pub(crate) fn hashed(start: State, s: &[u8]) -> State
     ensures { result ≡ fips.hash_all start s.now }
 {
-    let k = K;
+    let k = constants::K;
     hash_blocks(start, s, &k)
 }

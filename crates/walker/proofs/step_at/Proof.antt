@@ -8,35 +8,35 @@ use borrow.Author.Rules.{rules}
 use Rattle.walker.proofs.step_at.Statement.{statement}
 use Rattle.walker.proofs.step_at.Tie as tie
 
-abbrev invariant-loop : tie.invariant-loop
+abbrev invariant-loop : tie.invariant-loop-place
 invariant-loop table at place₀ place = Come table at place
 
-abbrev decreases-loop : tie.decreases-loop
+abbrev decreases-loop : tie.decreases-loop-place
 decreases-loop table at place₀ place = at - place
 
+returns-then-not-is_good : tie.Need-returns-then-not-is_good invariant-loop decreases-loop
+returns-then-not-is_good c = table_bad c.before.before.before.args.table.now c.before.before.before.args.at (sym c.before.is_good.ensures ∙ c.if-not-is_good.true)
+
+loop-holds : tie.Need-loop-place-init invariant-loop decreases-loop
+loop-holds c = come_start c.before.before.before.args.table.now c.before.before.before.args.at (λ i. (c.before.before.shared_slice_known-1.given i).fits) (sym c.before.is_good.ensures ∙ c.if-not-is_good.false)
+
+returns-in_default : tie.Need-returns-in_default invariant-loop decreases-loop
+returns-in_default c = come_end c.before.before.before.loop-place.invariant c.before.before.loop-place-test.true c.before.outline_at.ensures c.in_default.is
+
+loop-less : tie.Need-loop-place-smaller invariant-loop decreases-loop
+loop-less c = omega (arith, c.before.before.loop-place-test.true, come_grows c.before.before.before.loop-place.invariant c.before.before.loop-place-test.true c.before.outline_at.ensures c.in-Whole.is)
+
+loop-again : tie.Need-loop-place-preserved invariant-loop decreases-loop
+loop-again c = come_on c.before.before.before.loop-place.invariant c.before.before.loop-place-test.true c.before.outline_at.ensures c.in-Whole.is
+
+returns-then-place-at : tie.Need-returns-then-place-at invariant-loop decreases-loop
+returns-then-place-at c = come_past c.before.before.loop-place.invariant (omega (arith, c.if-place-at.true, c.before.loop-place-test.false))
+
+returns-in_default-outline_at : tie.Need-returns-in_default-outline_at invariant-loop decreases-loop
+returns-in_default-outline_at c = ended c.before.before.before.before.loop-place.invariant (omega (arith, c.before.before.if-place-at.false)) c.before.outline_at-2.ensures c.in_default-outline_at.is
+
 returns : tie.Need-returns invariant-loop decreases-loop
-returns c = table_bad c.before.before.before.args.table.now c.before.before.before.args.at (sym c.before.is-good.ensures ∙ not-true _ c.if1.true)
-
-loop-holds : tie.Need-loop-init invariant-loop decreases-loop
-loop-holds c = come_start c.before.before.before.args.table.now c.before.before.before.args.at (λ i. (c.before.before.shared-slice-known.given i).fits) (sym c.before.is-good.ensures ∙ not-false _ c.if1.false)
-
-returns-2 : tie.Need-returns-2 invariant-loop decreases-loop
-returns-2 c = come_end c.before.before.before.before.loop.invariant c.before.before.before.loop-test.true c.before.before.outline-at.ensures c.enum_told.given.1
-
-loop-less : tie.Need-loop-smaller invariant-loop decreases-loop
-loop-less c = omega (arith, c.before.before.before.before.loop-test.true, come_grows c.before.before.before.before.before.loop.invariant c.before.before.before.before.loop-test.true c.before.before.before.outline-at.ensures c.before.f.given.1)
-
-loop-again : tie.Need-loop-preserved invariant-loop decreases-loop
-loop-again c = come_on c.before.before.before.before.before.loop.invariant c.before.before.before.before.loop-test.true c.before.before.before.outline-at.ensures c.before.f.given.1
-
-returns-3 : tie.Need-returns-3 invariant-loop decreases-loop
-returns-3 c = come_past c.before.before.loop.invariant (omega (arith, c.if2.true, c.before.loop-test.false))
-
-returns-4 : tie.Need-returns-4 invariant-loop decreases-loop
-returns-4 c = ended c.before.before.before.before.before.loop.invariant (omega (arith, c.before.before.before.if2.false)) c.before.before.outline-at2.ensures c.enum-told2.given.1
-
-returns-5 : tie.Need-returns-5 invariant-loop decreases-loop
-returns-5 c = found c.before.before.before.before.before.before.loop.invariant (omega (arith, c.before.before.before.before.if2.false)) c.before.before.before.outline-at2.ensures c.before.f2.given.1
+returns c = found c.before.before.before.before.loop-place.invariant (omega (arith, c.before.before.if-place-at.false)) c.before.outline_at-2.ensures c.in-Whole-outline_at.is
 
 pub step_at_spec : {M : Type 1} → statement M
 step_at_spec =
@@ -45,17 +45,17 @@ step_at_spec =
     invariant-loop
     decreases-loop
     (λ c κs. search rules)
-    returns
+    returns-then-not-is_good
     loop-holds
     (λ c κs. search rules)
     (λ c. search rules)
     (λ c. search rules)
-    returns-2
+    returns-in_default
     loop-less
     loop-again
-    returns-3
+    returns-then-place-at
     (λ c κs. search rules)
     (λ c. search rules)
     (λ c. search rules)
-    returns-4
-    returns-5)
+    returns-in_default-outline_at
+    returns)

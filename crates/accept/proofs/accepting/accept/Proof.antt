@@ -16,52 +16,52 @@ use Rattle.accept.proofs.accepting.accept.Statement.{statement}
 use Rattle.accept.proofs.accepting.accept.Tie as tie
 
 -- the old table is good
-good : (c : tie.Else1) → is_good c.before.before.before.before.before.before.args.old.now ≡ true
-good c = sym c.before.is-good.ensures ∙ not-false _ c.if1.false
+good : (c : tie.Else-not-is_good) → is_good c.before.before.before.before.before.before.args.old.now ≡ true
+good c = sym c.before.is_good.ensures ∙ c.if-not-is_good.false
 
 -- what was found
-list : (c : tie.After-struct-known) → Listing c.before.before.before.before.before.before.before.before.before.before.before.args.message.now c.before.before.found.given.0.0 c.before.before.found.given.0.1.0
-list c = found_list c.before.before.before.before.before.before.before.before.before.before.before.args.message.now c.before.before.before.before.read-index.ensures c.before.before.found.given.1
+list : (c : tie.After-struct_known-1) → Listing c.before.before.before.before.before.before.before.before.before.args.message.now c.before.in-Taken.update c.before.in-Taken.x
+list c = found_list c.before.before.before.before.before.before.before.before.before.args.message.now c.before.before.read_index-found.ensures c.before.in-Taken.is
 
 -- whether its Repository is the one expected
-repository : (c : tie.After-is-equal) → c.is_equal.result ≡ is_equal (compare_lists (list c.before.before.before).sent.0 c.before.before.before.before.before.before.before.before.before.before.before.before.before.before.args.repository.now)
+repository : (c : tie.After-is_equal) → c.is_equal.result ≡ is_equal (compare_lists (list c.before.before.before).sent.0 c.before.before.before.before.before.before.before.before.before.before.before.before.args.repository.now)
 repository c =
     c.is_equal.ensures
-    ∙ ap is_equal (c.before.compare-bytes.ensures
-    ∙ ap (λ (l : List ℕ). compare_lists l c.before.before.before.before.before.before.before.before.before.before.before.before.before.before.args.repository.now) (c.before.before.part.ensures ∙ repository_part (λ i. (c.before.before.before.before.before.before.before.before.before.before.before.before.shared-slice-known2.given i).fits) (list c.before.before.before)))
+    ∙ ap is_equal (c.before.compare_bytes-order.ensures
+    ∙ ap (λ (l : List ℕ). compare_lists l c.before.before.before.before.before.before.before.before.before.before.before.before.args.repository.now) (c.before.before.part.ensures ∙ repository_part (λ i. (c.before.before.before.before.before.before.before.before.before.before.shared_slice_known-2-1.given i).fits) (list c.before.before.before)))
 
-returns : tie.Need-returns
-returns c = let a = c.before.before.before.before.before.before.before.args in fills_refused a.out.now (old_bad a.old.now a.message.now a.repository.now (sym c.before.before.is-good.ensures ∙ not-true _ c.before.if1.true)) c.refused.ensures
+returns-then-not-is_good : tie.Need-returns-then-not-is_good
+returns-then-not-is_good c = let a = c.before.before.before.before.before.before.before.args in fills_refused a.out.now (old_bad a.old.now a.message.now a.repository.now (sym c.before.before.is_good.ensures ∙ c.before.if-not-is_good.true)) c.refused.ensures
 
-returns-2 : tie.Need-returns-2
-returns-2 c = let a = c.before.before.before.before.before.before.before.before.before.before.args in fills_refused a.out.now (message_refused a.old.now a.message.now a.repository.now (good c.before.before.before.before) c.before.before.before.read-index.ensures c.before.enum_told.given.1 c.refusal.ensures) refl
+returns-in_default : tie.Need-returns-in_default
+returns-in_default c = let a = c.before.before.before.before.before.before.before.before.before.args in fills_refused a.out.now (message_refused a.old.now a.message.now a.repository.now (good c.before.before.before) c.before.before.read_index-found.ensures c.before.in_default.is c.refusal.ensures) refl
 
-add-stop : tie.Need-overflow-add-stop
-add-stop c = omega (arith, c.before.before.before.before.before.before.before.before.before.before.before.well-formed, repository_fits (λ i. (c.before.before.before.before.before.before.before.before.before.shared-slice-known2.given i).fits) (list c))
+overflow_add-stop : tie.Need-overflow_add-stop
+overflow_add-stop c = omega (arith, c.before.before.before.before.before.before.before.before.before.well_formed, repository_fits (λ i. (c.before.before.before.before.before.before.before.shared_slice_known-2-1.given i).fits) (list c))
 
-returns-3 : tie.Need-returns-3
-returns-3 c =
-    let a = c.before.before.before.before.before.before.before.before.before.before.before.before.before.before.before.before.args in
+returns-then-not-is_equal : tie.Need-returns-then-not-is_equal
+returns-then-not-is_equal c =
+    let a = c.before.before.before.before.before.before.before.before.before.before.before.before.before.before.args in
     fills_refused a.out.now
-    (another_repository (λ i. (c.before.before.before.before.before.before.before.before.before.before.before.before.before.before.shared-slice-known2.given i).fits) (list c.before.before.before.before.before) a.old.now a.repository.now (good c.before.before.before.before.before.before.before.before.before.before) (sym (repository c.before.before) ∙ not-true _ c.before.if2.true)) c.refused2.ensures
+    (another_repository (λ i. (c.before.before.before.before.before.before.before.before.before.before.before.before.shared_slice_known-2-1.given i).fits) (list c.before.before.before.before.before) a.old.now a.repository.now (good c.before.before.before.before.before.before.before.before) (sym (repository c.before.before) ∙ c.before.if-not-is_equal.true)) c.refused-then-not-is_equal.ensures
 
-accept-list-requires : tie.Need-accept-list-requires
-accept-list-requires c κs =
+accept_list-requires : tie.Need-accept_list-requires
+accept_list-requires c κs =
     let l = list c.before.before.before.before.before.before in
-    let files = c.before.part2.ensures in (
-      subst IsArray (sym files) (files_array (λ i. (c.before.before.before.before.before.before.before.before.before.before.before.before.before.before.before.shared-slice-known2.given i).fits) l),
-      good c.before.before.before.before.before.before.before.before.before.before.before,
-      omega (arith, c.before.before.before.before.before.before.before.before.before.before.before.before.before.before.before.before.before.well-formed, files_fit (λ i. (c.before.before.before.before.before.before.before.before.before.before.before.before.before.before.before.shared-slice-known2.given i).fits) l, ap length files),
+    let files = c.before.part-2.ensures in (
+      subst IsArray (sym files) (files_array (λ i. (c.before.before.before.before.before.before.before.before.before.before.before.before.before.shared_slice_known-2-1.given i).fits) l),
+      good c.before.before.before.before.before.before.before.before.before,
+      omega (arith, c.before.before.before.before.before.before.before.before.before.before.before.before.before.before.before.well_formed, files_fit (λ i. (c.before.before.before.before.before.before.before.before.before.before.before.before.before.shared_slice_known-2-1.given i).fits) l, ap length files),
     )
 
-returns-4 : tie.Need-returns-4
-returns-4 c =
-    let a = c.before.before.before.before.before.before.before.before.before.before.before.before.before.before.before.before.before.before.before.before.args in
-    let x = c.before.before.before.before.before.before.before.before.before.before.before.found.given.0.1.0 in
+returns : tie.Need-returns
+returns c =
+    let a = c.before.before.before.before.before.before.before.before.before.before.before.before.before.before.before.before.before.before.args in
+    let x = c.before.before.before.before.before.before.before.before.before.before.in-Taken.x in
     fills_same a.out.now
-    (this_repository (λ i. (c.before.before.before.before.before.before.before.before.before.before.before.before.before.before.before.before.before.before.shared-slice-known2.given i).fits) (list c.before.before.before.before.before.before.before.before.before) a.old.now a.repository.now (good c.before.before.before.before.before.before.before.before.before.before.before.before.before.before) (sym (repository c.before.before.before.before.before.before) ∙ not-false _ c.before.before.before.before.before.if2.false)
-    ∙ ap (λ (p : List ℕ). of_array c.before.before.before.before.before.before.before.before.before.before.before.found.given.0.0 x.files.start p a.old.now) (sym c.before.before.before.before.part2.ensures))
-    c.before.before.accept-list.ensures
+    (this_repository (λ i. (c.before.before.before.before.before.before.before.before.before.before.before.before.before.before.before.before.shared_slice_known-2-1.given i).fits) (list c.before.before.before.before.before.before.before.before.before) a.old.now a.repository.now (good c.before.before.before.before.before.before.before.before.before.before.before.before) (sym (repository c.before.before.before.before.before.before) ∙ c.before.before.before.before.before.if-not-is_equal.false)
+    ∙ ap (λ (p : List ℕ). of_array c.before.before.before.before.before.before.before.before.before.before.in-Taken.update x.files.start p a.old.now) (sym c.before.before.before.before.part-2.ensures))
+    c.before.before.accept_list.ensures
 
 pub accept_spec : {M : Type 1} → statement M
 accept_spec =
@@ -69,19 +69,19 @@ accept_spec =
     (tie.spec
     (λ c κs. search rules)
     (λ c κs. search rules)
-    returns
+    returns-then-not-is_good
     (λ c κs. search rules)
     (λ c. search rules)
     (λ c. search rules)
     (λ c κs. search rules)
-    returns-2
-    add-stop
+    returns-in_default
+    overflow_add-stop
     (λ c κs. search rules)
     (λ c κs. search rules)
     (λ c κs. search rules)
     (λ c κs. search rules)
-    returns-3
+    returns-then-not-is_equal
     (λ c κs. search rules)
-    accept-list-requires
+    accept_list-requires
     (λ c. search rules)
-    returns-4)
+    returns)

@@ -12,33 +12,33 @@ use Rattle.accept.proofs.accepting.accept_list.Statement.{statement}
 use Rattle.accept.proofs.accepting.accept_list.Tie as tie
 
 -- a name stood before
-repeated : (c : tie.After-known-told) → SortedTo c.before.before.before.before.before.before.before.before.before.args.s.now c.before.before.before.before.sort.new.1.0 (Repeated c.before.at.given.0.0)
-repeated c = subst (SortedTo c.before.before.before.before.before.before.before.before.before.args.s.now c.before.before.before.before.sort.new.1.0) c.before.at.given.1 c.before.before.before.before.sort.ensures
+repeated : (c : tie.In-Repeated) → SortedTo c.before.before.before.before.before.before.before.args.s.now c.before.before.sort.new.places (Repeated c.in-Repeated.at)
+repeated c = subst (SortedTo c.before.before.before.before.before.before.before.args.s.now c.before.before.sort.new.places) c.in-Repeated.is c.before.before.sort.ensures
 
 -- all are in order
-ordered : (c : tie.After-known-told2) → SortedTo c.before.before.before.before.before.before.before.before.before.args.s.now c.before.before.before.before.sort.new.1.0 (Sorted c.before.n.given.0.0)
-ordered c = subst (SortedTo c.before.before.before.before.before.before.before.before.before.args.s.now c.before.before.before.before.sort.new.1.0) c.before.n.given.1 c.before.before.before.before.sort.ensures
+ordered : (c : tie.In-Sorted) → SortedTo c.before.before.before.before.before.before.before.args.s.now c.before.before.sort.new.places (Sorted c.in-Sorted.n)
+ordered c = subst (SortedTo c.before.before.before.before.before.before.before.args.s.now c.before.before.sort.new.places) c.in-Sorted.is c.before.before.sort.ensures
 
-add-t13 : tie.Need-overflow-add-t13
-add-t13 c = omega (arith, (repeated c).0, c.before.before.before.before.before.before.before.before.before.requires.2)
+overflow_add-result : tie.Need-overflow_add-result
+overflow_add-result c = omega (arith, (repeated c).0, c.before.before.before.before.before.before.before.requires.2)
 
-part-fill-end : tie.Need-slice-bounds-fill-end
-part-fill-end c = omega (arith, (ordered c.before).0)
+slice_bounds-fill-end : tie.Need-slice_bounds-fill-end
+slice_bounds-fill-end c = omega (arith, (ordered c).0)
 
 fill-requires : tie.Need-fill-requires
 fill-requires c κs =
-    let same : c.before.before.before.before.n.given.0.0 ≡ c.before.before.before.before.n.given.0.0 - 0 = omega arith in
-    (subst (λ (n : ℕ). SortedPlaces c.before.before.before.before.before.before.before.before.before.before.before.before.args.s.now (take n c.before.before.before.before.before.before.before.sort.new.1.0)) same (ordered c.before.before.before).1, c.before.before.before.before.before.before.before.before.before.before.before.before.requires.1)
+    let same : c.before.before.in-Sorted.n ≡ c.before.before.in-Sorted.n - 0 = omega arith in
+    (subst (λ (n : ℕ). SortedPlaces c.before.before.before.before.before.before.before.before.before.before.before.before.args.s.now (take n c.before.before.before.before.before.sort.new.1.0)) same (ordered c.before.before).1, c.before.before.before.before.before.before.before.before.before.before.before.before.requires.1)
 
-returns : tie.Need-returns
-returns c =
-    let a = c.before.before.before.before.before.before.before.before.before.args in
+returns-in-Repeated : tie.Need-returns-in-Repeated
+returns-in-Repeated c =
+    let a = c.before.before.before.before.before.before.before.args in
     fills_refused a.out.now ((repeated c).1 a.start (resulting_table (result_of a.update a.s.now a.old.now))) refl
 
-returns-2 : tie.Need-returns-2
-returns-2 c =
+returns-in-Sorted : tie.Need-returns-in-Sorted
+returns-in-Sorted c =
     let a = c.before.before.before.before.before.before.before.before.before.before.before.before.before.before.before.args in
-    fills_same a.out.now ((ordered c.before.before.before.before.before.before).1.unrefused a.start (resulting_table (result_of a.update a.s.now a.old.now))) c.before.before.fill.ensures
+    fills_same a.out.now ((ordered c.before.before.before.before.before).1.unrefused a.start (resulting_table (result_of a.update a.s.now a.old.now))) c.before.before.fill.ensures
 
 pub accept_list_spec : {M : Type 1} → statement M
 accept_list_spec =
@@ -47,12 +47,12 @@ accept_list_spec =
     (λ c. search rules)
     (λ c κs. search rules)
     (λ c. search rules)
-    add-t13
+    overflow_add-result
     (λ c. search rules)
     (λ c. search rules)
     (λ c. search rules)
-    part-fill-end
+    slice_bounds-fill-end
     fill-requires
-    returns
+    returns-in-Repeated
     (λ c. search rules)
-    returns-2)
+    returns-in-Sorted)

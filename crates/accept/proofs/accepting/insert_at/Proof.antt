@@ -8,35 +8,35 @@ use borrow.Author.Rules.{rules}
 use Rattle.accept.proofs.accepting.insert_at.Statement.{statement}
 use Rattle.accept.proofs.accepting.insert_at.Tie as tie
 
-abbrev invariant-loop : tie.invariant-loop
+abbrev invariant-loop : tie.invariant-loop-k
 invariant-loop places₀ j at k₀ places k = Shifted places₀ places k × (j ≤ k)
 
-abbrev decreases-loop : tie.decreases-loop
+abbrev decreases-loop : tie.decreases-loop-k
 decreases-loop places₀ j at k₀ places k = k
 
-loop-holds : tie.Need-loop-init invariant-loop decreases-loop
+loop-holds : tie.Need-loop-k-init invariant-loop decreases-loop
 loop-holds c = (shifted_none _ (omega (arith, c.requires)) refl, omega (arith, c.requires))
 
-sub-places : tie.Need-overflow-sub-places invariant-loop decreases-loop
-sub-places c = omega (arith, c.loop-test.true)
+overflow_sub-places : tie.Need-overflow_sub-places invariant-loop decreases-loop
+overflow_sub-places c = omega (arith, c.loop-k-test.true)
 
-slice-read-places : tie.Need-slice-read-places invariant-loop decreases-loop
-slice-read-places c = omega (arith, c.before.before.loop.invariant.0.inside, shifted_length c.before.before.loop.invariant.0)
+bounds-places-k : tie.Need-bounds-places-k invariant-loop decreases-loop
+bounds-places-k c = omega (arith, c.before.before.loop-k.invariant.0.inside, shifted_length c.before.before.loop-k.invariant.0)
 
-slice-write-places : tie.Need-slice-write-places invariant-loop decreases-loop
-slice-write-places c = omega (arith, c.before.before.loop.invariant.0.inside, shifted_length c.before.before.loop.invariant.0)
+bounds-places-k-in-loop-k : tie.Need-bounds-places-k-in-loop-k invariant-loop decreases-loop
+bounds-places-k-in-loop-k c = omega (arith, c.before.before.loop-k.invariant.0.inside, shifted_length c.before.before.loop-k.invariant.0)
 
-loop-again : tie.Need-loop-preserved invariant-loop decreases-loop
-loop-again c = (shifted_more c.before.before.loop.invariant.0 (omega (arith, c.before.loop-test.true)), omega (arith, c.before.loop-test.true))
+loop-again : tie.Need-loop-k-preserved invariant-loop decreases-loop
+loop-again c = (shifted_more c.before.before.loop-k.invariant.0 (omega (arith, c.before.loop-k-test.true)), omega (arith, c.before.loop-k-test.true))
 
-slice-write-places-2 : tie.Need-slice-write-places-2 invariant-loop decreases-loop
-slice-write-places-2 c = omega (arith, c.before.loop.invariant.0.inside, shifted_length c.before.loop.invariant.0, c.loop-test.false)
+bounds-places-j : tie.Need-bounds-places-j invariant-loop decreases-loop
+bounds-places-j c = omega (arith, c.before.loop-k.invariant.0.inside, shifted_length c.before.loop-k.invariant.0, c.loop-k-test.false)
 
-same_length : tie.Need-same-length invariant-loop decreases-loop
-same_length c = length-set c.before.loop.places c.before.before.args.j c.before.before.args.at ∙ shifted_length c.before.loop.invariant.0
+shape_of-places : tie.Need-shape_of-places invariant-loop decreases-loop
+shape_of-places c = length-set c.before.loop-k.places c.before.before.args.j c.before.before.args.at ∙ shifted_length c.before.loop-k.invariant.0
 
 returns : tie.Need-returns invariant-loop decreases-loop
-returns c = shifted_put c.before.loop.invariant.0 _ (omega (arith, c.before.loop.invariant.1, c.loop-test.false))
+returns c = shifted_put c.before.loop-k.invariant.0 _ (omega (arith, c.before.loop-k.invariant.1, c.loop-k-test.false))
 
 pub insert_at_spec : {M : Type 1} → statement M
 insert_at_spec =
@@ -46,15 +46,15 @@ insert_at_spec =
     decreases-loop
     (λ c. search rules)
     loop-holds
-    sub-places
+    overflow_sub-places
     (λ c. search rules)
-    slice-read-places
+    bounds-places-k
     (λ c. search rules)
-    slice-write-places
+    bounds-places-k-in-loop-k
     (λ c. search rules)
     (λ c. search rules)
     loop-again
     (λ c. search rules)
-    slice-write-places-2
-    same_length
+    bounds-places-j
+    shape_of-places
     returns)

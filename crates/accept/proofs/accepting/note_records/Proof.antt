@@ -14,77 +14,77 @@ use borrow.Author.Rules.{rules}
 use Rattle.accept.proofs.accepting.note_records.Statement.{statement}
 use Rattle.accept.proofs.accepting.note_records.Tie as tie
 
-abbrev invariant-loop : tie.invariant-loop
+abbrev invariant-loop : tie.invariant-loop-step
 invariant-loop s places old update notes₀ i₀ j₀ count₀ bytes₀ noted₀ notes i j count bytes noted =
     (l : Left s places old i j) × Counted (result_of update s old) (rest l) count bytes × Noting s old (result_of update s old) (rest l) notes count noted
 
-abbrev decreases-loop : tie.decreases-loop
+abbrev decreases-loop : tie.decreases-loop-step
 decreases-loop s places old update notes₀ i₀ j₀ count₀ bytes₀ noted₀ notes i j count bytes noted = length places + length old - (i + j)
 
 -- the record that is taken
-taken : (c : tie.After-struct-known invariant-loop decreases-loop)
-    → let l = c.before.before.before.before.before.before in
+taken : (c : tie.After-struct_known-1 invariant-loop decreases-loop)
+    → let l = c.before.before.before.before in
     let a = l.before.before.before.before.before.before.args in
-    Took a.s.now a.places.now l.loop.i l.loop.invariant.0.fs a.old.now l.loop.j l.loop.invariant.0.gs c.before.before.step.given.0.0
-taken c = took c.before.before.before.before.before.before.loop.invariant.0 c.before.before.before.before.before.place_of.ensures c.before.before.before.before.next-at.ensures c.before.before.step.given.1
+    Took a.s.now a.places.now l.loop-step.i l.loop-step.invariant.0.fs a.old.now l.loop-step.j l.loop-step.invariant.0.gs c.before.in-More.step
+taken c = took c.before.before.before.before.loop-step.invariant.0 c.before.before.before.place_of.ensures c.before.before.next_at.ensures c.before.in-More.is
 
 -- what was counted with it
-counted : (c : tie.After-struct-known invariant-loop decreases-loop)
-    → let l = c.before.before.before.before.before.before in
+counted : (c : tie.After-struct_known-1 invariant-loop decreases-loop)
+    → let l = c.before.before.before.before in
     let a = l.before.before.before.before.before.before.args in
-    Counted (result_of a.update a.s.now a.old.now) (union replacing (taken c).lefts (taken c).rights) (l.loop.count + 1) (l.loop.bytes + (c.before.before.step.given.0.0.end - c.before.before.step.given.0.0.start))
+    Counted (result_of a.update a.s.now a.old.now) (union replacing (taken c).lefts (taken c).rights) (l.loop-step.count + 1) (l.loop-step.bytes + (c.before.in-More.step.end - c.before.in-More.step.start))
 counted c =
     let t = taken c in
-    let s = c.before.before.step.given.0.0 in
-    counted_step c.before.before.before.before.before.before.loop.invariant.1 s.start s.end t.is t.sized
+    let s = c.before.in-More.step in
+    counted_step c.before.before.before.before.loop-step.invariant.1 s.start s.end t.is t.sized
 
-loop-holds : tie.Need-loop-init invariant-loop decreases-loop
+loop-holds : tie.Need-loop-step-init invariant-loop decreases-loop
 loop-holds c =
     let z = c.before.before.before.before.before in
     let a = z.args in
-    starting_noting a.s.now a.places.now a.old.now a.update z.requires.0 (λ i. (c.before.before.shared-slice-known3.given i).fits) z.requires.1 a.notes.now z.requires.2 c.start_of_lem.ensures
+    starting_noting a.s.now a.places.now a.old.now a.update z.requires.0 (λ i. (c.before.before.shared_slice_known-3-1.given i).fits) z.requires.1 a.notes.now z.requires.2 c.start_of-j.ensures
 
-same_length : tie.Need-same-length invariant-loop decreases-loop
-same_length c = c.before.before.before.before.loop.invariant.2.long ∙ sym c.before.before.before.before.before.before.before.before.before.before.requires.2
+shape_of-notes-in_default : tie.Need-shape_of-notes-in_default invariant-loop decreases-loop
+shape_of-notes-in_default c = c.before.before.before.loop-step.invariant.2.long ∙ sym c.before.before.before.before.before.before.before.before.before.requires.2
 
-returns : tie.Need-returns invariant-loop decreases-loop
-returns c =
-    let l = c.before.before.before.before.loop.invariant in
-    let none = none_left l.0 c.before.before.before.place_of.ensures c.before.before.next-at.ensures c.enum_told.given.1 in
+returns-in_default : tie.Need-returns-in_default invariant-loop decreases-loop
+returns-in_default c =
+    let l = c.before.before.before.loop-step.invariant in
+    let none = none_left l.0 c.before.before.place_of.ensures c.before.next_at.ensures c.in_default.is in
     noting_all l.2 none (counted_all l.1 none)
 
-sub-bytes : tie.Need-overflow-sub-bytes invariant-loop decreases-loop
-sub-bytes c = omega (arith, (taken c).sized)
+overflow_sub-bytes : tie.Need-overflow_sub-bytes invariant-loop decreases-loop
+overflow_sub-bytes c = omega (arith, (taken c).sized)
 
-add-bytes : tie.Need-overflow-add-bytes invariant-loop decreases-loop
-add-bytes c =
-    let z = c.before.before.before.before.before.before.before.before.before.before.before.before in
+overflow_add-bytes : tie.Need-overflow_add-bytes invariant-loop decreases-loop
+overflow_add-bytes c =
+    let z = c.before.before.before.before.before.before.before.before.before.before in
     let a = z.args in
-    omega (arith, z.well-formed, (counted c).sized, result_short a.s.now a.places.now a.old.now a.update z.requires.0 (λ i. (c.before.before.before.before.before.before.before.before.before.shared-slice-known3.given i).fits) z.requires.1)
+    omega (arith, z.well_formed, (counted c).sized, result_short a.s.now a.places.now a.old.now a.update z.requires.0 (λ i. (c.before.before.before.before.before.before.before.shared_slice_known-3-1.given i).fits) z.requires.1)
 
-add-count : tie.Need-overflow-add-count invariant-loop decreases-loop
-add-count c =
-    let z = c.before.before.before.before.before.before.before.before.before.before.before.before in
+overflow_add-count : tie.Need-overflow_add-count invariant-loop decreases-loop
+overflow_add-count c =
+    let z = c.before.before.before.before.before.before.before.before.before.before in
     let a = z.args in
-    omega (arith, (counted c).counted, result_few a.s.now a.places.now a.old.now a.update z.requires.0 (λ i. (c.before.before.before.before.before.before.before.before.before.shared-slice-known3.given i).fits) z.requires.1)
+    omega (arith, (counted c).counted, result_few a.s.now a.places.now a.old.now a.update z.requires.0 (λ i. (c.before.before.before.before.before.before.before.shared_slice_known-3-1.given i).fits) z.requires.1)
 
-add-noted : tie.Need-overflow-add-noted invariant-loop decreases-loop
-add-noted c =
-    let n = c.before.before.note.ensures in
-    omega (arith, noting_within c.before.before.before.before.before.before.before.before.before.before.loop.invariant.2 c.before.before.before.before.before.before.step.given.0.0 n.0 n.1)
+overflow_add-noted : tie.Need-overflow_add-noted invariant-loop decreases-loop
+overflow_add-noted c =
+    let n = c.before.before.note-noted.ensures in
+    omega (arith, noting_within c.before.before.before.before.before.before.before.before.loop-step.invariant.2 c.before.before.before.before.before.in-More.step n.0 n.1)
 
-add-i : tie.Need-overflow-add-i invariant-loop decreases-loop
-add-i c = let t = taken c.before.before.before.before.before in omega (arith, c.before.before.before.before.before.before.before.before.before.before.before.before.before.before.before.before.before.well-formed, c.taken-by.ensures, t.inside)
+overflow_add-i : tie.Need-overflow_add-i invariant-loop decreases-loop
+overflow_add-i c = let t = taken c.before.before.before.before.before in omega (arith, c.before.before.before.before.before.before.before.before.before.before.before.before.before.before.before.well_formed, c.taken_by-i.ensures, t.inside)
 
-loop-less : tie.Need-loop-smaller invariant-loop decreases-loop
-loop-less c = let t = taken c.before.before.before.before.before in omega (arith, c.taken-by.ensures, t.grows, t.inside, t.right.inside)
+loop-less : tie.Need-loop-step-smaller invariant-loop decreases-loop
+loop-less c = let t = taken c.before.before.before.before.before in omega (arith, c.taken_by-i.ensures, t.grows, t.inside, t.right.inside)
 
-loop-again : tie.Need-loop-preserved invariant-loop decreases-loop
+loop-again : tie.Need-loop-step-preserved invariant-loop decreases-loop
 loop-again c =
     let t = taken c.before.before.before.before.before in
-    let l = c.before.before.before.before.before.before.before.before.before.before.before.loop.invariant in
-    let n = c.before.before.before.note.ensures in
-    (after l.0 c.taken-by.ensures t, counted c.before.before.before.before.before, noting_more l.2 c.before.before.before.before.before.before.before.step.given.0.0 n.0 n.1 t.is t.bytes_are t.some)
+    let l = c.before.before.before.before.before.before.before.before.before.loop-step.invariant in
+    let n = c.before.before.before.note-noted.ensures in
+    (after l.0 c.taken_by-i.ensures t, counted c.before.before.before.before.before, noting_more l.2 c.before.before.before.before.before.before.in-More.step n.0 n.1 t.is t.bytes_are t.some)
 
 pub note_records_spec : {M : Type 1} → statement M
 note_records_spec =
@@ -98,14 +98,14 @@ note_records_spec =
     (λ c κs. search rules)
     (λ c. search rules)
     (λ c. search rules)
-    same_length
-    returns
-    sub-bytes
-    add-bytes
-    add-count
+    shape_of-notes-in_default
+    returns-in_default
+    overflow_sub-bytes
+    overflow_add-bytes
+    overflow_add-count
     (λ c κs. search rules)
-    add-noted
+    overflow_add-noted
     (λ c κs. search rules)
-    add-i
+    overflow_add-i
     loop-less
     loop-again)

@@ -11,10 +11,10 @@ use borrow.Author.Rules.{rules}
 use Rattle.accept.proofs.accepting.sort.Statement.{statement}
 use Rattle.accept.proofs.accepting.sort.Tie as tie
 
-abbrev invariant-loop : tie.invariant-loop
+abbrev invariant-loop : tie.invariant-loop-f
 invariant-loop s places₀ at₀ n₀ places at n = Sorting s places at n × ((n ≤ 512) × (length places ≡ 512))
 
-abbrev decreases-loop : tie.decreases-loop
+abbrev decreases-loop : tie.decreases-loop-f
 decreases-loop s places₀ at₀ n₀ places at n = length s - at
 
 -- the first n places, as they are lent
@@ -22,71 +22,71 @@ lent : (l : List ℕ) (n : ℕ) → take (n - 0) l ≡ take n l
 lent l n = let same : n - 0 ≡ n = omega arith in ap (λ (k : ℕ). take k l) same
 
 -- there is one more record, so they are not all
-few : (c : tie.After-known-told invariant-loop decreases-loop) → c.before.before.before.before.loop.n < 512
-few c = sorting_few c.before.before.before.before.before.before.before.requires.0 c.before.before.before.before.loop.invariant.0 c.before.before.before.outline-at.ensures c.before.f.given.1
+few : (c : tie.In-Whole invariant-loop decreases-loop) → c.before.before.loop-f.n < 512
+few c = sorting_few c.before.before.before.before.before.requires.0 c.before.before.loop-f.invariant.0 c.before.outline_at.ensures c.in-Whole.is
 
 -- its slot is behind at most all of them
-slot : (c : tie.After-known-told2 invariant-loop decreases-loop) → c.before.j.given.0.0 ≤ c.before.before.before.before.before.before.before.before.before.before.loop.n
+slot : (c : tie.In-Free invariant-loop decreases-loop) → c.in-Free.j ≤ c.before.before.before.before.before.before.loop.n
 slot c =
-    let l = c.before.before.before.before.before.before.before.before.before.before.loop in
-    let k = sorting_slot c.before.before.before.before.before.before.before.before.before.before.before.before.before.requires.0 l.invariant.0 c.before.before.before.before.before.before.before.before.before.outline-at.ensures c.before.before.before.before.before.before.before.f.given.1 (lent l.places l.n) c.before.before.before.slot_of.ensures c.before.j.given.1 in
-    omega (arith, k, ap length (lent l.places l.n), length-take-le l.n l.places (omega (arith, l.invariant.1, few c.before.before.before.before.before.before)))
+    let l = c.before.before.before.before.before.before.loop in
+    let k = sorting_slot c.before.before.before.before.before.before.before.before.before.before.before.before.before.requires.0 l.invariant.0 c.before.before.before.before.before.outline-at.ensures c.before.before.before.in-Whole.is (lent l.places l.n) c.before.slot_of.ensures c.in-Free.is in
+    omega (arith, k, ap length (lent l.places l.n), length-take-le l.n l.places (omega (arith, l.invariant.1, few c.before.before.before)))
 
-loop-holds : tie.Need-loop-init invariant-loop decreases-loop
+loop-holds : tie.Need-loop-f-init invariant-loop decreases-loop
 loop-holds c = (sorting_none c.before.before.args.s.now c.before.before.args.places.now c.before.before.requires.0, (omega arith, c.before.before.requires.1))
 
-same_length : tie.Need-same-length invariant-loop decreases-loop
-same_length c = c.before.before.before.loop.invariant.1.1 ∙ sym c.before.before.before.before.before.before.requires.1
+shape_of-places-in_default : tie.Need-shape_of-places-in_default invariant-loop decreases-loop
+shape_of-places-in_default c = c.before.before.loop-f.invariant.1.1 ∙ sym c.before.before.before.before.before.requires.1
 
-returns : tie.Need-returns invariant-loop decreases-loop
-returns c = (omega (arith, c.before.before.before.loop.invariant.1), sorting_all c.before.before.before.before.before.before.requires.0 c.before.before.before.loop.invariant.0 c.before.before.outline-at.ensures c.enum_told.given.1)
+returns-in_default : tie.Need-returns-in_default invariant-loop decreases-loop
+returns-in_default c = (omega (arith, c.before.before.loop-f.invariant.1), sorting_all c.before.before.before.before.before.requires.0 c.before.before.loop-f.invariant.0 c.before.outline_at.ensures c.in_default.is)
 
-part-slot-of-start : tie.Need-slice-bounds-slot-of-start invariant-loop decreases-loop
-part-slot-of-start c = omega arith
+slice_bounds-slot_of-start : tie.Need-slice_bounds-slot_of-start invariant-loop decreases-loop
+slice_bounds-slot_of-start c = omega arith
 
-part-slot-of-end : tie.Need-slice-bounds-slot-of-end invariant-loop decreases-loop
-part-slot-of-end c = omega (arith, c.before.before.before.before.before.loop.invariant.1)
+slice_bounds-slot_of-end : tie.Need-slice_bounds-slot_of-end invariant-loop decreases-loop
+slice_bounds-slot_of-end c = omega (arith, c.before.before.before.loop.invariant.1)
 
-same-length-2 : tie.Need-same-length-2 invariant-loop decreases-loop
-same-length-2 c = c.before.before.before.before.before.before.before.before.before.loop.invariant.1.1 ∙ sym c.before.before.before.before.before.before.before.before.before.before.before.before.requires.1
+shape_of-places-in_default-slot_of : tie.Need-shape_of-places-in_default-slot_of invariant-loop decreases-loop
+shape_of-places-in_default-slot_of c = c.before.before.before.before.before.before.loop.invariant.1.1 ∙ sym c.before.before.before.before.before.before.before.before.before.before.before.before.requires.1
 
-returns-2 : tie.Need-returns-2 invariant-loop decreases-loop
-returns-2 c = let l = c.before.before.before.before.before.before.before.before.before.loop in sorting_repeated c.before.before.before.before.before.before.before.before.before.before.before.before.requires.0 l.invariant.0 c.before.before.before.before.before.before.before.before.outline-at.ensures c.before.before.before.before.before.before.f.given.1 (lent l.places l.n) c.before.before.slot_of.ensures c.enum-told2.given.1
+returns-in_default-slot_of : tie.Need-returns-in_default-slot_of invariant-loop decreases-loop
+returns-in_default-slot_of c = let l = c.before.before.before.before.before.before.loop in sorting_repeated c.before.before.before.before.before.before.before.before.before.before.before.before.requires.0 l.invariant.0 c.before.before.before.before.before.outline-at.ensures c.before.before.before.in-Whole.is (lent l.places l.n) c.before.slot_of.ensures c.in_default-slot_of.is
 
-add-insert-at : tie.Need-overflow-add-insert-at invariant-loop decreases-loop
-add-insert-at c = omega (arith, few c.before.before.before.before.before.before)
+overflow_add-n : tie.Need-overflow_add-n invariant-loop decreases-loop
+overflow_add-n c = omega (arith, few c.before.before.before)
 
-sub-insert-at : tie.Need-overflow-sub-insert-at invariant-loop decreases-loop
-sub-insert-at c = omega arith
+slice_bounds-insert_at-count : tie.Need-slice_bounds-insert_at-count invariant-loop decreases-loop
+slice_bounds-insert_at-count c = omega arith
 
-part-insert-at-start : tie.Need-slice-bounds-insert-at-start invariant-loop decreases-loop
-part-insert-at-start c = omega arith
+slice_bounds-insert_at-start : tie.Need-slice_bounds-insert_at-start invariant-loop decreases-loop
+slice_bounds-insert_at-start c = omega arith
 
-part-insert-at-end : tie.Need-slice-bounds-insert-at-end invariant-loop decreases-loop
-part-insert-at-end c = omega (arith, few c.before.before.before.before.before.before, c.before.before.before.before.before.before.before.before.before.before.loop.invariant.1)
+slice_bounds-insert_at-end : tie.Need-slice_bounds-insert_at-end invariant-loop decreases-loop
+slice_bounds-insert_at-end c = omega (arith, few c.before.before.before, c.before.before.before.before.before.before.loop.invariant.1)
 
-insert-at-requires : tie.Need-insert-at-requires invariant-loop decreases-loop
-insert-at-requires c κs =
-    let l = c.before.before.before.before.before.before.before.before.before.before.before.loop in
-    omega (arith, slot c.before, ap length (lent l.places (l.n + 1)), length-take-le (l.n + 1) l.places (omega (arith, few c.before.before.before.before.before.before.before, l.invariant.1)))
+insert_at-requires : tie.Need-insert_at-requires invariant-loop decreases-loop
+insert_at-requires c κs =
+    let l = c.before.before.before.before.before.before.before.loop in
+    omega (arith, slot c.before, ap length (lent l.places (l.n + 1)), length-take-le (l.n + 1) l.places (omega (arith, few c.before.before.before.before, l.invariant.1)))
 
-add-n : tie.Need-overflow-add-n invariant-loop decreases-loop
-add-n c = omega (arith, few c.before.before.before.before.before.before.before.before.before.before)
+overflow_add-n-in-loop-f : tie.Need-overflow_add-n invariant-loop decreases-loop
+overflow_add-n-in-loop-f c = omega (arith, few c.before.before.before.before.before.before)
 
-loop-less : tie.Need-loop-smaller invariant-loop decreases-loop
-loop-less c = omega (arith, sorting_grows c.before.before.before.before.before.before.before.before.before.before.before.before.before.before.before.before.before.requires.0 c.before.before.before.before.before.before.before.before.before.before.before.before.before.before.loop.invariant.0 c.before.before.before.before.before.before.before.before.before.before.before.before.before.outline-at.ensures c.before.before.before.before.before.before.before.before.before.before.before.f.given.1)
+loop-less : tie.Need-loop-f-smaller invariant-loop decreases-loop
+loop-less c = omega (arith, sorting_grows c.before.before.before.before.before.before.before.before.before.before.before.before.before.before.before.before.before.requires.0 c.before.before.before.before.before.before.before.before.before.before.loop.invariant.0 c.before.before.before.before.before.before.before.before.before.outline-at.ensures c.before.before.before.before.before.before.before.in-Whole.is)
 
-loop-again : tie.Need-loop-preserved invariant-loop decreases-loop
+loop-again : tie.Need-loop-f-preserved invariant-loop decreases-loop
 loop-again c =
-    let l = c.before.before.before.before.before.before.before.before.before.before.before.before.before.before.loop in
-    let j = c.before.before.before.before.before.j.given.0.0 in
-    let n : l.n < length l.places = omega (arith, few c.before.before.before.before.before.before.before.before.before.before, l.invariant.1) in
-    let long = inserted_long l.places l.n j l.at (take (l.n + 1 - 0) l.places) c.before.before.insert-at.new.0 n (slot c.before.before.before.before) (lent l.places (l.n + 1)) c.before.before.insert-at.ensures in (
-      sorting_more c.before.before.before.before.before.before.before.before.before.before.before.before.before.before.before.before.before.requires.0 l.invariant.0 c.before.before.before.before.before.before.before.before.before.before.before.before.before.outline-at.ensures c.before.before.before.before.before.before.before.before.before.before.before.f.given.1 (lent l.places l.n) c.before.before.before.before.before.before.before.slot_of.ensures c.before.before.before.before.before.j.given.1
-          (inserted l.places l.n j l.at (take (l.n + 1 - 0) l.places) c.before.before.insert-at.new.0 n (slot c.before.before.before.before) (lent l.places (l.n + 1)) c.before.before.insert-at.ensures (drop (l.n + 1 - 0) l.places)),
+    let l = c.before.before.before.before.before.before.before.before.before.before.loop in
+    let j = c.before.before.before.before.in-Free.j in
+    let n : l.n < length l.places = omega (arith, few c.before.before.before.before.before.before.before, l.invariant.1) in
+    let long = inserted_long l.places l.n j l.at (take (l.n + 1 - 0) l.places) c.before.before.insert_at.new.places n (slot c.before.before.before.before) (lent l.places (l.n + 1)) c.before.before.insert_at.ensures in (
+      sorting_more c.before.before.before.before.before.before.before.before.before.before.before.before.before.before.before.before.before.requires.0 l.invariant.0 c.before.before.before.before.before.before.before.before.before.outline-at.ensures c.before.before.before.before.before.before.before.in-Whole.is (lent l.places l.n) c.before.before.before.before.before.slot_of.ensures c.before.before.before.before.in-Free.is
+          (inserted l.places l.n j l.at (take (l.n + 1 - 0) l.places) c.before.before.insert_at.new.places n (slot c.before.before.before.before) (lent l.places (l.n + 1)) c.before.before.insert_at.ensures (drop (l.n + 1 - 0) l.places)),
       (
-        omega (arith, few c.before.before.before.before.before.before.before.before.before.before),
-        length-append c.before.before.insert-at.new.0 (drop (l.n + 1 - 0) l.places) ∙ omega (arith, long, length-drop (l.n + 1 - 0) l.places, few c.before.before.before.before.before.before.before.before.before.before, l.invariant.1),
+        omega (arith, few c.before.before.before.before.before.before.before),
+        length-append c.before.before.insert_at.new.places (drop (l.n + 1 - 0) l.places) ∙ omega (arith, long, length-drop (l.n + 1 - 0) l.places, few c.before.before.before.before.before.before.before, l.invariant.1),
       ),
     )
 
@@ -100,21 +100,21 @@ sort_spec =
     (λ c κs. search rules)
     (λ c. search rules)
     (λ c. search rules)
-    same_length
-    returns
+    shape_of-places-in_default
+    returns-in_default
     (λ c. search rules)
-    part-slot-of-start
-    part-slot-of-end
+    slice_bounds-slot_of-start
+    slice_bounds-slot_of-end
     (λ c κs. search rules)
     (λ c. search rules)
     (λ c. search rules)
-    same-length-2
-    returns-2
-    add-insert-at
-    sub-insert-at
-    part-insert-at-start
-    part-insert-at-end
-    insert-at-requires
-    add-n
+    shape_of-places-in_default-slot_of
+    returns-in_default-slot_of
+    overflow_add-n
+    slice_bounds-insert_at-count
+    slice_bounds-insert_at-start
+    slice_bounds-insert_at-end
+    insert_at-requires
+    overflow_add-n-in-loop-f
     loop-less
     loop-again)

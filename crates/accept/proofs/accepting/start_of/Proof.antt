@@ -5,11 +5,11 @@ use lib.ListN.{length}
 use Rattle.accept.proofs.accepting.start_of.Statement.{statement}
 use Rattle.accept.proofs.accepting.start_of.Tie as tie
 
-returns : tie.Need-returns
-returns c = ap (λ (b : Bool). cond b 4 (length c.before.args.old.now)) (sym c.if1.true)
+returns-then-update : tie.Need-returns-then-update
+returns-then-update c = ap (λ (b : Bool). cond b 4 (length c.before.args.old.now)) (sym c.if-update.true)
 
-returns-2 : tie.Need-returns-2
-returns-2 c = ap (λ (b : Bool). cond b 4 (length c.before.args.old.now)) (sym c.if1.false)
+returns : tie.Need-returns
+returns c = ap (λ (b : Bool). cond b 4 (length c.before.args.old.now)) (sym c.if-update.false)
 
 pub start_of_spec : {M : Type 1} → statement M
-start_of_spec = tie.close (tie.spec returns returns-2)
+start_of_spec = tie.close (tie.spec returns-then-update returns)

@@ -5,29 +5,29 @@ use borrow.Author.Rules.{rules}
 use Rattle.accept.proofs.next.next_at.Statement.{statement}
 use Rattle.accept.proofs.next.next_at.Tie as tie
 
-returns : tie.Need-returns
-returns c =
-    let e = c.before.before.before.before.before in
+returns-in-Short-outline_at : tie.Need-returns-in-Short-outline_at
+returns-in-Short-outline_at c =
+    let e = c.before.before.before in
     let s = e.before.before.before.args in
-    next_by_lem s.s.now s.at s.old.now s.j e.outline-at.ensures c.before.before.before.enum_told.given.1 c.before.before.outline-at2.ensures c.enum-told2.given.1 refl
+    next_by_lem s.s.now s.at s.old.now s.j e.outline_at.ensures c.before.before.in-Short.is c.before.outline_at-in-Short.ensures c.in-Short-outline_at.is refl
 
-returns-2 : tie.Need-returns-2
-returns-2 c =
-    let e = c.before.before.before.before.before.before.before in
+returns-in-Whole-outline_at : tie.Need-returns-in-Whole-outline_at
+returns-in-Whole-outline_at c =
+    let e = c.before.before.before.before in
     let s = e.before.before.before.args in
-    next_by_lem s.s.now s.at s.old.now s.j e.outline-at.ensures c.before.before.before.before.before.enum_told.given.1 c.before.before.before.before.outline-at2.ensures c.before.before.g.given.1 c.from-right.ensures
+    next_by_lem s.s.now s.at s.old.now s.j e.outline_at.ensures c.before.before.before.in-Short.is c.before.before.outline_at-in-Short.ensures c.before.in-Whole-outline_at.is c.from_right.ensures
 
-returns-3 : tie.Need-returns-3
-returns-3 c =
-    let e = c.before.before.before.before.before.before.before in
+returns-in-Short-outline_at-2 : tie.Need-returns-in-Short-outline_at-2
+returns-in-Short-outline_at-2 c =
+    let e = c.before.before.before.before in
     let s = e.before.before.before.args in
-    next_by_lem s.s.now s.at s.old.now s.j e.outline-at.ensures c.before.before.before.before.before.f.given.1 c.before.before.before.outline-at3.ensures c.before.enum-told3.given.1 c.from-left.ensures
+    next_by_lem s.s.now s.at s.old.now s.j e.outline_at.ensures c.before.before.before.in-Whole.is c.before.before.outline_at-in-Whole.ensures c.before.in-Short-outline_at-2.is c.from_left.ensures
 
-returns-4 : tie.Need-returns-4
-returns-4 c =
-    let e = c.before.before.before.before.before.before.before.before in
+returns-in-Whole-outline_at-2 : tie.Need-returns-in-Whole-outline_at-2
+returns-in-Whole-outline_at-2 c =
+    let e = c.before.before.before.before in
     let s = e.before.before.before.args in
-    next_by_lem s.s.now s.at s.old.now s.j e.outline-at.ensures c.before.before.before.before.before.before.f.given.1 c.before.before.before.before.outline-at3.ensures c.before.before.g2.given.1 c.by_names.ensures
+    next_by_lem s.s.now s.at s.old.now s.j e.outline_at.ensures c.before.before.before.in-Whole.is c.before.before.outline_at-in-Whole.ensures c.before.in-Whole-outline_at-2.is c.by_names.ensures
 
 pub next_at_spec : {M : Type 1} → statement M
 next_at_spec =
@@ -45,7 +45,7 @@ next_at_spec =
     (λ c κs. search rules)
     (λ c. search rules)
     (λ c κs. search rules)
-    returns
-    returns-2
-    returns-3
-    returns-4)
+    returns-in-Short-outline_at
+    returns-in-Whole-outline_at
+    returns-in-Short-outline_at-2
+    returns-in-Whole-outline_at-2)

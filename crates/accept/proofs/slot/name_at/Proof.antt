@@ -8,17 +8,17 @@ use Rattle.accept.proofs.slot.name_at.Statement.{statement}
 use Rattle.accept.proofs.slot.name_at.Tie as tie
 
 -- the length of the name
-length-there : (c : tie.After-known-told) → There 4 word_at c.before.before.before.before.before.args.s.now c.before.before.before.before.before.args.at c.before.n.given.0.0 c.before.n.given.0.1.0
-length-there c = word_there c.before.before.before.read_word.ensures c.before.n.given.1
+length-there : (c : tie.In-Taken) → There 4 word_at c.before.before.before.args.s.now c.before.before.before.args.at c.in-Taken.n c.in-Taken.name
+length-there c = word_there c.before.read_word.ensures c.in-Taken.is
+
+returns-in_default : tie.Need-returns-in_default
+returns-in_default c = name_missing c.before.before.before.before.args.s.now c.before.before.before.before.args.at (word_missing c.before.before.read_word.ensures c.before.in_default.is).cut
+
+overflow_add-name : tie.Need-overflow_add-name
+overflow_add-name c = omega (arith, (length-there c).room)
 
 returns : tie.Need-returns
-returns c = name_missing c.before.before.before.before.before.args.s.now c.before.before.before.before.before.args.at (word_missing c.before.before.before.read_word.ensures c.before.enum_told.given.1).cut
-
-add-part : tie.Need-overflow-add-part
-add-part c = omega (arith, (length-there c).room)
-
-returns-2 : tie.Need-returns-2
-returns-2 c = name_there c.before.before.before.before.before.before.args.s.now c.before.before.before.before.before.before.args.at (length-there c.before) c.part.ensures
+returns c = name_there c.before.before.before.before.args.s.now c.before.before.before.before.args.at (length-there c.before) c.part.ensures
 
 pub name_at_spec : {M : Type 1} → statement M
 name_at_spec =
@@ -30,8 +30,8 @@ name_at_spec =
     (λ c. search rules)
     (λ c. search rules)
     (λ c. search rules)
-    returns
+    returns-in_default
     (λ c. search rules)
-    add-part
+    overflow_add-name
     (λ c κs. search rules)
-    returns-2)
+    returns)

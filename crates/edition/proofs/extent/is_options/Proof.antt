@@ -22,8 +22,8 @@ not-options (M.IndexUpdate id x) h = refl
 not-options (M.Options id x) h = absurd (miss (0 ∷ 1 ∷ 2 ∷ 3 ∷ 4 ∷ 5 ∷ 7 ∷ []) 6 tt h)
 not-options (M.Refused r) h = refl
 
-returns : tie.Need-returns
-returns c = not-options c.before.args.m c.match.keys2
+returns-in_default : tie.Need-returns-in_default
+returns-in_default c = not-options c.before.args.m c.in_default.in_default-own.keys2
 
 pub is_options_spec : {M : Type 1} → statement M
-is_options_spec = tie.close (tie.spec (λ c. search rules) returns (λ c. search rules))
+is_options_spec = tie.close (tie.spec (λ c. search rules) returns-in_default (λ c. search rules))

@@ -11,58 +11,58 @@ use borrow.Author.Rules.{rules}
 use Rattle.edition.proofs.turning.downgrade.Statement.{statement}
 use Rattle.edition.proofs.turning.downgrade.Tie as tie
 
-response : (c : tie.Then1) → Sent E.New c.before.before.before.before.args.message.now false (c.before.response-end.result - 0)
-response c = whole_part (response_sent E.New (c.before.response-end.ensures (omega (arith, c.if1.true))))
+response : (c : tie.Then-response-ne0) → Sent E.New c.before.before.before.before.args.message.now false (c.before.response_end-response.result - 0)
+response c = whole_part (response_sent E.New (c.before.response_end-response.ensures (omega (arith, c.if-response-ne0.true))))
 
-part-whole-end : tie.Need-slice-bounds-whole-end
-part-whole-end c = omega (arith, sent_within (response c))
+slice_bounds-whole-end : tie.Need-slice_bounds-whole-end
+slice_bounds-whole-end c = omega (arith, sent_within (response c))
 
-returns : tie.Need-returns
-returns c =
+returns-then-response-ne0 : tie.Need-returns-then-response-ne0
+returns-then-response-ne0 c =
     let a = c.before.before.before.before.before.before.before.before.before.args in
     let x = response c.before.before.before.before.before in
-    let both = others_sent E.New a.message.now refl (response_others E.New (c.before.before.before.before.before.before.response-end.ensures (omega (arith, c.before.before.before.before.before.if1.true)))) x.value _ x.reads in
-    fills_same a.out.now (downgraded_same (λ i. (c.before.before.before.before.before.before.before.before.shared-slice-known.given i).fits) x both) c.before.before.whole.ensures
+    let both = others_sent E.New a.message.now refl (response_others E.New (c.before.before.before.before.before.before.response_end-response.ensures (omega (arith, c.before.before.before.before.before.if-response-ne0.true)))) x.value _ x.reads in
+    fills_same a.out.now (downgraded_same (λ i. (c.before.before.before.before.before.before.before.before.shared_slice_known-1.given i).fits) x both) c.before.before.whole.ensures
 
-named : (c : tie.After-known-told) → Sent E.New c.before.before.before.before.before.before.before.before.before.before.before.args.message.now true (c.before.extent.given.0.0 - 0)
-named c = whole_part (sent E.New c.before.before.before.before.before.before.before.before.before.before.before.args.message.now c.before.before.before.before.before.before.read.ensures true c.before.extent.given.0.0 c.before.before.before.extent-of.ensures c.before.extent.given.1)
+named : (c : tie.In-Named) → Sent E.New c.before.before.before.before.before.before.before.before.before.args.message.now true (c.in-Named.end - 0)
+named c = whole_part (sent E.New c.before.before.before.before.before.before.before.before.before.args.message.now c.before.before.before.before.read-m.ensures true c.in-Named.end c.before.extent_of-extent.ensures c.in-Named.is)
 
-same : (c : tie.After-known-told2) → Sent E.New c.before.before.before.before.before.before.before.before.before.before.before.args.message.now false (c.before.extent2.given.0.0 - 0)
-same c = whole_part (sent E.New c.before.before.before.before.before.before.before.before.before.before.before.args.message.now c.before.before.before.before.before.before.read.ensures false c.before.extent2.given.0.0 c.before.before.before.extent-of.ensures c.before.extent2.given.1)
+same : (c : tie.In-Same) → Sent E.New c.before.before.before.before.before.before.before.before.before.args.message.now false (c.in-Same.end - 0)
+same c = whole_part (sent E.New c.before.before.before.before.before.before.before.before.before.args.message.now c.before.before.before.before.read-m.ensures false c.in-Same.end c.before.extent_of-extent.ensures c.in-Same.is)
 
-returns-2 : tie.Need-returns-2
-returns-2 c =
+returns-then-is_options : tie.Need-returns-then-is_options
+returns-then-is_options c =
     let a = c.before.before.before.before.before.before.before.before.args in
-    let o = options_sent E.New a.message.now c.before.before.before.read.ensures (sym c.before.before.is-options.ensures ∙ c.before.if2.true) in
+    let o = options_sent E.New a.message.now c.before.before.before.read-m.ensures (sym c.before.before.is_options.ensures ∙ c.before.if-is_options.true) in
     fills_refused a.out.now (downgrade_options a.message.now o.2 o.3) c.refused.ensures
 
-part-without-repository-end : tie.Need-slice-bounds-without-repository-end
-part-without-repository-end c = omega (arith, sent_within (named c))
+slice_bounds-without_repository-end : tie.Need-slice_bounds-without_repository-end
+slice_bounds-without_repository-end c = omega (arith, sent_within (named c))
 
-without-repository-requires : tie.Need-without-repository-requires
-without-repository-requires c κs = sent_header (λ i. (c.before.before.before.before.before.before.before.before.before.before.before.before.shared-slice-known.given i).fits) (named c.before.before)
+without_repository-requires : tie.Need-without_repository-requires
+without_repository-requires c κs = sent_header (λ i. (c.before.before.before.before.before.before.before.before.before.before.shared_slice_known-1.given i).fits) (named c.before.before)
 
-part-whole-end-2 : tie.Need-slice-bounds-whole-end-2
-part-whole-end-2 c = omega (arith, sent_within (same c))
+slice_bounds-whole-end-in-Same : tie.Need-slice_bounds-whole-end-in-Same
+slice_bounds-whole-end-in-Same c = omega (arith, sent_within (same c))
 
-returns-3 : tie.Need-returns-3
-returns-3 c =
-    let a = c.before.before.before.before.before.before.before.before.before.before.before.before.before.before.before.before.args in
+returns-in-Named : tie.Need-returns-in-Named
+returns-in-Named c =
+    let a = c.before.before.before.before.before.before.before.before.before.before.before.before.before.before.args in
     let x = named c.before.before.before.before.before in
-    let both = others_sent E.New a.message.now c.before.before.before.before.before.before.before.before.before.before.before.read.ensures (sym c.before.before.before.before.before.before.before.before.before.before.is-options.ensures ∙ c.before.before.before.before.before.before.before.before.before.if2.false) x.value _ x.reads in
-    fills_same a.out.now (downgraded_named (λ i. (c.before.before.before.before.before.before.before.before.before.before.before.before.before.before.before.shared-slice-known.given i).fits) x both) c.before.before.without-repository.ensures
+    let both = others_sent E.New a.message.now c.before.before.before.before.before.before.before.before.before.read-m.ensures (sym c.before.before.before.before.before.before.before.before.is_options.ensures ∙ c.before.before.before.before.before.before.before.if-is_options.false) x.value _ x.reads in
+    fills_same a.out.now (downgraded_named (λ i. (c.before.before.before.before.before.before.before.before.before.before.before.before.before.shared_slice_known-1.given i).fits) x both) c.before.before.without_repository.ensures
 
-returns-4 : tie.Need-returns-4
-returns-4 c =
-    let a = c.before.before.before.before.before.before.before.before.before.before.before.before.before.before.before.before.args in
+returns-in-Same : tie.Need-returns-in-Same
+returns-in-Same c =
+    let a = c.before.before.before.before.before.before.before.before.before.before.before.before.before.before.args in
     let x = same c.before.before.before.before.before in
-    let both = others_sent E.New a.message.now c.before.before.before.before.before.before.before.before.before.before.before.read.ensures (sym c.before.before.before.before.before.before.before.before.before.before.is-options.ensures ∙ c.before.before.before.before.before.before.before.before.before.if2.false) x.value _ x.reads in
-    fills_same a.out.now (downgraded_same (λ i. (c.before.before.before.before.before.before.before.before.before.before.before.before.before.before.before.shared-slice-known.given i).fits) x both) c.before.before.whole2.ensures
+    let both = others_sent E.New a.message.now c.before.before.before.before.before.before.before.before.before.read-m.ensures (sym c.before.before.before.before.before.before.before.before.is_options.ensures ∙ c.before.before.before.before.before.before.before.if-is_options.false) x.value _ x.reads in
+    fills_same a.out.now (downgraded_same (λ i. (c.before.before.before.before.before.before.before.before.before.before.before.before.before.shared_slice_known-1.given i).fits) x both) c.before.before.whole-in-Same.ensures
 
-returns-5 : tie.Need-returns-5
-returns-5 c =
-    let a = c.before.before.before.before.before.before.before.before.before.before.before.args in
-    fills_refused a.out.now (downgrade_refused a.message.now (unsent E.New a.message.now c.before.before.before.before.before.before.read.ensures c.before.before.before.extent-of.ensures c.before.extent3.given.1)) refl
+returns-in-Refused : tie.Need-returns-in-Refused
+returns-in-Refused c =
+    let a = c.before.before.before.before.before.before.before.before.before.args in
+    fills_refused a.out.now (downgrade_refused a.message.now (unsent E.New a.message.now c.before.before.before.before.read-m.ensures c.before.extent_of-extent.ensures c.in-Refused.is)) refl
 
 pub downgrade_spec : {M : Type 1} → statement M
 downgrade_spec =
@@ -71,28 +71,28 @@ downgrade_spec =
     (λ c κs. search rules)
     (λ c. search rules)
     (λ c. search rules)
-    part-whole-end
+    slice_bounds-whole-end
     (λ c κs. search rules)
     (λ c. search rules)
-    returns
+    returns-then-response-ne0
     (λ c κs. search rules)
     (λ c κs. search rules)
     (λ c κs. search rules)
-    returns-2
-    (λ c κs. search rules)
-    (λ c. search rules)
-    (λ c. search rules)
-    (λ c. search rules)
-    part-without-repository-end
-    without-repository-requires
-    (λ c. search rules)
-    (λ c. search rules)
-    (λ c. search rules)
-    part-whole-end-2
+    returns-then-is_options
     (λ c κs. search rules)
     (λ c. search rules)
     (λ c. search rules)
-    returns-3
     (λ c. search rules)
-    returns-4
-    returns-5)
+    slice_bounds-without_repository-end
+    without_repository-requires
+    (λ c. search rules)
+    (λ c. search rules)
+    (λ c. search rules)
+    slice_bounds-whole-end-in-Same
+    (λ c κs. search rules)
+    (λ c. search rules)
+    (λ c. search rules)
+    returns-in-Named
+    (λ c. search rules)
+    returns-in-Same
+    returns-in-Refused)

@@ -11,40 +11,40 @@ use borrow.Author.Rules.{rules}
 use Rattle.edition.proofs.turning.upgrade.Statement.{statement}
 use Rattle.edition.proofs.turning.upgrade.Tie as tie
 
-response : (c : tie.Then1) → Sent E.Old c.before.before.before.before.before.args.message.now false (c.before.response-end.result - 0)
-response c = whole_part (response_sent E.Old (c.before.response-end.ensures (omega (arith, c.if1.true))))
+response : (c : tie.Then-response-ne0) → Sent E.Old c.before.before.before.before.before.args.message.now false (c.before.response_end-response.result - 0)
+response c = whole_part (response_sent E.Old (c.before.response_end-response.ensures (omega (arith, c.if-response-ne0.true))))
 
-part-whole-end : tie.Need-slice-bounds-whole-end
-part-whole-end c = omega (arith, sent_within (response c))
+slice_bounds-whole-end : tie.Need-slice_bounds-whole-end
+slice_bounds-whole-end c = omega (arith, sent_within (response c))
 
-returns : tie.Need-returns
-returns c = let a = c.before.before.before.before.before.before.before.before.before.before.args in fills_same a.out.now (upgraded_same a.repository.now (λ i. (c.before.before.before.before.before.before.before.before.before.shared-slice-known.given i).fits) (response c.before.before.before.before.before)) c.before.before.whole.ensures
+returns-then-response-ne0 : tie.Need-returns-then-response-ne0
+returns-then-response-ne0 c = let a = c.before.before.before.before.before.before.before.before.before.before.args in fills_same a.out.now (upgraded_same a.repository.now (λ i. (c.before.before.before.before.before.before.before.before.before.shared_slice_known-1.given i).fits) (response c.before.before.before.before.before)) c.before.before.whole.ensures
 
-named : (c : tie.After-known-told) → Sent E.Old c.before.before.before.before.before.before.before.before.before.before.args.message.now true (c.before.extent.given.0.0 - 0)
-named c = whole_part (sent E.Old c.before.before.before.before.before.before.before.before.before.before.args.message.now c.before.before.before.before.read.ensures true c.before.extent.given.0.0 c.before.before.before.extent-of.ensures c.before.extent.given.1)
+named : (c : tie.In-Named) → Sent E.Old c.before.before.before.before.before.before.before.before.args.message.now true (c.in-Named.end - 0)
+named c = whole_part (sent E.Old c.before.before.before.before.before.before.before.before.args.message.now c.before.before.read.ensures true c.in-Named.end c.before.extent_of-extent.ensures c.in-Named.is)
 
-same : (c : tie.After-known-told2) → Sent E.Old c.before.before.before.before.before.before.before.before.before.before.args.message.now false (c.before.extent2.given.0.0 - 0)
-same c = whole_part (sent E.Old c.before.before.before.before.before.before.before.before.before.before.args.message.now c.before.before.before.before.read.ensures false c.before.extent2.given.0.0 c.before.before.before.extent-of.ensures c.before.extent2.given.1)
+same : (c : tie.In-Same) → Sent E.Old c.before.before.before.before.before.before.before.before.args.message.now false (c.in-Same.end - 0)
+same c = whole_part (sent E.Old c.before.before.before.before.before.before.before.before.args.message.now c.before.before.read.ensures false c.in-Same.end c.before.extent_of-extent.ensures c.in-Same.is)
 
-part-with-repository-end : tie.Need-slice-bounds-with-repository-end
-part-with-repository-end c = omega (arith, sent_within (named c))
+slice_bounds-with_repository-end : tie.Need-slice_bounds-with_repository-end
+slice_bounds-with_repository-end c = omega (arith, sent_within (named c))
 
-with-repository-requires : tie.Need-with-repository-requires
-with-repository-requires c κs = sent_header (λ i. (c.before.before.before.before.before.before.before.before.before.before.before.shared-slice-known.given i).fits) (named c.before.before)
+with_repository-requires : tie.Need-with_repository-requires
+with_repository-requires c κs = sent_header (λ i. (c.before.before.before.before.before.before.before.before.before.shared_slice_known-1.given i).fits) (named c.before.before)
 
-part-whole-end-2 : tie.Need-slice-bounds-whole-end-2
-part-whole-end-2 c = omega (arith, sent_within (same c))
+slice_bounds-whole-end-in-Same : tie.Need-slice_bounds-whole-end-in-Same
+slice_bounds-whole-end-in-Same c = omega (arith, sent_within (same c))
 
-returns-2 : tie.Need-returns-2
-returns-2 c = let a = c.before.before.before.before.before.before.before.before.before.before.before.before.before.before.before.args in fills_same a.out.now (upgraded_named a.repository.now (λ i. (c.before.before.before.before.before.before.before.before.before.before.before.before.before.before.shared-slice-known.given i).fits) (named c.before.before.before.before.before)) c.before.before.with_repository.ensures
+returns-in-Named : tie.Need-returns-in-Named
+returns-in-Named c = let a = c.before.before.before.before.before.before.before.before.before.before.before.before.before.args in fills_same a.out.now (upgraded_named a.repository.now (λ i. (c.before.before.before.before.before.before.before.before.before.before.before.before.shared_slice_known-1.given i).fits) (named c.before.before.before.before.before)) c.before.before.with_repository.ensures
 
-returns-3 : tie.Need-returns-3
-returns-3 c = let a = c.before.before.before.before.before.before.before.before.before.before.before.before.before.before.before.args in fills_same a.out.now (upgraded_same a.repository.now (λ i. (c.before.before.before.before.before.before.before.before.before.before.before.before.before.before.shared-slice-known.given i).fits) (same c.before.before.before.before.before)) c.before.before.whole2.ensures
+returns-in-Same : tie.Need-returns-in-Same
+returns-in-Same c = let a = c.before.before.before.before.before.before.before.before.before.before.before.before.before.args in fills_same a.out.now (upgraded_same a.repository.now (λ i. (c.before.before.before.before.before.before.before.before.before.before.before.before.shared_slice_known-1.given i).fits) (same c.before.before.before.before.before)) c.before.before.whole-in-Same.ensures
 
-returns-4 : tie.Need-returns-4
-returns-4 c =
-    let a = c.before.before.before.before.before.before.before.before.before.before.args in
-    fills_refused a.out.now (upgrade_refused a.message.now a.repository.now (unsent E.Old a.message.now c.before.before.before.before.read.ensures c.before.before.before.extent-of.ensures c.before.extent3.given.1)) refl
+returns-in-Refused : tie.Need-returns-in-Refused
+returns-in-Refused c =
+    let a = c.before.before.before.before.before.before.before.before.args in
+    fills_refused a.out.now (upgrade_refused a.message.now a.repository.now (unsent E.Old a.message.now c.before.before.read.ensures c.before.extent_of-extent.ensures c.in-Refused.is)) refl
 
 pub upgrade_spec : {M : Type 1} → statement M
 upgrade_spec =
@@ -53,25 +53,25 @@ upgrade_spec =
     (λ c κs. search rules)
     (λ c. search rules)
     (λ c. search rules)
-    part-whole-end
+    slice_bounds-whole-end
     (λ c κs. search rules)
     (λ c. search rules)
-    returns
+    returns-then-response-ne0
     (λ c κs. search rules)
-    (λ c κs. search rules)
-    (λ c. search rules)
-    (λ c. search rules)
-    (λ c. search rules)
-    part-with-repository-end
-    with-repository-requires
-    (λ c. search rules)
-    (λ c. search rules)
-    (λ c. search rules)
-    part-whole-end-2
     (λ c κs. search rules)
     (λ c. search rules)
     (λ c. search rules)
-    returns-2
     (λ c. search rules)
-    returns-3
-    returns-4)
+    slice_bounds-with_repository-end
+    with_repository-requires
+    (λ c. search rules)
+    (λ c. search rules)
+    (λ c. search rules)
+    slice_bounds-whole-end-in-Same
+    (λ c κs. search rules)
+    (λ c. search rules)
+    (λ c. search rules)
+    returns-in-Named
+    (λ c. search rules)
+    returns-in-Same
+    returns-in-Refused)

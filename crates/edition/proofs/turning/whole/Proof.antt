@@ -7,14 +7,14 @@ use borrow.Author.Rules.{rules}
 use Rattle.edition.proofs.turning.whole.Statement.{statement}
 use Rattle.edition.proofs.turning.whole.Tie as tie
 
-returns : tie.Need-returns
-returns c = fills_short c.before.before.before.before.args.out.now refl c.before.if1.true c.refused.ensures
+returns-then-out-n : tie.Need-returns-then-out-n
+returns-then-out-n c = fills_short c.before.before.before.before.args.out.now refl c.before.if-out-n.true c.refused.ensures
 
-returns-2 : tie.Need-returns-2
-returns-2 c =
+returns : tie.Need-returns
+returns c =
     let a = c.before.before.before.before.before.before.before.args in
-    let room = c.before.before.before.before.if1.false in
-    fills_given a.out.now refl (omega (arith, room)) refl (put_next (filled_none a.out.now) a.m.now refl (omega (arith, room)) c.before.before.put-raw.ensures.1).fills
+    let room = c.before.before.before.before.if-out-n.false in
+    fills_given a.out.now refl (omega (arith, room)) refl (put_next (filled_none a.out.now) a.m.now refl (omega (arith, room)) c.before.before.put_raw.ensures.1).fills
 
 pub whole_spec : {M : Type 1} → statement M
-whole_spec = tie.close (tie.spec (λ c κs. search rules) returns (λ c κs. search rules) (λ c. search rules) returns-2)
+whole_spec = tie.close (tie.spec (λ c κs. search rules) returns-then-out-n (λ c κs. search rules) (λ c. search rules) returns)

@@ -21,18 +21,18 @@ use Rattle.edition.proofs.turning.with_repository.Statement.{statement}
 use Rattle.edition.proofs.turning.with_repository.Tie as tie
 
 -- the Repository, refused or taken
-unfit : (c : tie.After-refusal) → Reads (repository E.New) (repository_bytes E.New c.before.before.before.before.before.before.before.args.repository.now) 0 (refused c.refusal.result.number c.refusal.result.place)
-unfit c = bytes_refused c.before.before.before.check-text.ensures c.before.enum_told.given.1 c.refusal.ensures
+unfit : (c : tie.After-refusal-refusal) → Reads (repository E.New) (repository_bytes E.New c.before.before.before.before.before.before.args.repository.now) 0 (refused c.refusal-refusal.result.number c.refusal-refusal.result.place)
+unfit c = bytes_refused c.before.before.check_text-checked.ensures c.before.in_default.is c.refusal-refusal.ensures
 
-fit : (c : tie.After-known-told) → (l : List ℕ) × Reads (repository E.New) (repository_bytes E.New c.before.before.before.before.before.before.before.args.repository.now) 0 (taken l c.before.checked.given.0.1.0) × (length l ≡ c.before.checked.given.0.0)
-fit c = bytes_taken c.before.before.before.check-text.ensures c.before.checked.given.1
+fit : (c : tie.In-Taken) → (l : List ℕ) × Reads (repository E.New) (repository_bytes E.New c.before.before.before.before.before.args.repository.now) 0 (taken l c.in-Taken.size) × (length l ≡ c.in-Taken.field-0)
+fit c = bytes_taken c.before.check_text-checked.ensures c.in-Taken.is
 
 -- how many bytes it takes
-size : (c : tie.After-known-told)
-    → let r = c.before.before.before.before.before.before.before.args.repository.now in
-    (c.before.checked.given.0.1.0 ≡ length (repository_bytes E.New r)) × (length r ≤ 64) × (length (repository_bytes E.New r) ≤ 68)
+size : (c : tie.In-Taken)
+    → let r = c.before.before.before.before.before.args.repository.now in
+    (c.in-Taken.size ≡ length (repository_bytes E.New r)) × (length r ≤ 64) × (length (repository_bytes E.New r) ≤ 68)
 size c =
-    let r = c.before.before.before.before.before.before.before.args.repository.now in
+    let r = c.before.before.before.before.before.args.repository.now in
     let t = string_taken r (passed (fit c).1) in
     (omega (arith, t.0, string_size r), t.1, omega (arith, t.1, string_size r))
 
@@ -46,56 +46,56 @@ turned-size c =
     let R : List ℕ = repository_bytes E.New a.repository.now in
     omega (arith, c.requires, length-append (take 4 a.m.now) (R ++ drop 4 a.m.now), length-append R (drop 4 a.m.now), length-take-le 4 a.m.now c.requires, length-drop 4 a.m.now)
 
-add-t8 : tie.Need-overflow-add-t8
-add-t8 c = let k = c.before.before.before.before.before.before.before.before in omega (arith, string_refused k.args.repository.now (unfit c.before), k.well-formed.1.0.1)
+overflow_add-result : tie.Need-overflow_add-result
+overflow_add-result c = let k = c.before.before.before.before.before.before.before in omega (arith, string_refused k.args.repository.now (unfit c.before), k.well_formed.1.0.1)
 
-returns : tie.Need-returns
-returns c = let a = c.before.before.before.before.before.before.before.before.args in fills_refused a.out.now (unfit_given a.m.now a.repository.now (unfit c.before)) refl
+returns-in_default : tie.Need-returns-in_default
+returns-in_default c = let a = c.before.before.before.before.before.before.before.args in fills_refused a.out.now (unfit_given a.m.now a.repository.now (unfit c.before)) refl
 
-add-n : tie.Need-overflow-add-n
-add-n c = let w = size c in omega (arith, w.0, w.2, c.before.before.before.before.before.before.before.well-formed.0.1)
+overflow_add-n : tie.Need-overflow_add-n
+overflow_add-n c = let w = size c in omega (arith, w.0, w.2, c.before.before.before.before.before.well_formed.0.1)
 
-returns-2 : tie.Need-returns-2
-returns-2 c =
-    let k = c.before.before.before.before.before.before.before.before.before in
+returns-then-out-n : tie.Need-returns-then-out-n
+returns-then-out-n c =
+    let k = c.before.before.before.before.before.before.before in
     let a = k.args in
     let w = size c.before.before in
-    fills_short a.out.now (fit_given a.m.now a.repository.now (fit c.before.before).1) (omega (arith, c.before.if1.true, w.0, turned-size k)) c.refused.ensures
+    fills_short a.out.now (fit_given a.m.now a.repository.now (fit c.before.before).1) (omega (arith, c.before.if-out-n.true, w.0, turned-size k)) c.refused.ensures
 
 -- there is room
-room : (c : tie.Else1) → length (turned c.before.before.before.before.before.before.before.before) ≤ length c.before.before.before.before.before.before.before.before.args.out.now
-room c = let w = size c.before in omega (arith, c.if1.false, w.0, turned-size c.before.before.before.before.before.before.before.before)
+room : (c : tie.Else-out-n) → length (turned c.before.before.before.before.before.before) ≤ length c.before.before.before.before.before.before.args.out.now
+room c = let w = size c.before in omega (arith, c.if-out-n.false, w.0, turned-size c.before.before.before.before.before.before)
 
 -- the buffer after the header, and after the Repository
-header-put : (c : tie.After-put-raw) → let k = c.before.before.before.before.before.before.before.before.before.before.before in FilledTo k.args.out.now c.put-raw.new.0 (take 4 k.args.m.now) 4
+header-put : (c : tie.After-put_raw) → let k = c.before.before.before.before.before.before.before.before.before in FilledTo k.args.out.now c.put_raw.new.out (take 4 k.args.m.now) 4
 header-put c =
-    let k = c.before.before.before.before.before.before.before.before.before.before.before in
+    let k = c.before.before.before.before.before.before.before.before.before in
     let a = k.args in
-    put_next (filled_none a.out.now) (take 4 a.m.now) (length-take-le 4 a.m.now k.requires) (omega (arith, room c.before.before.before, turned-size k, k.requires)) c.put-raw.ensures.1
+    put_next (filled_none a.out.now) (take 4 a.m.now) (length-take-le 4 a.m.now k.requires) (omega (arith, room c.before.before.before, turned-size k, k.requires)) c.put_raw.ensures.1
 
-repository-put : (c : tie.After-put-bytes)
-    → let k = c.before.before.before.before.before.before.before.before.before.before.before.before.before.before.before in
-    FilledTo k.args.out.now c.put-bytes.new.0 (take 4 k.args.m.now ++ repository_bytes E.New k.args.repository.now) (4 + c.before.before.before.before.before.before.before.before.before.checked.given.0.1.0)
+repository-put : (c : tie.After-put_bytes)
+    → let k = c.before.before.before.before.before.before.before.before.before.before.before.before.before in
+    FilledTo k.args.out.now c.put_bytes.new.out (take 4 k.args.m.now ++ repository_bytes E.New k.args.repository.now) (4 + c.before.before.before.before.before.before.before.before.in-Taken.size)
 repository-put c =
-    let k = c.before.before.before.before.before.before.before.before.before.before.before.before.before.before.before in
+    let k = c.before.before.before.before.before.before.before.before.before.before.before.before.before in
     let a = k.args in
     let w = size c.before.before.before.before.before.before.before.before in
-    let put = opaque_next (header-put c.before.before.before.before) a.repository.now (omega (arith, w.1)) (omega (arith, room c.before.before.before.before.before.before.before, turned-size k, k.requires)) c.put-bytes.ensures.0 c.put-bytes.ensures.1 in
+    let put = opaque_next (header-put c.before.before.before.before) a.repository.now (omega (arith, w.1)) (omega (arith, room c.before.before.before.before.before.before.before, turned-size k, k.requires)) c.put_bytes.ensures.0 c.put_bytes.ensures.1 in
     record { fills = put.fills; long = length-append (take 4 a.m.now) (repository_bytes E.New a.repository.now) ∙ omega (arith, length-take-le 4 a.m.now k.requires, w.0) }
 
-add-put-raw : tie.Need-overflow-add-put-raw
-add-put-raw c = let w = size c.before.before.before.before.before.before.before.before.before.before.before in omega (arith, w.0, w.2)
+overflow_add-size : tie.Need-overflow_add-size
+overflow_add-size c = let w = size c.before.before.before.before.before.before.before.before.before.before.before in omega (arith, w.0, w.2)
 
-returns-3 : tie.Need-returns-3
-returns-3 c =
-    let k = c.before.before.before.before.before.before.before.before.before.before.before.before.before.before.before.before.before.before.before.before.before.before in
+returns : tie.Need-returns
+returns c =
+    let k = c.before.before.before.before.before.before.before.before.before.before.before.before.before.before.before.before.before.before.before.before in
     let a = k.args in
     let w = size c.before.before.before.before.before.before.before.before.before.before.before.before.before.before.before in
     let rest = drop 4 a.m.now in
     let part : take (length a.m.now - 4) rest ≡ rest = take_all (length a.m.now - 4) rest (omega (arith, length-drop 4 a.m.now)) in
     fills_given a.out.now (fit_given a.m.now a.repository.now (fit c.before.before.before.before.before.before.before.before.before.before.before.before.before.before.before).1) (room c.before.before.before.before.before.before.before.before.before.before.before.before.before.before) (omega (arith, w.0, turned-size k))
     ((put_next (repository-put c.before.before.before.before.before.before.before) rest (length-drop 4 a.m.now) (omega (arith, room c.before.before.before.before.before.before.before.before.before.before.before.before.before.before, turned-size k, w.0, k.requires))
-    (c.before.before.put-raw2.ensures.1 ∙ ap (put c.before.before.before.before.before.before.before.put-bytes.new.0 (4 + c.before.before.before.before.before.before.before.before.before.before.before.before.before.before.before.before.checked.given.0.1.0)) part)).fills
+    (c.before.before.put_raw-2.ensures.1 ∙ ap (put c.before.before.before.before.before.before.before.put_bytes.new.out (4 + c.before.before.before.before.before.before.before.before.before.before.before.before.before.before.before.in-Taken.size)) part)).fills
     ∙ ap (filled a.out.now) (append_assoc (take 4 a.m.now) (repository_bytes E.New a.repository.now) rest))
 
 pub with_repository_spec : {M : Type 1} → statement M
@@ -106,20 +106,20 @@ with_repository_spec =
     (λ c. search rules)
     (λ c. search rules)
     (λ c κs. search rules)
-    add-t8
-    returns
-    add-n
+    overflow_add-result
+    returns-in_default
+    overflow_add-n
     (λ c κs. search rules)
-    returns-2
-    (λ c. search rules)
-    (λ c. search rules)
-    (λ c. search rules)
-    (λ c κs. search rules)
-    (λ c κs. search rules)
-    add-put-raw
+    returns-then-out-n
     (λ c. search rules)
     (λ c. search rules)
     (λ c. search rules)
     (λ c κs. search rules)
+    (λ c κs. search rules)
+    overflow_add-size
     (λ c. search rules)
-    returns-3)
+    (λ c. search rules)
+    (λ c. search rules)
+    (λ c κs. search rules)
+    (λ c. search rules)
+    returns)

@@ -6,11 +6,11 @@ use borrow.Author.Rules.{rules}
 use Rattle.feed.proofs.feeding.feed_sound.Statement.{statement}
 use Rattle.feed.proofs.feeding.feed_sound.Tie as tie
 
-returns : tie.Need-returns
-returns c = fed_as c.says.ensures refl (fed_final c.before.before.before.before.requires (sym c.before.before.wants.ensures ∙ not-true _ c.before.if1.true))
+returns-then-not-wants : tie.Need-returns-then-not-wants
+returns-then-not-wants c = fed_as c.says.ensures refl (fed_final c.before.before.before.before.requires (sym c.before.before.wants.ensures ∙ c.before.if-not-wants.true))
 
-returns-2 : tie.Need-returns-2
-returns-2 c = fed_as c.before.says2.ensures c.taken-by.ensures (fed_through c.before.before.before.before.before.before.before.requires (sym c.before.before.before.before.before.wants.ensures ∙ not-false _ c.before.before.before.before.if1.false) c.before.before.before.through.ensures)
+returns : tie.Need-returns
+returns c = fed_as c.before.says-2.ensures c.taken_by.ensures (fed_through c.before.before.before.before.before.before.before.requires (sym c.before.before.before.before.before.wants.ensures ∙ c.before.before.before.before.if-not-wants.false) c.before.before.before.through-moved.ensures)
 
 pub feed_sound_spec : {M : Type 1} → statement M
 feed_sound_spec =
@@ -18,8 +18,8 @@ feed_sound_spec =
     (tie.spec
     (λ c κs. search rules)
     (λ c κs. search rules)
-    returns
+    returns-then-not-wants
     (λ c κs. search rules)
     (λ c κs. search rules)
     (λ c κs. search rules)
-    returns-2)
+    returns)

@@ -9,29 +9,29 @@ use borrow.Author.Rules.{rules}
 use Rattle.feed.proofs.feeding.missing_at.Statement.{statement}
 use Rattle.feed.proofs.feeding.missing_at.Tie as tie
 
-returns : tie.Need-returns
+returns-in-Word : tie.Need-returns-in-Word
 unfolding missing_in
-returns c = c.word_missing.ensures ∙ ap (λ (g : Goal). missing_of g c.before.before.before.args.cursor) (sym c.before.enum_told.given.1)
+returns-in-Word c = c.word_missing.ensures ∙ ap (λ (g : Goal). missing_of g c.before.before.args.cursor) (sym c.before.in-Word.is)
 
-returns-2 : tie.Need-returns-2
+returns-then-cursor-le3 : tie.Need-returns-then-cursor-le3
 unfolding missing_in
-returns-2 c = c.word-missing2.ensures ∙ sym (ap (λ (x : Bool). cond x (4 - c.before.before.before.before.before.args.cursor.have) (c.before.before.before.before.before.args.cursor.todo + c.before.before.before.before.before.args.cursor.pad)) (le-leb c.before.before.before.before.before.args.cursor.have 3 c.before.if1.true)) ∙ ap (λ (g : Goal). missing_of g c.before.before.before.before.before.args.cursor) (sym c.before.before.before.enum-told2.given.1)
+returns-then-cursor-le3 c = c.word_missing-then-cursor-le3.ensures ∙ sym (ap (λ (x : Bool). cond x (4 - c.before.before.before.before.args.cursor.have) (c.before.before.before.before.args.cursor.todo + c.before.before.before.before.args.cursor.pad)) (le-leb c.before.before.before.before.args.cursor.have 3 c.before.if-cursor-le3.true)) ∙ ap (λ (g : Goal). missing_of g c.before.before.before.before.args.cursor) (sym c.before.before.before.in-String.is)
 
-returns-3 : tie.Need-returns-3
+returns-else-cursor-le3 : tie.Need-returns-else-cursor-le3
 unfolding missing_in
-returns-3 c = sym (ap (λ (x : Bool). cond x (4 - c.before.before.before.before.before.before.args.cursor.have) (c.before.before.before.before.before.before.args.cursor.todo + c.before.before.before.before.before.before.args.cursor.pad)) (lt-leb c.before.before.before.before.before.before.args.cursor.have 3 c.before.before.if1.false)) ∙ ap (λ (g : Goal). missing_of g c.before.before.before.before.before.before.args.cursor) (sym c.before.before.before.before.enum-told2.given.1)
+returns-else-cursor-le3 c = sym (ap (λ (x : Bool). cond x (4 - c.before.before.before.before.before.args.cursor.have) (c.before.before.before.before.before.args.cursor.todo + c.before.before.before.before.before.args.cursor.pad)) (lt-leb c.before.before.before.before.before.args.cursor.have 3 c.before.before.if-cursor-le3.false)) ∙ ap (λ (g : Goal). missing_of g c.before.before.before.before.before.args.cursor) (sym c.before.before.before.before.in-String.is)
 
-returns-4 : tie.Need-returns-4
+returns-in-Skip : tie.Need-returns-in-Skip
 unfolding missing_in
-returns-4 c = ap (λ (g : Goal). missing_of g c.before.before.before.args.cursor) (sym c.before.goal.given.1)
+returns-in-Skip c = ap (λ (g : Goal). missing_of g c.before.args.cursor) (sym c.in-Skip.is)
 
-returns-5 : tie.Need-returns-5
+returns-in-Ended : tie.Need-returns-in-Ended
 unfolding missing_in
-returns-5 c = ap (λ (g : Goal). missing_of g c.before.before.args.cursor) (sym c.enum-told3.given.1)
+returns-in-Ended c = ap (λ (g : Goal). missing_of g c.before.args.cursor) (sym c.in-Ended.is)
 
-returns-6 : tie.Need-returns-6
+returns-in-Stopped : tie.Need-returns-in-Stopped
 unfolding missing_in
-returns-6 c = ap (λ (g : Goal). missing_of g c.before.before.args.cursor) (sym c.enum-told4.given.1)
+returns-in-Stopped c = ap (λ (g : Goal). missing_of g c.before.args.cursor) (sym c.in-Stopped.is)
 
 pub missing_at_spec : {M : Type 1} → statement M
 missing_at_spec =
@@ -48,9 +48,9 @@ missing_at_spec =
     (λ c. search rules)
     (λ c. search rules)
     (λ c. search rules)
-    returns
-    returns-2
-    returns-3
-    returns-4
-    returns-5
-    returns-6)
+    returns-in-Word
+    returns-then-cursor-le3
+    returns-else-cursor-le3
+    returns-in-Skip
+    returns-in-Ended
+    returns-in-Stopped)

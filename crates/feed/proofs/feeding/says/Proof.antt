@@ -6,11 +6,11 @@ use borrow.Author.Rules.{rules}
 use Rattle.feed.proofs.feeding.says.Statement.{statement}
 use Rattle.feed.proofs.feeding.says.Tie as tie
 
-returns-4 : tie.Need-returns-4
-returns-4 c = ap (λ (g : Goal). goal_says g c.before.before.args.state.place) (sym c.enum-told4.given.1)
+returns-in-Ended : tie.Need-returns-in-Ended
+returns-in-Ended c = ap (λ (g : Goal). goal_says g c.before.args.state.place) (sym c.in-Ended.is)
 
-returns-5 : tie.Need-returns-5
-returns-5 c = ap (λ (g : Goal). goal_says g c.before.before.before.args.state.place) (sym c.before.goal.given.1)
+returns-in-Stopped : tie.Need-returns-in-Stopped
+returns-in-Stopped c = ap (λ (g : Goal). goal_says g c.before.args.state.place) (sym c.in-Stopped.is)
 
 pub says_spec : {M : Type 1} → statement M
 says_spec =
@@ -24,5 +24,5 @@ says_spec =
     (λ c. search rules)
     (λ c. search rules)
     (λ c. search rules)
-    returns-4
-    returns-5)
+    returns-in-Ended
+    returns-in-Stopped)

@@ -5,14 +5,14 @@ use borrow.Author.Rules.{rules}
 use Rattle.feed.proofs.goals.behind_gap.Statement.{statement}
 use Rattle.feed.proofs.goals.behind_gap.Tie as tie
 
-returns : tie.Need-returns
-returns c = ap behind_gap (sym c.enum_told.given.1)
+returns-in-Offset : tie.Need-returns-in-Offset
+returns-in-Offset c = ap behind_gap (sym c.in-Offset.is)
 
-returns-2 : tie.Need-returns-2
-returns-2 c = ap behind_gap (sym c.before.gap.given.1)
+returns-in-Times : tie.Need-returns-in-Times
+returns-in-Times c = ap behind_gap (sym c.in-Times.is)
 
-returns-3 : tie.Need-returns-3
-returns-3 c = c.blocks_goal.ensures ∙ ap behind_gap (sym c.before.before.gap2.given.1)
+returns-in-Hash : tie.Need-returns-in-Hash
+returns-in-Hash c = c.blocks_goal.ensures ∙ ap behind_gap (sym c.before.in-Hash.is)
 
 pub behind_gap_spec : {M : Type 1} → statement M
 behind_gap_spec =
@@ -22,6 +22,6 @@ behind_gap_spec =
     (λ c. search rules)
     (λ c. search rules)
     (λ c κs. search rules)
-    returns
-    returns-2
-    returns-3)
+    returns-in-Offset
+    returns-in-Times
+    returns-in-Hash)

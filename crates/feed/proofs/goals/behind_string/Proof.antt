@@ -5,20 +5,20 @@ use borrow.Author.Rules.{rules}
 use Rattle.feed.proofs.goals.behind_string.Statement.{statement}
 use Rattle.feed.proofs.goals.behind_string.Tie as tie
 
-returns : tie.Need-returns
-returns c = ap behind_string (sym c.enum_told.given.1)
+returns-in-Index : tie.Need-returns-in-Index
+returns-in-Index c = ap behind_string (sym c.in-Index.is)
 
-returns-2 : tie.Need-returns-2
-returns-2 c = ap behind_string (sym c.enum-told2.given.1)
+returns-in-Request : tie.Need-returns-in-Request
+returns-in-Request c = ap behind_string (sym c.in-Request.is)
 
-returns-3 : tie.Need-returns-3
-returns-3 c = ap behind_string (sym c.enum-told3.given.1)
+returns-in-RequestName : tie.Need-returns-in-RequestName
+returns-in-RequestName c = ap behind_string (sym c.in-RequestName.is)
 
-returns-5 : tie.Need-returns-5
-returns-5 c = ap behind_string (sym c.before.string.given.1)
+returns-in-File : tie.Need-returns-in-File
+returns-in-File c = ap behind_string (sym c.in-File.is)
 
-returns-6 : tie.Need-returns-6
-returns-6 c = ap behind_string (sym c.before.string2.given.1)
+returns-in-Key : tie.Need-returns-in-Key
+returns-in-Key c = ap behind_string (sym c.in-Key.is)
 
 pub behind_string_spec : {M : Type 1} → statement M
 behind_string_spec =
@@ -32,10 +32,10 @@ behind_string_spec =
     (λ c. search rules)
     (λ c. search rules)
     (λ c κs. search rules)
-    returns
-    returns-2
-    returns-3
+    returns-in-Index
+    returns-in-Request
+    returns-in-RequestName
     (λ c. search rules)
-    returns-5
-    returns-6
+    returns-in-File
+    returns-in-Key
     (λ c. search rules))

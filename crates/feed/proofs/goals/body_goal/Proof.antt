@@ -9,26 +9,26 @@ use borrow.Author.Rules.{rules}
 use Rattle.feed.proofs.goals.body_goal.Statement.{statement}
 use Rattle.feed.proofs.goals.body_goal.Tie as tie
 
-returns : tie.Need-returns
-returns c = c.index_goal.ensures ∙ ap (λ (n : ℕ). body_goal c.before.before.args.edition (kind_of n)) (sym c.before.match.keys1)
+returns-in-1 : tie.Need-returns-in-1
+returns-in-1 c = c.index_goal.ensures ∙ ap (λ (n : ℕ). body_goal c.before.before.args.edition (kind_of n)) (sym c.before.in-1.is)
 
-returns-2 : tie.Need-returns-2
-returns-2 c = c.request_goal.ensures ∙ ap (λ (n : ℕ). body_goal c.before.before.args.edition (kind_of n)) (sym c.before.match.keys2)
+returns-in-2 : tie.Need-returns-in-2
+returns-in-2 c = c.request_goal.ensures ∙ ap (λ (n : ℕ). body_goal c.before.before.args.edition (kind_of n)) (sym c.before.in-2.is)
 
-returns-3 : tie.Need-returns-3
-returns-3 c = ap (λ (n : ℕ). body_goal c.before.args.edition (kind_of n)) (sym c.match.keys3)
+returns-in-3 : tie.Need-returns-in-3
+returns-in-3 c = ap (λ (n : ℕ). body_goal c.before.args.edition (kind_of n)) (sym c.in-3.is)
 
-returns-4 : tie.Need-returns-4
-returns-4 c = ap (λ (n : ℕ). body_goal c.before.args.edition (kind_of n)) (sym c.match.keys4)
+returns-in-4 : tie.Need-returns-in-4
+returns-in-4 c = ap (λ (n : ℕ). body_goal c.before.args.edition (kind_of n)) (sym c.in-4.is)
 
-returns-5 : tie.Need-returns-5
-returns-5 c = ap (λ (n : ℕ). body_goal c.before.args.edition (kind_of n)) (sym c.match.keys5)
+returns-in-5 : tie.Need-returns-in-5
+returns-in-5 c = ap (λ (n : ℕ). body_goal c.before.args.edition (kind_of n)) (sym c.in-5.is)
 
-returns-6 : tie.Need-returns-6
-returns-6 c = c.index-goal2.ensures ∙ ap (λ (n : ℕ). body_goal c.before.before.args.edition (kind_of n)) (sym c.before.match.keys6)
+returns-in-6 : tie.Need-returns-in-6
+returns-in-6 c = c.index_goal-in-6.ensures ∙ ap (λ (n : ℕ). body_goal c.before.before.args.edition (kind_of n)) (sym c.before.in-6.is)
 
-returns-7 : tie.Need-returns-7
-returns-7 c = ap (body_goal c.before.args.edition) (sym (kind_rest c.before.args.kind (λ e. omega (arith, c.match.rest)) (λ e. omega (arith, c.match.rest)) (λ e. omega (arith, c.match.rest)) (λ e. omega (arith, c.match.rest)) (λ e. omega (arith, c.match.rest)) (λ e. omega (arith, c.match.rest))))
+returns-in_default : tie.Need-returns-in_default
+returns-in_default c = ap (body_goal c.before.args.edition) (sym (kind_rest c.before.args.kind (λ e. omega (arith, c.in_default.in_default-own.rest)) (λ e. omega (arith, c.in_default.in_default-own.rest)) (λ e. omega (arith, c.in_default.in_default-own.rest)) (λ e. omega (arith, c.in_default.in_default-own.rest)) (λ e. omega (arith, c.in_default.in_default-own.rest)) (λ e. omega (arith, c.in_default.in_default-own.rest))))
 
 pub body_goal_spec : {M : Type 1} → statement M
 body_goal_spec =
@@ -37,10 +37,10 @@ body_goal_spec =
     (λ c κs. search rules)
     (λ c κs. search rules)
     (λ c κs. search rules)
-    returns
-    returns-2
-    returns-3
-    returns-4
-    returns-5
-    returns-6
-    returns-7)
+    returns-in-1
+    returns-in-2
+    returns-in-3
+    returns-in-4
+    returns-in-5
+    returns-in-6
+    returns-in_default)

@@ -4,8 +4,8 @@ use borrow.Author.Rules.{rules}
 use Rattle.feed.proofs.goals.files_goal.Statement.{statement}
 use Rattle.feed.proofs.goals.files_goal.Tie as tie
 
-returns-2 : tie.Need-returns-2
-returns-2 c = files_some c.before.args.n c.if1.false
+returns : tie.Need-returns
+returns c = files_some c.before.args.n c.if-n-eq0.false
 
 pub files_goal_spec : {M : Type 1} → statement M
-files_goal_spec = tie.close (tie.spec (λ c. search rules) (λ c. search rules) returns-2)
+files_goal_spec = tie.close (tie.spec (λ c. search rules) (λ c. search rules) returns)

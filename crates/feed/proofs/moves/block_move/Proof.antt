@@ -11,36 +11,36 @@ use borrow.Author.Rules.{rules}
 use Rattle.feed.proofs.moves.block_move.Statement.{statement}
 use Rattle.feed.proofs.moves.block_move.Tie as tie
 
-add-all : tie.Need-overflow-add-all
-add-all c = omega (arith, bounded_at c.before.args.state _ c.before.requires.1 c.before.requires.0)
+overflow_add-all : tie.Need-overflow_add-all
+overflow_add-all c = omega (arith, bounded_at c.before.args.state _ c.before.requires.1 c.before.requires.0)
 
-mul-size : tie.Need-overflow-mul-size
-mul-size c = omega (arith, c.before.sound-front.ensures.0, c.before.before.least.ensures.0, bounded_at c.before.before.before.before.args.state _ c.before.before.before.before.requires.1 c.before.before.before.before.requires.0)
+overflow_mul-size : tie.Need-overflow_mul-size
+overflow_mul-size c = omega (arith, c.before.sound_front-n.ensures.0, c.before.before.least.ensures.0, bounded_at c.before.before.before.before.args.state _ c.before.before.before.before.requires.1 c.before.before.before.before.requires.0)
 
-sub-blocks-goal : tie.Need-overflow-sub-blocks-goal
-sub-blocks-goal c = omega (arith, c.before.sound-front.ensures.0, c.before.before.least.ensures.0)
+overflow_sub-all : tie.Need-overflow_sub-all
+overflow_sub-all c = omega (arith, c.before.sound_front-n.ensures.0, c.before.before.least.ensures.0)
 
-add-at-goal : tie.Need-overflow-add-at-goal
-add-at-goal c = omega (arith, c.before.before.before.sound-front.ensures.0, c.before.before.before.before.least.ensures.0, bounded_at c.before.before.before.before.before.before.args.state _ c.before.before.before.before.before.before.requires.1 c.before.before.before.before.before.before.requires.0)
+overflow_add-state : tie.Need-overflow_add-state
+overflow_add-state c = omega (arith, c.before.before.before.sound_front-n.ensures.0, c.before.before.before.before.least.ensures.0, bounded_at c.before.before.before.before.before.before.args.state _ c.before.before.before.before.before.before.requires.1 c.before.before.before.before.before.before.requires.0)
 
-returns-2 : tie.Need-returns-2
-returns-2 c = block_moves c.before.before.before.before.before.before.before.args.state c.before.before.before.before.before.before.before.args.part.now _ c.before.before.before.before.before.before.before.args.blocks c.before.before.before.before.before.before.before.args.files c.before.before.before.before.sound-front.result c.before.before.before.before.before.before.before.requires.0 c.before.before.before.before.before.before.before.requires.1 c.before.before.before.before.before.before.before.requires.2
-    (λ i. (c.before.before.before.before.before.before.shared-slice-known.given i).fits) (omega (arith, c.before.before.before.if1.false)) (omega (arith, c.before.before.before.before.sound-front.ensures.0, c.before.before.before.before.before.least.ensures.0)) c.before.before.before.before.sound-front.ensures.1
-    (ap (λ (x : Cursor). record { state = x; taken = c.before.before.before.before.sound-front.result * 40 }) (c.at-goal.ensures ∙ ap (λ (g : Goal). at_goal g (c.before.before.before.before.before.before.before.args.state.place + c.before.before.before.before.sound-front.result * 40)) c.before.before.blocks_goal.ensures))
+returns : tie.Need-returns
+returns c = block_moves c.before.before.before.before.before.before.before.args.state c.before.before.before.before.before.before.before.args.part.now _ c.before.before.before.before.before.before.before.args.blocks c.before.before.before.before.before.before.before.args.files c.before.before.before.before.sound_front-n.result c.before.before.before.before.before.before.before.requires.0 c.before.before.before.before.before.before.before.requires.1 c.before.before.before.before.before.before.before.requires.2
+    (λ i. (c.before.before.before.before.before.before.shared_slice_known-1.given i).fits) (omega (arith, c.before.before.before.if-n-eq0.false)) (omega (arith, c.before.before.before.before.sound_front-n.ensures.0, c.before.before.before.before.before.least.ensures.0)) c.before.before.before.before.sound_front-n.ensures.1
+    (ap (λ (x : Cursor). record { state = x; taken = c.before.before.before.before.sound_front-n.result * 40 }) (c.at_goal.ensures ∙ ap (λ (g : Goal). at_goal g (c.before.before.before.before.before.before.before.args.state.place + c.before.before.before.before.sound_front-n.result * 40)) c.before.before.blocks_goal.ensures))
 
 pub block_move_spec : {M : Type 1} → statement M
 block_move_spec =
     tie.close
     (tie.spec
-    add-all
+    overflow_add-all
     (λ c κs. search rules)
     (λ c κs. search rules)
     (λ c κs. search rules)
     (λ c. search rules)
     (λ c. search rules)
-    mul-size
-    sub-blocks-goal
+    overflow_mul-size
+    overflow_sub-all
     (λ c κs. search rules)
-    add-at-goal
+    overflow_add-state
     (λ c κs. search rules)
-    returns-2)
+    returns)

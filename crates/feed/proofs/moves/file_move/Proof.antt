@@ -11,13 +11,13 @@ use borrow.Author.Rules.{rules}
 use Rattle.feed.proofs.moves.file_move.Statement.{statement}
 use Rattle.feed.proofs.moves.file_move.Tie as tie
 
-add-at-goal : tie.Need-overflow-add-at-goal
-add-at-goal c = omega (arith, c.before.before.if2.false, bounded_at c.before.before.before.before.before.before.args.state _ c.before.before.before.before.before.before.requires.1 c.before.before.before.before.before.before.requires.0)
+overflow_add-state : tie.Need-overflow_add-state
+overflow_add-state c = omega (arith, c.before.before.if-n-gt42000.false, bounded_at c.before.before.before.before.before.before.args.state _ c.before.before.before.before.before.before.requires.1 c.before.before.before.before.before.before.requires.0)
 
-returns-3 : tie.Need-returns-3
-returns-3 c = let some : 1 ≤ c.before.before.before.before.before.file-end.result = omega (arith, c.before.before.before.before.if1.false) in
-    file_moves c.before.before.before.before.before.before.before.args.state c.before.before.before.before.before.before.before.args.part.now _ c.before.before.before.before.before.file-end.result c.before.before.before.before.before.before.before.requires.0 c.before.before.before.before.before.before.before.requires.2 some c.before.before.before.before.before.before.before.args.files c.before.before.before.before.before.before.before.requires.1 (c.before.before.before.before.before.file-end.ensures some) c.before.before.before.if2.false
-    (ap (λ (x : Cursor). record { state = x; taken = c.before.before.before.before.before.file-end.result }) (c.at-goal.ensures ∙ ap (λ (g : Goal). at_goal g (c.before.before.before.before.before.before.before.args.state.place + c.before.before.before.before.before.file-end.result)) c.before.before.files_goal.ensures))
+returns : tie.Need-returns
+returns c = let some : 1 ≤ c.before.before.before.before.before.file_end-n.result = omega (arith, c.before.before.before.before.if-n-eq0.false) in
+    file_moves c.before.before.before.before.before.before.before.args.state c.before.before.before.before.before.before.before.args.part.now _ c.before.before.before.before.before.file_end-n.result c.before.before.before.before.before.before.before.requires.0 c.before.before.before.before.before.before.before.requires.2 some c.before.before.before.before.before.before.before.args.files c.before.before.before.before.before.before.before.requires.1 (c.before.before.before.before.before.file_end-n.ensures some) c.before.before.before.if-n-gt42000.false
+    (ap (λ (x : Cursor). record { state = x; taken = c.before.before.before.before.before.file_end-n.result }) (c.at_goal.ensures ∙ ap (λ (g : Goal). at_goal g (c.before.before.before.before.before.before.before.args.state.place + c.before.before.before.before.before.file_end-n.result)) c.before.before.files_goal.ensures))
 
 pub file_move_spec : {M : Type 1} → statement M
 file_move_spec =
@@ -29,6 +29,6 @@ file_move_spec =
     (λ c κs. search rules)
     (λ c. search rules)
     (λ c κs. search rules)
-    add-at-goal
+    overflow_add-state
     (λ c κs. search rules)
-    returns-3)
+    returns)

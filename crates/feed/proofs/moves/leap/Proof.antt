@@ -6,11 +6,11 @@ use borrow.Author.Rules.{rules}
 use Rattle.feed.proofs.moves.leap.Statement.{statement}
 use Rattle.feed.proofs.moves.leap.Tie as tie
 
-file-move-requires : tie.Need-file-move-requires
-file-move-requires c κs = (c.before.before.before.before.requires.0, c.before.before.before.before.requires.1 ∙ ap (λ (f : StringField). G.String f) c.before.string.given.1, c.before.before.before.before.requires.2, c.before.before.before.before.requires.3)
+file_move-requires : tie.Need-file_move-requires
+file_move-requires c κs = (c.before.before.requires.0, c.before.before.requires.1 ∙ ap (λ (f : StringField). G.String f) c.in-File.is, c.before.before.requires.2, c.before.before.requires.3)
 
-option-move-requires : tie.Need-option-move-requires
-option-move-requires c κs = (c.before.before.before.before.requires.0, c.before.before.before.before.requires.1 ∙ ap (λ (f : StringField). G.String f) c.before.string2.given.1, c.before.before.before.before.requires.2, c.before.before.before.before.requires.3)
+option_move-requires : tie.Need-option_move-requires
+option_move-requires c κs = (c.before.before.requires.0, c.before.before.requires.1 ∙ ap (λ (f : StringField). G.String f) c.in-Key.is, c.before.before.requires.2, c.before.before.requires.3)
 
 pub leap_spec : {M : Type 1} → statement M
 leap_spec =
@@ -25,9 +25,9 @@ leap_spec =
     (λ c. search rules)
     (λ c κs. search rules)
     (λ c. search rules)
-    file-move-requires
+    file_move-requires
     (λ c. search rules)
-    option-move-requires
+    option_move-requires
     (λ c. search rules)
     (λ c κs. search rules)
     (λ c. search rules)

@@ -6,11 +6,11 @@ use borrow.Author.Rules.{rules}
 use Rattle.feed.proofs.moves.name_end.Statement.{statement}
 use Rattle.feed.proofs.moves.name_end.Tie as tie
 
-returns : tie.Need-returns
-returns c = λ h. absurd (omega arith)
+returns-in_default : tie.Need-returns-in_default
+returns-in_default c = λ h. absurd (omega arith)
 
-returns-2 : tie.Need-returns-2
-returns-2 c = λ h. whole_at (bytes_taken c.before.before.before.read_name.ensures c.before.read.given.1).1
+returns : tie.Need-returns
+returns c = λ h. whole_at (bytes_taken c.before.read_name-read.ensures c.in-Taken.is).1
 
 pub name_end_spec : {M : Type 1} → statement M
-name_end_spec = tie.close (tie.spec (λ c κs. search rules) (λ c. search rules) (λ c. search rules) returns returns-2)
+name_end_spec = tie.close (tie.spec (λ c κs. search rules) (λ c. search rules) (λ c. search rules) returns-in_default returns)

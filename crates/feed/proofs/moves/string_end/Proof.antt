@@ -6,26 +6,26 @@ use borrow.Author.Rules.{rules}
 use Rattle.feed.proofs.moves.string_end.Statement.{statement}
 use Rattle.feed.proofs.moves.string_end.Tie as tie
 
-returns : tie.Need-returns
-returns c = λ h. subst (λ (x : StringField). WholeAt (string_format x) c.before.before.before.before.args.part.now c.text_end.result) (sym c.before.enum_told.given.1) (c.text_end.ensures h)
+returns-in-Index : tie.Need-returns-in-Index
+returns-in-Index c = λ h. subst (λ (x : StringField). WholeAt (string_format x) c.before.before.before.args.part.now c.text_end.result) (sym c.before.in-Index.is) (c.text_end.ensures h)
 
-returns-2 : tie.Need-returns-2
-returns-2 c = λ h. subst (λ (x : StringField). WholeAt (string_format x) c.before.before.before.before.args.part.now c.text-end2.result) (sym c.before.enum-told2.given.1) (c.text-end2.ensures h)
+returns-in-Request : tie.Need-returns-in-Request
+returns-in-Request c = λ h. subst (λ (x : StringField). WholeAt (string_format x) c.before.before.before.args.part.now c.text_end-in-Request.result) (sym c.before.in-Request.is) (c.text_end-in-Request.ensures h)
 
-returns-3 : tie.Need-returns-3
-returns-3 c = λ h. subst (λ (x : StringField). WholeAt (string_format x) c.before.before.before.before.args.part.now c.name-end.result) (sym c.before.enum-told3.given.1) (c.name-end.ensures h)
+returns-in-RequestName : tie.Need-returns-in-RequestName
+returns-in-RequestName c = λ h. subst (λ (x : StringField). WholeAt (string_format x) c.before.before.before.args.part.now c.name_end.result) (sym c.before.in-RequestName.is) (c.name_end.ensures h)
 
-returns-4 : tie.Need-returns-4
-returns-4 c = λ h. subst (λ (x : StringField). WholeAt (string_format x) c.before.before.before.before.args.part.now c.opaque-end.result) (sym c.before.enum-told4.given.1) (c.opaque-end.ensures h)
+returns-in-Data : tie.Need-returns-in-Data
+returns-in-Data c = λ h. subst (λ (x : StringField). WholeAt (string_format x) c.before.before.before.args.part.now c.opaque_end.result) (sym c.before.in-Data.is) (c.opaque_end.ensures h)
 
-returns-5 : tie.Need-returns-5
-returns-5 c = λ h. subst (λ (x : StringField). WholeAt (string_format x) c.before.before.before.before.args.part.now c.name-end2.result) (sym c.before.enum-told5.given.1) (c.name-end2.ensures h)
+returns-in-File : tie.Need-returns-in-File
+returns-in-File c = λ h. subst (λ (x : StringField). WholeAt (string_format x) c.before.before.before.args.part.now c.name_end-in-File.result) (sym c.before.in-File.is) (c.name_end-in-File.ensures h)
 
-returns-6 : tie.Need-returns-6
-returns-6 c = λ h. subst (λ (x : StringField). WholeAt (string_format x) c.before.before.before.before.args.part.now c.text-end3.result) (sym c.before.enum-told6.given.1) (c.text-end3.ensures h)
+returns-in-Key : tie.Need-returns-in-Key
+returns-in-Key c = λ h. subst (λ (x : StringField). WholeAt (string_format x) c.before.before.before.args.part.now c.text_end-in-Key.result) (sym c.before.in-Key.is) (c.text_end-in-Key.ensures h)
 
-returns-7 : tie.Need-returns-7
-returns-7 c = λ h. subst (λ (x : StringField). WholeAt (string_format x) c.before.before.before.before.args.part.now c.text-end4.result) (sym c.before.enum-told7.given.1) (c.text-end4.ensures h)
+returns-in-Value : tie.Need-returns-in-Value
+returns-in-Value c = λ h. subst (λ (x : StringField). WholeAt (string_format x) c.before.before.before.args.part.now c.text_end-in-Value.result) (sym c.before.in-Value.is) (c.text_end-in-Value.ensures h)
 
 pub string_end_spec : {M : Type 1} → statement M
 string_end_spec =
@@ -45,10 +45,10 @@ string_end_spec =
     (λ c κs. search rules)
     (λ c. search rules)
     (λ c κs. search rules)
-    returns
-    returns-2
-    returns-3
-    returns-4
-    returns-5
-    returns-6
-    returns-7)
+    returns-in-Index
+    returns-in-Request
+    returns-in-RequestName
+    returns-in-Data
+    returns-in-File
+    returns-in-Key
+    returns-in-Value)

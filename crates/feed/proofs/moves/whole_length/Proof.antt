@@ -9,15 +9,15 @@ use borrow.Author.Rules.{rules}
 use Rattle.feed.proofs.moves.whole_length.Statement.{statement}
 use Rattle.feed.proofs.moves.whole_length.Tie as tie
 
-byte-move-requires : tie.Need-byte-move-requires
-byte-move-requires c κs = (c.before.before.before.before.requires.0, wants_at c.before.before.before.before.args.state _ c.before.before.before.before.requires.1 refl, c.before.before.before.before.requires.3)
+byte_move-requires : tie.Need-byte_move-requires
+byte_move-requires c κs = (c.before.before.before.requires.0, wants_at c.before.before.before.args.state _ c.before.before.before.requires.1 refl, c.before.before.before.requires.3)
 
-after-length-requires : tie.Need-after-length-requires
-after-length-requires c κs = omega (arith, bounded_at c.before.before.before.before.before.args.state _ c.before.before.before.before.before.requires.1 c.before.before.before.before.before.requires.0)
+after_length-requires : tie.Need-after_length-requires
+after_length-requires c κs = omega (arith, bounded_at c.before.before.before.args.state _ c.before.before.before.requires.1 c.before.before.before.requires.0)
 
-returns-2 : tie.Need-returns-2
-returns-2 c = length_moves c.before.before.before.before.before.before.args.state c.before.before.before.before.before.before.args.part.now _ c.before.before.before.before.before.before.requires.0 c.before.before.before.before.before.before.requires.2 c.before.before.before.before.before.before.args.string c.before.before.w.given.0.0 c.before.before.before.before.before.before.requires.1
-    (word_taken c.before.before.before.before.read_word.ensures c.before.before.w.given.1) (ap (λ (x : Cursor). record { state = x; taken = 4 }) c.after_length.ensures)
+returns : tie.Need-returns
+returns c = length_moves c.before.before.before.before.args.state c.before.before.before.before.args.part.now _ c.before.before.before.before.requires.0 c.before.before.before.before.requires.2 c.before.before.before.before.args.string c.before.in-Taken.w c.before.before.before.before.requires.1
+    (word_taken c.before.before.read_word.ensures c.before.in-Taken.is) (ap (λ (x : Cursor). record { state = x; taken = 4 }) c.after_length.ensures)
 
 pub whole_length_spec : {M : Type 1} → statement M
 whole_length_spec =
@@ -26,7 +26,7 @@ whole_length_spec =
     (λ c κs. search rules)
     (λ c. search rules)
     (λ c. search rules)
-    byte-move-requires
+    byte_move-requires
     (λ c. search rules)
-    after-length-requires
-    returns-2)
+    after_length-requires
+    returns)

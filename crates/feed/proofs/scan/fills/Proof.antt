@@ -6,8 +6,8 @@ use borrow.Author.Rules.{rules}
 use Rattle.feed.proofs.scan.fills.Statement.{statement}
 use Rattle.feed.proofs.scan.fills.Tie as tie
 
-returns-3 : tie.Need-returns-3
-returns-3 c = ap (λ (r : Rule). fills r c.before.before.args.n) (sym c.enum-told3.given.1)
+returns-in-Name : tie.Need-returns-in-Name
+returns-in-Name c = ap (λ (r : Rule). fills r c.before.args.n) (sym c.in-Name.is)
 
 pub fills_spec : {M : Type 1} → statement M
-fills_spec = tie.close (tie.spec (λ c. search rules) (λ c. search rules) (λ c. search rules) (λ c. search rules) (λ c. search rules) returns-3)
+fills_spec = tie.close (tie.spec (λ c. search rules) (λ c. search rules) (λ c. search rules) (λ c. search rules) (λ c. search rules) returns-in-Name)

@@ -6,8 +6,8 @@ use borrow.Author.Rules.{rules}
 use Rattle.feed.proofs.scan.part_by.Statement.{statement}
 use Rattle.feed.proofs.scan.part_by.Tie as tie
 
-returns-3 : tie.Need-returns-3
-returns-3 c = c.part-after.ensures ∙ ap (λ (r : Rule). part_by r c.before.before.before.args.part c.before.before.before.args.b) (sym c.before.enum-told3.given.1)
+returns-in-Name : tie.Need-returns-in-Name
+returns-in-Name c = c.part_after.ensures ∙ ap (λ (r : Rule). part_by r c.before.before.args.part c.before.before.args.b) (sym c.before.in-Name.is)
 
 pub part_by_spec : {M : Type 1} → statement M
 part_by_spec =
@@ -19,4 +19,4 @@ part_by_spec =
     (λ c κs. search rules)
     (λ c. search rules)
     (λ c. search rules)
-    returns-3)
+    returns-in-Name)

@@ -6,11 +6,11 @@ use borrow.Author.Rules.{rules}
 use Rattle.feed.proofs.scan.passes.Statement.{statement}
 use Rattle.feed.proofs.scan.passes.Tie as tie
 
-returns-2 : tie.Need-returns-2
-returns-2 c = ap (λ (r : Rule). passes r c.before.before.before.args.scan) (sym c.before.enum-told2.given.1)
+returns-in-Text : tie.Need-returns-in-Text
+returns-in-Text c = ap (λ (r : Rule). passes r c.before.before.args.scan) (sym c.before.in-Text.is)
 
-returns-3 : tie.Need-returns-3
-returns-3 c = ap (λ (r : Rule). passes r c.before.before.before.args.scan) (sym c.before.enum-told3.given.1)
+returns-in-Name : tie.Need-returns-in-Name
+returns-in-Name c = ap (λ (r : Rule). passes r c.before.before.args.scan) (sym c.before.in-Name.is)
 
 pub passes_spec : {M : Type 1} → statement M
-passes_spec = tie.close (tie.spec (λ c. search rules) (λ c. search rules) (λ c. search rules) (λ c. search rules) returns-2 returns-3)
+passes_spec = tie.close (tie.spec (λ c. search rules) (λ c. search rules) (λ c. search rules) (λ c. search rules) returns-in-Text returns-in-Name)

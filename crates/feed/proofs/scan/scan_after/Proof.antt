@@ -7,21 +7,21 @@ use borrow.Author.Rules.{rules}
 use Rattle.feed.proofs.scan.scan_after.Statement.{statement}
 use Rattle.feed.proofs.scan.scan_after.Tie as tie
 
-returns : tie.Need-returns
-returns c = let a = c.before.before.args in scan_opaque a.rule a.scan a.i a.b (sym c.before.is-opaque.ensures ∙ c.if1.true)
+returns-then-is_opaque : tie.Need-returns-then-is_opaque
+returns-then-is_opaque c = let a = c.before.before.args in scan_opaque a.rule a.scan a.i a.b (sym c.before.is_opaque.ensures ∙ c.if-is_opaque.true)
 
-returns-2 : tie.Need-returns-2
-returns-2 c =
+returns : tie.Need-returns
+returns c =
     let a = c.before.before.before.before.args in
-    c.text-after.ensures ∙ ap (λ (p : ℕ). text_after a.scan a.i a.b p) c.before.part_by.ensures
-    ∙ scan_other a.rule a.scan a.i a.b (sym c.before.before.before.is-opaque.ensures ∙ c.before.before.if1.false)
+    c.text_after.ensures ∙ ap (λ (p : ℕ). text_after a.scan a.i a.b p) c.before.part_by.ensures
+    ∙ scan_other a.rule a.scan a.i a.b (sym c.before.before.before.is_opaque.ensures ∙ c.before.before.if-is_opaque.false)
 
 pub scan_after_spec : {M : Type 1} → statement M
 scan_after_spec =
     tie.close
     (tie.spec
     (λ c κs. search rules)
-    returns
+    returns-then-is_opaque
     (λ c κs. search rules)
     (λ c κs. search rules)
-    returns-2)
+    returns)

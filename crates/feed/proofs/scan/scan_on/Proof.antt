@@ -7,14 +7,14 @@ use borrow.Author.Rules.{rules}
 use Rattle.feed.proofs.scan.scan_on.Statement.{statement}
 use Rattle.feed.proofs.scan.scan_on.Tie as tie
 
+returns-then-i-gt131072 : tie.Need-returns-then-i-gt131072
+returns-then-i-gt131072 c = simp (lt-leb (c.before.before.args.i + length c.before.before.args.part.now) 131072 (omega (arith, c.if-i-gt131072.true)))
+
+returns-then-i-part : tie.Need-returns-then-i-part
+returns-then-i-part c = simp (lt-leb (c.before.before.before.args.i + length c.before.before.before.args.part.now) 131072 (omega (arith, c.if-i-part.true, c.before.if-i-gt131072.false)))
+
 returns : tie.Need-returns
-returns c = simp (lt-leb (c.before.before.args.i + length c.before.before.args.part.now) 131072 (omega (arith, c.if1.true)))
-
-returns-2 : tie.Need-returns-2
-returns-2 c = simp (lt-leb (c.before.before.before.args.i + length c.before.before.before.args.part.now) 131072 (omega (arith, c.if2.true, c.before.if1.false)))
-
-returns-3 : tie.Need-returns-3
-returns-3 c = simp (le-leb (c.before.before.before.before.args.i + length c.before.before.before.before.args.part.now) 131072 (omega (arith, c.before.if2.false, c.before.before.if1.false)), c.scan-over.ensures)
+returns c = simp (le-leb (c.before.before.before.before.args.i + length c.before.before.before.before.args.part.now) 131072 (omega (arith, c.before.if-i-part.false, c.before.before.if-i-gt131072.false)), c.scan_over.ensures)
 
 pub scan_on_spec : {M : Type 1} → statement M
-scan_on_spec = tie.close (tie.spec returns (λ c. search rules) returns-2 (λ c κs. search rules) returns-3)
+scan_on_spec = tie.close (tie.spec returns-then-i-gt131072 (λ c. search rules) returns-then-i-part (λ c κs. search rules) returns)

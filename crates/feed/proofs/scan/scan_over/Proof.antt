@@ -7,8 +7,8 @@ use borrow.Author.Rules.{rules}
 use Rattle.feed.proofs.scan.scan_over.Statement.{statement}
 use Rattle.feed.proofs.scan.scan_over.Tie as tie
 
-returns-2 : tie.Need-returns-2
-returns-2 c = sym (ap (λ (r : Rule). scanned r c.before.before.before.args.scan c.before.before.before.args.i c.before.before.before.args.part.now) c.enum_told.given.1 ∙ scanned_free c.before.before.before.args.part.now c.before.before.before.args.scan c.before.before.before.args.i)
+returns : tie.Need-returns
+returns c = sym (ap (λ (r : Rule). scanned r c.before.before.args.scan c.before.before.args.i c.before.before.args.part.now) c.in-Opaque.is ∙ scanned_free c.before.before.args.part.now c.before.before.args.scan c.before.before.args.i)
 
 pub scan_over_spec : {M : Type 1} → statement M
-scan_over_spec = tie.close (tie.spec (λ c. search rules) (λ c κs. search rules) (λ c. search rules) returns-2)
+scan_over_spec = tie.close (tie.spec (λ c. search rules) (λ c κs. search rules) (λ c. search rules) returns)

@@ -7,14 +7,14 @@ use borrow.Author.Rules.{rules}
 use Rattle.feed.proofs.sound.is_bounded.Statement.{statement}
 use Rattle.feed.proofs.sound.is_bounded.Tie as tie
 
-returns : tie.Need-returns
-returns c = c.room_for.ensures ∙ ap (room_for c.before.before.before.before.before.args.place) c.before.most-word.ensures.0 ∙ ap (λ (g : Goal). bounded_test g c.before.before.before.before.before.args.place) (sym c.before.before.before.goal.given.1)
+returns-in-Word : tie.Need-returns-in-Word
+returns-in-Word c = c.room_for.ensures ∙ ap (room_for c.before.before.before.args.place) c.before.most_word.ensures.0 ∙ ap (λ (g : Goal). bounded_test g c.before.before.before.args.place) (sym c.before.before.in-Word.is)
 
-returns-2 : tie.Need-returns-2
-returns-2 c = c.room-for2.ensures ∙ ap (room_for c.before.before.before.before.before.args.place) c.before.most_string.ensures.0 ∙ ap (λ (g : Goal). bounded_test g c.before.before.before.before.before.args.place) (sym c.before.before.before.goal2.given.1)
+returns-in-String : tie.Need-returns-in-String
+returns-in-String c = c.room_for-in-String.ensures ∙ ap (room_for c.before.before.before.args.place) c.before.most_string.ensures.0 ∙ ap (λ (g : Goal). bounded_test g c.before.before.before.args.place) (sym c.before.before.in-String.is)
 
-returns-3 : tie.Need-returns-3
-returns-3 c = c.room-for3.ensures ∙ ap (λ (x : ℕ). room_for c.before.before.before.before.before.args.place (c.before.before.before.goal3.given.0.0 + x)) c.before.most_gap.ensures.0 ∙ ap (λ (g : Goal). bounded_test g c.before.before.before.before.before.args.place) (sym c.before.before.before.goal3.given.1)
+returns-in-Skip : tie.Need-returns-in-Skip
+returns-in-Skip c = c.room_for-in-Skip.ensures ∙ ap (λ (x : ℕ). room_for c.before.before.before.args.place (c.before.before.in-Skip.n + x)) c.before.most_gap.ensures.0 ∙ ap (λ (g : Goal). bounded_test g c.before.before.before.args.place) (sym c.before.before.in-Skip.is)
 
 pub is_bounded_spec : {M : Type 1} → statement M
 is_bounded_spec =
@@ -33,8 +33,8 @@ is_bounded_spec =
     (λ c κs. search rules)
     (λ c. search rules)
     (λ c. search rules)
-    returns
-    returns-2
-    returns-3
+    returns-in-Word
+    returns-in-String
+    returns-in-Skip
     (λ c. search rules)
     (λ c. search rules))

@@ -5,11 +5,11 @@ use borrow.Author.Rules.{rules}
 use Rattle.feed.proofs.sound.is_front.Statement.{statement}
 use Rattle.feed.proofs.sound.is_front.Tie as tie
 
-returns : tie.Need-returns
-returns c = simp (eq-eqb c.before.args.have 4 c.if1.true)
+returns-then-have-eq4 : tie.Need-returns-then-have-eq4
+returns-then-have-eq4 c = simp (eq-eqb c.before.args.have 4 c.if-have-eq4.true)
 
-returns-2 : tie.Need-returns-2
-returns-2 c = c.is_IsWord.ensures ∙ simp (ne_eqb c.before.before.args.have 4 c.before.if1.false)
+returns : tie.Need-returns
+returns c = c.is_IsWord.ensures ∙ simp (ne_eqb c.before.before.args.have 4 c.before.if-have-eq4.false)
 
 pub is_front_spec : {M : Type 1} → statement M
-is_front_spec = tie.close (tie.spec returns (λ c κs. search rules) returns-2)
+is_front_spec = tie.close (tie.spec returns-then-have-eq4 (λ c κs. search rules) returns)

@@ -8,33 +8,33 @@ use borrow.Author.Rules.{rules}
 use Rattle.feed.proofs.sound.is_inside.Statement.{statement}
 use Rattle.feed.proofs.sound.is_inside.Tie as tie
 
+returns-then-have-ne4 : tie.Need-returns-then-have-ne4
+returns-then-have-ne4 c = simp (ne_eqb c.before.args.have 4 c.if-have-ne4.true)
+
+returns-then-limit_of-value : tie.Need-returns-then-limit_of-value
+returns-then-limit_of-value c = let h : limit_of c.before.before.before.args.string < c.before.before.before.args.value = omega (arith, c.if-limit_of-value.true, c.before.limit_of.ensures) in simp (eq-eqb c.before.before.before.args.have 4 c.before.before.if-have-ne4.false, lt-leb c.before.before.before.args.value (limit_of c.before.before.before.args.string) h)
+
+returns-then-at-todo : tie.Need-returns-then-at-todo
+returns-then-at-todo c = let h : c.before.before.before.before.args.value ≤ limit_of c.before.before.before.before.args.string = omega (arith, c.before.if-limit_of-value.false, c.before.before.limit_of.ensures) in simp (eq-eqb c.before.before.before.before.args.have 4 c.before.before.before.if-have-ne4.false, le-leb c.before.before.before.before.args.value (limit_of c.before.before.before.before.args.string) h, ne_eqb (c.before.before.before.before.args.at + c.before.before.before.before.args.todo) c.before.before.before.before.args.value c.if-at-todo.true)
+
+returns-then-size-todo : tie.Need-returns-then-size-todo
+returns-then-size-todo c = let h : c.before.before.before.before.before.args.value ≤ limit_of c.before.before.before.before.before.args.string = omega (arith, c.before.before.if-limit_of-value.false, c.before.before.before.limit_of.ensures) in simp (eq-eqb c.before.before.before.before.before.args.have 4 c.before.before.before.before.if-have-ne4.false, le-leb c.before.before.before.before.before.args.value (limit_of c.before.before.before.before.before.args.string) h, eq-eqb (c.before.before.before.before.before.args.at + c.before.before.before.before.before.args.todo) c.before.before.before.before.before.args.value c.before.if-at-todo.false, lt-leb (c.before.before.before.before.before.args.todo + c.before.before.before.before.before.args.pad) (padded c.before.before.before.before.before.args.value) c.if-size-todo.true)
+
 returns : tie.Need-returns
-returns c = simp (ne_eqb c.before.args.have 4 c.if1.true)
-
-returns-2 : tie.Need-returns-2
-returns-2 c = let h : limit_of c.before.before.before.args.string < c.before.before.before.args.value = omega (arith, c.if2.true, c.before.limit-of.ensures) in simp (eq-eqb c.before.before.before.args.have 4 c.before.before.if1.false, lt-leb c.before.before.before.args.value (limit_of c.before.before.before.args.string) h)
-
-returns-3 : tie.Need-returns-3
-returns-3 c = let h : c.before.before.before.before.args.value ≤ limit_of c.before.before.before.before.args.string = omega (arith, c.before.if2.false, c.before.before.limit-of.ensures) in simp (eq-eqb c.before.before.before.before.args.have 4 c.before.before.before.if1.false, le-leb c.before.before.before.before.args.value (limit_of c.before.before.before.before.args.string) h, ne_eqb (c.before.before.before.before.args.at + c.before.before.before.before.args.todo) c.before.before.before.before.args.value c.if3.true)
-
-returns-4 : tie.Need-returns-4
-returns-4 c = let h : c.before.before.before.before.before.args.value ≤ limit_of c.before.before.before.before.before.args.string = omega (arith, c.before.before.if2.false, c.before.before.before.limit-of.ensures) in simp (eq-eqb c.before.before.before.before.before.args.have 4 c.before.before.before.before.if1.false, le-leb c.before.before.before.before.before.args.value (limit_of c.before.before.before.before.before.args.string) h, eq-eqb (c.before.before.before.before.before.args.at + c.before.before.before.before.before.args.todo) c.before.before.before.before.before.args.value c.before.if3.false, lt-leb (c.before.before.before.before.before.args.todo + c.before.before.before.before.before.args.pad) (padded c.before.before.before.before.before.args.value) c.if4.true)
-
-returns-5 : tie.Need-returns-5
-returns-5 c = let h : c.before.before.before.before.before.before.args.value ≤ limit_of c.before.before.before.before.before.before.args.string = omega (arith, c.before.before.before.if2.false, c.before.before.before.before.limit-of.ensures) in simp (c.is-missing.ensures, eq-eqb c.before.before.before.before.before.before.args.have 4 c.before.before.before.before.before.if1.false, le-leb c.before.before.before.before.before.before.args.value (limit_of c.before.before.before.before.before.before.args.string) h, eq-eqb (c.before.before.before.before.before.before.args.at + c.before.before.before.before.before.before.args.todo) c.before.before.before.before.before.before.args.value c.before.before.if3.false, le-leb (c.before.before.before.before.before.before.args.todo + c.before.before.before.before.before.before.args.pad) (padded c.before.before.before.before.before.before.args.value) c.before.if4.false)
+returns c = let h : c.before.before.before.before.before.before.args.value ≤ limit_of c.before.before.before.before.before.before.args.string = omega (arith, c.before.before.before.if-limit_of-value.false, c.before.before.before.before.limit_of.ensures) in simp (c.is_missing.ensures, eq-eqb c.before.before.before.before.before.before.args.have 4 c.before.before.before.before.before.if-have-ne4.false, le-leb c.before.before.before.before.before.before.args.value (limit_of c.before.before.before.before.before.before.args.string) h, eq-eqb (c.before.before.before.before.before.before.args.at + c.before.before.before.before.before.before.args.todo) c.before.before.before.before.before.before.args.value c.before.before.if-at-todo.false, le-leb (c.before.before.before.before.before.before.args.todo + c.before.before.before.before.before.before.args.pad) (padded c.before.before.before.before.before.before.args.value) c.before.if-size-todo.false)
 
 pub is_inside_spec : {M : Type 1} → statement M
 is_inside_spec =
     tie.close
     (tie.spec
-    returns
+    returns-then-have-ne4
     (λ c κs. search rules)
-    returns-2
+    returns-then-limit_of-value
     (λ c. search rules)
-    returns-3
+    returns-then-at-todo
     (λ c. search rules)
     (λ c. search rules)
     (λ c. search rules)
-    returns-4
+    returns-then-size-todo
     (λ c κs. search rules)
-    returns-5)
+    returns)

@@ -7,11 +7,11 @@ use borrow.Author.Rules.{rules}
 use Rattle.feed.proofs.sound.is_sound.Statement.{statement}
 use Rattle.feed.proofs.sound.is_sound.Tie as tie
 
-returns : tie.Need-returns
-returns c = sym (ap (λ (x : Bool). x && front_test c.before.before.before.before.args.state.front.have c.before.before.before.before.args.state.front.value) (sym c.before.is-sound-cursor.ensures ∙ not-true _ c.if1.true))
+returns-then-not-is_sound_cursor : tie.Need-returns-then-not-is_sound_cursor
+returns-then-not-is_sound_cursor c = sym (ap (λ (x : Bool). x && front_test c.before.before.before.before.args.state.front.have c.before.before.before.before.args.state.front.value) (sym c.before.is_sound_cursor.ensures ∙ c.if-not-is_sound_cursor.true))
 
-returns-2 : tie.Need-returns-2
-returns-2 c = c.is_front.ensures ∙ sym (ap (λ (x : Bool). x && front_test c.before.before.before.before.before.args.state.front.have c.before.before.before.before.before.args.state.front.value) (sym c.before.before.is-sound-cursor.ensures ∙ not-false _ c.before.if1.false))
+returns : tie.Need-returns
+returns c = c.is_front.ensures ∙ sym (ap (λ (x : Bool). x && front_test c.before.before.before.before.before.args.state.front.have c.before.before.before.before.before.args.state.front.value) (sym c.before.before.is_sound_cursor.ensures ∙ c.before.if-not-is_sound_cursor.false))
 
 pub is_sound_spec : {M : Type 1} → statement M
-is_sound_spec = tie.close (tie.spec (λ c κs. search rules) returns (λ c κs. search rules) returns-2)
+is_sound_spec = tie.close (tie.spec (λ c κs. search rules) returns-then-not-is_sound_cursor (λ c κs. search rules) returns)

@@ -7,14 +7,14 @@ use borrow.Author.Rules.{rules}
 use Rattle.feed.proofs.sound.most_string.Statement.{statement}
 use Rattle.feed.proofs.sound.most_string.Tie as tie
 
-returns-5 : tie.Need-returns-5
-returns-5 c = let e : most_string c.before.before.before.before.args.string ≡ 42000 + c.before.before.string.given.0.0 * 42000 = ap most_string c.before.before.string.given.1 in (omega (arith, c.most-of.ensures, e), omega (arith, c.most-of.ensures, c.most-of.type-inv))
+returns-in-File : tie.Need-returns-in-File
+returns-in-File c = let e : most_string c.before.before.args.string ≡ 42000 + c.before.in-File.k * 42000 = ap most_string c.before.in-File.is in (omega (arith, c.most_of.ensures, e), omega (arith, c.most_of.ensures, c.most_of.type-inv))
 
-returns-6 : tie.Need-returns-6
-returns-6 c = let e : most_string c.before.before.before.before.args.string ≡ 400 + c.before.before.string2.given.0.0 * 400 = ap most_string c.before.before.string2.given.1 in (omega (arith, c.most_options.ensures, e), omega (arith, c.most_options.ensures, c.most_options.type-inv))
+returns-in-Key : tie.Need-returns-in-Key
+returns-in-Key c = let e : most_string c.before.before.args.string ≡ 400 + c.before.in-Key.k * 400 = ap most_string c.before.in-Key.is in (omega (arith, c.most_options.ensures, e), omega (arith, c.most_options.ensures, c.most_options.type-inv))
 
-returns-7 : tie.Need-returns-7
-returns-7 c = let e : most_string c.before.before.before.before.args.string ≡ 300 + c.before.before.string3.given.0.0 * 400 = ap most_string c.before.before.string3.given.1 in (omega (arith, c.most-options2.ensures, e), omega (arith, c.most-options2.ensures, c.most-options2.type-inv))
+returns-in-Value : tie.Need-returns-in-Value
+returns-in-Value c = let e : most_string c.before.before.args.string ≡ 300 + c.before.in-Value.k * 400 = ap most_string c.before.in-Value.is in (omega (arith, c.most_options-in-Value.ensures, e), omega (arith, c.most_options-in-Value.ensures, c.most_options-in-Value.type-inv))
 
 pub most_string_spec : {M : Type 1} → statement M
 most_string_spec =
@@ -34,6 +34,6 @@ most_string_spec =
     (λ c. search rules)
     (λ c. search rules)
     (λ c. search rules)
-    returns-5
-    returns-6
-    returns-7)
+    returns-in-File
+    returns-in-Key
+    returns-in-Value)

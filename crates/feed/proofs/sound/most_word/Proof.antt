@@ -7,17 +7,17 @@ use borrow.Author.Rules.{rules}
 use Rattle.feed.proofs.sound.most_word.Statement.{statement}
 use Rattle.feed.proofs.sound.most_word.Tie as tie
 
-returns-3 : tie.Need-returns-3
-returns-3 c = let e : most_word c.before.before.before.before.args.field ≡ 41500 + c.before.before.field.given.0.0 * 42000 = ap most_word c.before.before.field.given.1 in (omega (arith, c.most-of.ensures, e), omega (arith, c.most-of.ensures, c.most-of.type-inv))
+returns-in-Flags : tie.Need-returns-in-Flags
+returns-in-Flags c = let e : most_word c.before.before.args.field ≡ 41500 + c.before.in-Flags.k * 42000 = ap most_word c.before.in-Flags.is in (omega (arith, c.most_of.ensures, e), omega (arith, c.most_of.ensures, c.most_of.type-inv))
 
-returns-4 : tie.Need-returns-4
-returns-4 c = let e : most_word c.before.before.before.before.args.field ≡ 41100 + c.before.before.field2.given.0.1.0 * 42000 = ap most_word c.before.before.field2.given.1 in (omega (arith, c.most-of2.ensures, e), omega (arith, c.most-of2.ensures, c.most-of2.type-inv))
+returns-in-BlockCount : tie.Need-returns-in-BlockCount
+returns-in-BlockCount c = let e : most_word c.before.before.args.field ≡ 41100 + c.before.in-BlockCount.k * 42000 = ap most_word c.before.in-BlockCount.is in (omega (arith, c.most_of-in-BlockCount.ensures, e), omega (arith, c.most_of-in-BlockCount.ensures, c.most_of-in-BlockCount.type-inv))
 
-returns-5 : tie.Need-returns-5
-returns-5 c = let e : most_word c.before.before.before.before.args.field ≡ 40 + c.before.before.field3.given.0.0 * 40 + c.before.before.field3.given.0.1.0 * 42000 = ap most_word c.before.before.field3.given.1 in (omega (arith, c.most-of3.ensures, e), omega (arith, c.most-of3.ensures, c.most-of3.type-inv))
+returns-in-Block : tie.Need-returns-in-Block
+returns-in-Block c = let e : most_word c.before.before.args.field ≡ 40 + c.before.in-Block.m * 40 + c.before.in-Block.k * 42000 = ap most_word c.before.in-Block.is in (omega (arith, c.most_of-in-Block.ensures, e), omega (arith, c.most_of-in-Block.ensures, c.most_of-in-Block.type-inv))
 
-returns-6 : tie.Need-returns-6
-returns-6 c = let e : most_word c.before.before.before.before.args.field ≡ 36 + c.before.before.field4.given.0.0 * 40 + c.before.before.field4.given.0.1.0 * 42000 = ap most_word c.before.before.field4.given.1 in (omega (arith, c.most-of4.ensures, e), omega (arith, c.most-of4.ensures, c.most-of4.type-inv))
+returns-in-HashLength : tie.Need-returns-in-HashLength
+returns-in-HashLength c = let e : most_word c.before.before.args.field ≡ 36 + c.before.in-HashLength.m * 40 + c.before.in-HashLength.k * 42000 = ap most_word c.before.in-HashLength.is in (omega (arith, c.most_of-in-HashLength.ensures, e), omega (arith, c.most_of-in-HashLength.ensures, c.most_of-in-HashLength.type-inv))
 
 pub most_word_spec : {M : Type 1} → statement M
 most_word_spec =
@@ -36,8 +36,8 @@ most_word_spec =
     (λ c. search rules)
     (λ c. search rules)
     (λ c. search rules)
-    returns-3
-    returns-4
-    returns-5
-    returns-6
+    returns-in-Flags
+    returns-in-BlockCount
+    returns-in-Block
+    returns-in-HashLength
     (λ c. search rules))

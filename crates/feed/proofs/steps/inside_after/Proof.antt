@@ -10,9 +10,9 @@ use Rattle.feed.proofs.steps.inside_after.Tie as tie
 settled-requires : tie.Need-settled-requires
 settled-requires c κs = (search rules, omega (arith, c.before.before.before.before.before.requires.1.limited, limit_most c.before.before.before.before.before.args.string), omega (arith, c.before.before.before.before.before.requires.1.within, c.before.before.before.before.before.requires.1.limited, limit_most c.before.before.before.before.before.args.string))
 
-returns-2 : tie.Need-returns-2
+returns : tie.Need-returns
 unfolding inside_after
-returns-2 c = simp (c.settled.ensures, c.before.scan-after.ensures, c.before.before.rule-of.ensures, ne_eqb c.before.before.before.before.before.before.args.state.todo 0 c.before.before.before.before.before.if1.false)
+returns c = simp (c.settled.ensures, c.before.scan_after.ensures, c.before.before.rule_of.ensures, ne_eqb c.before.before.before.before.before.before.args.state.todo 0 c.before.before.before.before.before.if-todo-eq0.false)
 
 pub inside_after_spec : {M : Type 1} → statement M
 inside_after_spec =
@@ -25,4 +25,4 @@ inside_after_spec =
     (λ c κs. search rules)
     (λ c κs. search rules)
     settled-requires
-    returns-2)
+    returns)

@@ -12,7 +12,7 @@ settled-requires c κs = (search rules, omega (arith, c.before.before.before.bef
 
 returns : tie.Need-returns
 unfolding inside_after
-returns c = simp (c.settled.ensures, c.before.zeros-after.ensures, c.before.before.before.bad-after.ensures, eq-eqb c.before.before.before.before.before.args.state.todo 0 c.before.before.before.before.before.requires.2)
+returns c = simp (c.settled.ensures, c.before.zeros_after.ensures, c.before.before.before.bad_after-bad.ensures, eq-eqb c.before.before.before.before.before.args.state.todo 0 c.before.before.before.before.before.requires.2)
 
 pub pad_after_spec : {M : Type 1} → statement M
 pad_after_spec =

@@ -8,49 +8,49 @@ use borrow.Author.Rules.{rules}
 use Rattle.feed.proofs.steps.step.Statement.{statement}
 use Rattle.feed.proofs.steps.step.Tie as tie
 
-word-after-requires : tie.Need-word-after-requires
-word-after-requires c κs = let f = fits_at c.before.goal.given.1 c.before.before.before.requires in (omega (arith, bounded_at c.before.before.before.args.state _ c.before.goal.given.1 c.before.before.before.requires), small_word _ _ f.0 f.1)
+word_after-requires : tie.Need-word_after-requires
+word_after-requires c κs = let f = fits_at c.in-Word.is c.before.requires in (omega (arith, bounded_at c.before.args.state _ c.in-Word.is c.before.requires), small_word _ _ f.0 f.1)
 
-string-after-requires : tie.Need-string-after-requires
-string-after-requires c κs = (omega (arith, bounded_at c.before.before.before.args.state _ c.before.goal2.given.1 c.before.before.before.requires), fits_at c.before.goal2.given.1 c.before.before.before.requires)
+string_after-requires : tie.Need-string_after-requires
+string_after-requires c κs = (omega (arith, bounded_at c.before.args.state _ c.in-String.is c.before.requires), fits_at c.in-String.is c.before.requires)
 
-gap-after-requires : tie.Need-gap-after-requires
-gap-after-requires c κs = let f = fits_at c.before.goal3.given.1 c.before.before.before.requires in (omega (arith, bounded_at c.before.before.before.args.state _ c.before.goal3.given.1 c.before.before.before.requires, f.1), f.1)
+gap_after-requires : tie.Need-gap_after-requires
+gap_after-requires c κs = let f = fits_at c.in-Skip.is c.before.requires in (omega (arith, bounded_at c.before.args.state _ c.in-Skip.is c.before.requires, f.1), f.1)
 
-returns : tie.Need-returns
+returns-in-Word : tie.Need-returns-in-Word
 unfolding stepped
-returns c = c.word_after.ensures ∙ ap (λ (g : Goal). goal_after g c.before.before.before.before.args.state c.before.before.before.before.args.b) (sym c.before.before.goal.given.1)
+returns-in-Word c = c.word_after.ensures ∙ ap (λ (g : Goal). goal_after g c.before.before.args.state c.before.before.args.b) (sym c.before.in-Word.is)
 
-returns-2 : tie.Need-returns-2
+returns-in-String : tie.Need-returns-in-String
 unfolding stepped
-returns-2 c = c.string-after.ensures ∙ ap (λ (g : Goal). goal_after g c.before.before.before.before.args.state c.before.before.before.before.args.b) (sym c.before.before.goal2.given.1)
+returns-in-String c = c.string_after.ensures ∙ ap (λ (g : Goal). goal_after g c.before.before.args.state c.before.before.args.b) (sym c.before.in-String.is)
 
-returns-3 : tie.Need-returns-3
+returns-in-Skip : tie.Need-returns-in-Skip
 unfolding stepped
-returns-3 c = c.gap_after.ensures ∙ ap (λ (g : Goal). goal_after g c.before.before.before.before.args.state c.before.before.before.before.args.b) (sym c.before.before.goal3.given.1)
+returns-in-Skip c = c.gap_after.ensures ∙ ap (λ (g : Goal). goal_after g c.before.before.args.state c.before.before.args.b) (sym c.before.in-Skip.is)
 
-returns-4 : tie.Need-returns-4
+returns-in-Ended : tie.Need-returns-in-Ended
 unfolding stepped
-returns-4 c = ap (λ (g : Goal). goal_after g c.before.before.args.state c.before.before.args.b) (sym c.enum_told.given.1)
+returns-in-Ended c = ap (λ (g : Goal). goal_after g c.before.args.state c.before.args.b) (sym c.in-Ended.is)
 
-returns-5 : tie.Need-returns-5
+returns-in-Stopped : tie.Need-returns-in-Stopped
 unfolding stepped
-returns-5 c = ap (λ (g : Goal). goal_after g c.before.before.args.state c.before.before.args.b) (sym c.enum-told2.given.1)
+returns-in-Stopped c = ap (λ (g : Goal). goal_after g c.before.args.state c.before.args.b) (sym c.in-Stopped.is)
 
 pub step_spec : {M : Type 1} → statement M
 step_spec =
     tie.close
     (tie.spec
     (λ c. search rules)
-    word-after-requires
+    word_after-requires
     (λ c. search rules)
-    string-after-requires
+    string_after-requires
     (λ c. search rules)
-    gap-after-requires
+    gap_after-requires
     (λ c. search rules)
     (λ c. search rules)
-    returns
-    returns-2
-    returns-3
-    returns-4
-    returns-5)
+    returns-in-Word
+    returns-in-String
+    returns-in-Skip
+    returns-in-Ended
+    returns-in-Stopped)

@@ -5,11 +5,11 @@ use borrow.Author.Rules.{rules}
 use Rattle.feed.proofs.steps.word_after.Statement.{statement}
 use Rattle.feed.proofs.steps.word_after.Tie as tie
 
-returns : tie.Need-returns
-returns c = simp (c.gathered.ensures, c.before.joined.ensures, lt-ltb c.before.before.before.args.have 3 c.before.before.if1.true)
+returns-then-have-lt3 : tie.Need-returns-then-have-lt3
+returns-then-have-lt3 c = simp (c.gathered.ensures, c.before.joined.ensures, lt-ltb c.before.before.before.args.have 3 c.before.before.if-have-lt3.true)
 
-returns-2 : tie.Need-returns-2
-returns-2 c = simp (c.after-word.ensures, c.before.joined2.ensures, le-ltb c.before.before.before.args.have 3 c.before.before.if1.false)
+returns-else-have-lt3 : tie.Need-returns-else-have-lt3
+returns-else-have-lt3 c = simp (c.after_word.ensures, c.before.joined-else-have-lt3.ensures, le-ltb c.before.before.before.args.have 3 c.before.before.if-have-lt3.false)
 
 pub word_after_spec : {M : Type 1} → statement M
 word_after_spec =
@@ -20,5 +20,5 @@ word_after_spec =
     (λ c κs. search rules)
     (λ c κs. search rules)
     (λ c κs. search rules)
-    returns
-    returns-2)
+    returns-then-have-lt3
+    returns-else-have-lt3)

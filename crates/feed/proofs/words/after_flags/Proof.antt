@@ -6,15 +6,15 @@ use borrow.Author.Rules.{rules}
 use Rattle.feed.proofs.words.after_flags.Statement.{statement}
 use Rattle.feed.proofs.words.after_flags.Tie as tie
 
-returns : tie.Need-returns
+returns-then-f-lt16384 : tie.Need-returns-then-f-lt16384
 unfolding after_word
-returns c = simp (c.at-goal.ensures, c.before.is-deleted.ensures, lt-ltb c.before.before.before.args.f 16384 c.before.before.if1.true)
+returns-then-f-lt16384 c = simp (c.at_goal.ensures, c.before.is_deleted.ensures, lt-ltb c.before.before.before.args.f 16384 c.before.before.if-f-lt16384.true)
 
-returns-2 : tie.Need-returns-2
+returns-else-f-lt16384 : tie.Need-returns-else-f-lt16384
 unfolding after_word
-returns-2 c = simp (c.stopped.ensures, le-ltb c.before.before.args.f 16384 c.before.if1.false)
+returns-else-f-lt16384 c = simp (c.stopped.ensures, le-ltb c.before.before.args.f 16384 c.before.if-f-lt16384.false)
 
 pub after_flags_spec : {M : Type 1} → statement M
 after_flags_spec =
     tie.close
-    (tie.spec (λ c κs. search rules) (λ c. search rules) (λ c κs. search rules) (λ c κs. search rules) returns returns-2)
+    (tie.spec (λ c κs. search rules) (λ c. search rules) (λ c κs. search rules) (λ c κs. search rules) returns-then-f-lt16384 returns-else-f-lt16384)

@@ -6,14 +6,14 @@ use borrow.Author.Rules.{rules}
 use Rattle.feed.proofs.words.after_hash_length.Statement.{statement}
 use Rattle.feed.proofs.words.after_hash_length.Tie as tie
 
-returns : tie.Need-returns
+returns-then-n-eq32 : tie.Need-returns-then-n-eq32
 unfolding after_word
-returns c = simp (c.at-goal.ensures, eq-eqb c.before.before.args.n 32 c.before.if1.true)
+returns-then-n-eq32 c = simp (c.at_goal.ensures, eq-eqb c.before.before.args.n 32 c.before.if-n-eq32.true)
 
-returns-2 : tie.Need-returns-2
+returns-else-n-eq32 : tie.Need-returns-else-n-eq32
 unfolding after_word
-returns-2 c = simp (c.stopped.ensures, ne_eqb c.before.before.args.n 32 c.before.if1.false)
+returns-else-n-eq32 c = simp (c.stopped.ensures, ne_eqb c.before.before.args.n 32 c.before.if-n-eq32.false)
 
 pub after_hash_length_spec : {M : Type 1} → statement M
 after_hash_length_spec =
-    tie.close (tie.spec (λ c. search rules) (λ c κs. search rules) (λ c κs. search rules) returns returns-2)
+    tie.close (tie.spec (λ c. search rules) (λ c κs. search rules) (λ c κs. search rules) returns-then-n-eq32 returns-else-n-eq32)

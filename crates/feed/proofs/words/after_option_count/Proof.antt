@@ -6,13 +6,13 @@ use borrow.Author.Rules.{rules}
 use Rattle.feed.proofs.words.after_option_count.Statement.{statement}
 use Rattle.feed.proofs.words.after_option_count.Tie as tie
 
-returns : tie.Need-returns
+returns-then-n-le64 : tie.Need-returns-then-n-le64
 unfolding after_word
-returns c = simp (c.at-goal.ensures, c.before.options_goal.ensures, le-leb c.before.before.before.args.n 64 c.before.before.if1.true)
+returns-then-n-le64 c = simp (c.at_goal.ensures, c.before.options_goal.ensures, le-leb c.before.before.before.args.n 64 c.before.before.if-n-le64.true)
 
-returns-2 : tie.Need-returns-2
+returns-else-n-le64 : tie.Need-returns-else-n-le64
 unfolding after_word
-returns-2 c = simp (c.stopped.ensures, lt-leb c.before.before.args.n 64 c.before.if1.false)
+returns-else-n-le64 c = simp (c.stopped.ensures, lt-leb c.before.before.args.n 64 c.before.if-n-le64.false)
 
 pub after_option_count_spec : {M : Type 1} → statement M
 after_option_count_spec =
@@ -22,5 +22,5 @@ after_option_count_spec =
     (λ c. search rules)
     (λ c κs. search rules)
     (λ c κs. search rules)
-    returns
-    returns-2)
+    returns-then-n-le64
+    returns-else-n-le64)

@@ -6,15 +6,15 @@ use borrow.Author.Rules.{rules}
 use Rattle.feed.proofs.words.after_size.Statement.{statement}
 use Rattle.feed.proofs.words.after_size.Tie as tie
 
-returns : tie.Need-returns
+returns-then-is_size : tie.Need-returns-then-is_size
 unfolding after_word
-returns c = simp (c.at-goal.ensures, sym c.before.before.is-size.ensures ∙ c.before.if1.true)
+returns-then-is_size c = simp (c.at_goal.ensures, sym c.before.before.is_size.ensures ∙ c.before.if-is_size.true)
 
-returns-2 : tie.Need-returns-2
+returns-else-is_size : tie.Need-returns-else-is_size
 unfolding after_word
-returns-2 c = simp (c.stopped.ensures, sym c.before.before.is-size.ensures ∙ c.before.if1.false)
+returns-else-is_size c = simp (c.stopped.ensures, sym c.before.before.is_size.ensures ∙ c.before.if-is_size.false)
 
 pub after_size_spec : {M : Type 1} → statement M
 after_size_spec =
     tie.close
-    (tie.spec (λ c κs. search rules) (λ c. search rules) (λ c κs. search rules) (λ c κs. search rules) returns returns-2)
+    (tie.spec (λ c κs. search rules) (λ c. search rules) (λ c κs. search rules) (λ c κs. search rules) returns-then-is_size returns-else-is_size)

@@ -9,25 +9,25 @@ use borrow.Author.Rules.{rules}
 use Rattle.feed.proofs.words.after_start.Statement.{statement}
 use Rattle.feed.proofs.words.after_start.Tie as tie
 
+returns-then-version_of-ne0 : tie.Need-returns-then-version_of-ne0
+unfolding after_word
+returns-then-version_of-ne0 c = simp (c.stopped.ensures, ne_eqb (version_of c.before.before.before.args.h) 0 (λ e. c.before.if-version_of-ne0.true (c.before.before.version_of.ensures ∙ e)))
+
+returns-then-kind-eq0 : tie.Need-returns-then-kind-eq0
+unfolding after_word
+returns-then-kind-eq0 c = simp (c.stopped-then-kind-eq0.ensures, eq-eqb (version_of c.before.before.before.before.before.args.h) 0 (sym c.before.before.before.before.version_of.ensures ∙ c.before.before.before.if-version_of-ne0.false), type_zero c.before.before.before.before.before.args.edition (type_of c.before.before.before.before.before.args.h) (sym c.before.before.type_of-kind.ensures ∙ c.before.if-kind-eq0.true))
+
+returns-then-last_type-kind : tie.Need-returns-then-last_type-kind
+unfolding after_word
+returns-then-last_type-kind c = simp (c.stopped-then-last_type-kind.ensures, eq-eqb (version_of c.before.before.before.before.before.before.before.args.h) 0 (sym c.before.before.before.before.before.before.version_of.ensures ∙ c.before.before.before.before.before.if-version_of-ne0.false), type_high c.before.before.before.before.before.before.before.args.edition (type_of c.before.before.before.before.before.before.before.args.h) (λ e. c.before.before.before.if-kind-eq0.false (c.before.before.before.before.type_of-kind.ensures ∙ e)) (omega (arith, c.before.if-last_type-kind.true, c.before.before.last_type.ensures, c.before.before.before.before.type_of-kind.ensures)))
+
+returns-then-reserved_of-ne0 : tie.Need-returns-then-reserved_of-ne0
+unfolding after_word
+returns-then-reserved_of-ne0 c = simp (c.stopped-then-reserved_of-ne0.ensures, eq-eqb (version_of c.before.before.before.before.before.before.before.before.before.args.h) 0 (sym c.before.before.before.before.before.before.before.before.version_of.ensures ∙ c.before.before.before.before.before.before.before.if-version_of-ne0.false), type_right c.before.before.before.before.before.before.before.before.before.args.edition (type_of c.before.before.before.before.before.before.before.before.before.args.h) (λ e. c.before.before.before.before.before.if-kind-eq0.false (c.before.before.before.before.before.before.type_of-kind.ensures ∙ e)) (omega (arith, c.before.before.before.if-last_type-kind.false, c.before.before.before.before.last_type.ensures, c.before.before.before.before.before.before.type_of-kind.ensures)), ne_eqb (reserved_of c.before.before.before.before.before.before.before.before.before.args.h) 0 (λ e. c.before.if-reserved_of-ne0.true (c.before.before.reserved_of.ensures ∙ e)))
+
 returns : tie.Need-returns
 unfolding after_word
-returns c = simp (c.stopped.ensures, ne_eqb (version_of c.before.before.before.args.h) 0 (λ e. c.before.if1.true (c.before.before.version_of.ensures ∙ e)))
-
-returns-2 : tie.Need-returns-2
-unfolding after_word
-returns-2 c = simp (c.stopped2.ensures, eq-eqb (version_of c.before.before.before.before.before.args.h) 0 (sym c.before.before.before.before.version_of.ensures ∙ c.before.before.before.if1.false), type_zero c.before.before.before.before.before.args.edition (type_of c.before.before.before.before.before.args.h) (sym c.before.before.type-of.ensures ∙ c.before.if2.true))
-
-returns-3 : tie.Need-returns-3
-unfolding after_word
-returns-3 c = simp (c.stopped3.ensures, eq-eqb (version_of c.before.before.before.before.before.before.before.args.h) 0 (sym c.before.before.before.before.before.before.version_of.ensures ∙ c.before.before.before.before.before.if1.false), type_high c.before.before.before.before.before.before.before.args.edition (type_of c.before.before.before.before.before.before.before.args.h) (λ e. c.before.before.before.if2.false (c.before.before.before.before.type-of.ensures ∙ e)) (omega (arith, c.before.if3.true, c.before.before.last-type.ensures, c.before.before.before.before.type-of.ensures)))
-
-returns-4 : tie.Need-returns-4
-unfolding after_word
-returns-4 c = simp (c.stopped4.ensures, eq-eqb (version_of c.before.before.before.before.before.before.before.before.before.args.h) 0 (sym c.before.before.before.before.before.before.before.before.version_of.ensures ∙ c.before.before.before.before.before.before.before.if1.false), type_right c.before.before.before.before.before.before.before.before.before.args.edition (type_of c.before.before.before.before.before.before.before.before.before.args.h) (λ e. c.before.before.before.before.before.if2.false (c.before.before.before.before.before.before.type-of.ensures ∙ e)) (omega (arith, c.before.before.before.if3.false, c.before.before.before.before.last-type.ensures, c.before.before.before.before.before.before.type-of.ensures)), ne_eqb (reserved_of c.before.before.before.before.before.before.before.before.before.args.h) 0 (λ e. c.before.if4.true (c.before.before.reserved-of.ensures ∙ e)))
-
-returns-5 : tie.Need-returns-5
-unfolding after_word
-returns-5 c = simp (c.at-goal.ensures, c.before.body_goal.ensures, c.before.before.before.before.before.before.before.type-of.ensures, eq-eqb (version_of c.before.before.before.before.before.before.before.before.before.before.args.h) 0 (sym c.before.before.before.before.before.before.before.before.before.version_of.ensures ∙ c.before.before.before.before.before.before.before.before.if1.false), type_right c.before.before.before.before.before.before.before.before.before.before.args.edition (type_of c.before.before.before.before.before.before.before.before.before.before.args.h) (λ e. c.before.before.before.before.before.before.if2.false (c.before.before.before.before.before.before.before.type-of.ensures ∙ e)) (omega (arith, c.before.before.before.before.if3.false, c.before.before.before.before.before.last-type.ensures, c.before.before.before.before.before.before.before.type-of.ensures)), eq-eqb (reserved_of c.before.before.before.before.before.before.before.before.before.before.args.h) 0 (sym c.before.before.before.reserved-of.ensures ∙ c.before.before.if4.false))
+returns c = simp (c.at_goal.ensures, c.before.body_goal.ensures, c.before.before.before.before.before.before.before.type_of-kind.ensures, eq-eqb (version_of c.before.before.before.before.before.before.before.before.before.before.args.h) 0 (sym c.before.before.before.before.before.before.before.before.before.version_of.ensures ∙ c.before.before.before.before.before.before.before.before.if-version_of-ne0.false), type_right c.before.before.before.before.before.before.before.before.before.before.args.edition (type_of c.before.before.before.before.before.before.before.before.before.before.args.h) (λ e. c.before.before.before.before.before.before.if-kind-eq0.false (c.before.before.before.before.before.before.before.type_of-kind.ensures ∙ e)) (omega (arith, c.before.before.before.before.if-last_type-kind.false, c.before.before.before.before.before.last_type.ensures, c.before.before.before.before.before.before.before.type_of-kind.ensures)), eq-eqb (reserved_of c.before.before.before.before.before.before.before.before.before.before.args.h) 0 (sym c.before.before.before.reserved_of.ensures ∙ c.before.before.if-reserved_of-ne0.false))
 
 pub after_start_spec : {M : Type 1} → statement M
 after_start_spec =
@@ -35,17 +35,17 @@ after_start_spec =
     (tie.spec
     (λ c κs. search rules)
     (λ c κs. search rules)
-    returns
+    returns-then-version_of-ne0
     (λ c κs. search rules)
     (λ c κs. search rules)
-    returns-2
+    returns-then-kind-eq0
     (λ c κs. search rules)
     (λ c κs. search rules)
-    returns-3
+    returns-then-last_type-kind
     (λ c κs. search rules)
     (λ c κs. search rules)
-    returns-4
+    returns-then-reserved_of-ne0
     (λ c κs. search rules)
     (λ c. search rules)
     (λ c κs. search rules)
-    returns-5)
+    returns)

@@ -6,26 +6,26 @@ use borrow.Author.Rules.{rules}
 use Rattle.feed.proofs.words.after_word.Statement.{statement}
 use Rattle.feed.proofs.words.after_word.Tie as tie
 
-returns : tie.Need-returns
-returns c = c.after-start.ensures ∙ ap (λ (f : WordField). after_word f c.before.before.before.before.args.place c.before.before.before.before.args.w) (sym c.before.before.field.given.1)
+returns-in-Start : tie.Need-returns-in-Start
+returns-in-Start c = c.after_start.ensures ∙ ap (λ (f : WordField). after_word f c.before.before.args.place c.before.before.args.w) (sym c.before.in-Start.is)
 
-returns-2 : tie.Need-returns-2
-returns-2 c = c.after-file-count.ensures ∙ ap (λ (f : WordField). after_word f c.before.before.before.args.place c.before.before.before.args.w) (sym c.before.enum_told.given.1)
+returns-in-FileCount : tie.Need-returns-in-FileCount
+returns-in-FileCount c = c.after_file_count.ensures ∙ ap (λ (f : WordField). after_word f c.before.before.args.place c.before.before.args.w) (sym c.before.in-FileCount.is)
 
-returns-3 : tie.Need-returns-3
-returns-3 c = c.after-flags.ensures ∙ ap (λ (f : WordField). after_word f c.before.before.before.before.args.place c.before.before.before.before.args.w) (sym c.before.before.field2.given.1)
+returns-in-Flags : tie.Need-returns-in-Flags
+returns-in-Flags c = c.after_flags.ensures ∙ ap (λ (f : WordField). after_word f c.before.before.args.place c.before.before.args.w) (sym c.before.in-Flags.is)
 
-returns-4 : tie.Need-returns-4
-returns-4 c = c.after-block-count.ensures ∙ ap (λ (f : WordField). after_word f c.before.before.before.before.args.place c.before.before.before.before.args.w) (sym c.before.before.field3.given.1)
+returns-in-BlockCount : tie.Need-returns-in-BlockCount
+returns-in-BlockCount c = c.after_block_count.ensures ∙ ap (λ (f : WordField). after_word f c.before.before.args.place c.before.before.args.w) (sym c.before.in-BlockCount.is)
 
-returns-5 : tie.Need-returns-5
-returns-5 c = c.after-size.ensures ∙ ap (λ (f : WordField). after_word f c.before.before.before.before.args.place c.before.before.before.before.args.w) (sym c.before.before.field4.given.1)
+returns-in-Block : tie.Need-returns-in-Block
+returns-in-Block c = c.after_size.ensures ∙ ap (λ (f : WordField). after_word f c.before.before.args.place c.before.before.args.w) (sym c.before.in-Block.is)
 
-returns-6 : tie.Need-returns-6
-returns-6 c = c.after-hash-length.ensures ∙ ap (λ (f : WordField). after_word f c.before.before.before.before.args.place c.before.before.before.before.args.w) (sym c.before.before.field5.given.1)
+returns-in-HashLength : tie.Need-returns-in-HashLength
+returns-in-HashLength c = c.after_hash_length.ensures ∙ ap (λ (f : WordField). after_word f c.before.before.args.place c.before.before.args.w) (sym c.before.in-HashLength.is)
 
-returns-7 : tie.Need-returns-7
-returns-7 c = c.after-option-count.ensures ∙ ap (λ (f : WordField). after_word f c.before.before.before.args.place c.before.before.before.args.w) (sym c.before.enum-told2.given.1)
+returns-in-OptionCount : tie.Need-returns-in-OptionCount
+returns-in-OptionCount c = c.after_option_count.ensures ∙ ap (λ (f : WordField). after_word f c.before.before.args.place c.before.before.args.w) (sym c.before.in-OptionCount.is)
 
 pub after_word_spec : {M : Type 1} → statement M
 after_word_spec =
@@ -45,10 +45,10 @@ after_word_spec =
     (λ c κs. search rules)
     (λ c. search rules)
     (λ c κs. search rules)
-    returns
-    returns-2
-    returns-3
-    returns-4
-    returns-5
-    returns-6
-    returns-7)
+    returns-in-Start
+    returns-in-FileCount
+    returns-in-Flags
+    returns-in-BlockCount
+    returns-in-Block
+    returns-in-HashLength
+    returns-in-OptionCount)

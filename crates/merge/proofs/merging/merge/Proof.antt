@@ -11,34 +11,34 @@ use Rattle.merge.proofs.merging.merge.Statement.{statement}
 use Rattle.merge.proofs.merging.merge.Tie as tie
 
 -- the tables are good
-first_good : (c : tie.Else1) → is_good c.before.before.before.before.before.args.a.now ≡ true
-first_good c = sym c.before.is-good.ensures ∙ not-false _ c.if1.false
+first_good : (c : tie.Else-not-is_good) → is_good c.before.before.before.before.before.args.a.now ≡ true
+first_good c = sym c.before.is_good.ensures ∙ c.if-not-is_good.false
 
-second-good : (c : tie.Else2) → is_good c.before.before.before.before.before.before.before.args.b.now ≡ true
-second-good c = sym c.before.is-good2.ensures ∙ not-false _ c.if2.false
+second-good : (c : tie.Else-not-is_good-2) → is_good c.before.before.before.before.before.before.before.args.b.now ≡ true
+second-good c = sym c.before.is_good-2.ensures ∙ c.if-not-is_good-2.false
 
-returns : tie.Need-returns
-returns c =
+returns-then-not-is_good : tie.Need-returns-then-not-is_good
+returns-then-not-is_good c =
     let s = c.before.before.before.before.before.before.args in
-    fills_refused s.out.now (first_bad_lem s.a.now s.b.now (sym c.before.before.is-good.ensures ∙ not-true _ c.before.if1.true)) c.refused.ensures
+    fills_refused s.out.now (first_bad_lem s.a.now s.b.now (sym c.before.before.is_good.ensures ∙ c.before.if-not-is_good.true)) c.refused.ensures
 
-returns-2 : tie.Need-returns-2
-returns-2 c =
+returns-then-not-is_good-2 : tie.Need-returns-then-not-is_good-2
+returns-then-not-is_good-2 c =
     let g = c.before.before.before in
     let s = g.before.before.before.before.before.args in
     fills_refused s.out.now
-    (second_bad s.a.now s.b.now (first_good g) (sym c.before.before.is-good2.ensures ∙ not-true _ c.before.if2.true)) c.refused2.ensures
+    (second_bad s.a.now s.b.now (first_good g) (sym c.before.before.is_good-2.ensures ∙ c.before.if-not-is_good-2.true)) c.refused-then-not-is_good-2.ensures
 
-note-records-requires : tie.Need-note-records-requires
-note-records-requires c κs = (first_good c.before.before.before, second-good c.before, search rules)
+note_records-size-requires : tie.Need-note_records-size-requires
+note_records-size-requires c κs = (first_good c.before.before.before, second-good c.before, search rules)
 
-returns-3 : tie.Need-returns-3
-returns-3 c =
-    let g = c.before.before.before.before.before.before.before.before.before in
+returns : tie.Need-returns
+returns c =
+    let g = c.before.before.before.before.before.before.before.before in
     let s = g.before.before.before.before.before.before.before.args in
-    let n = c.before.before.before.before.before.before.before.note-records in
+    let n = c.before.before.before.before.before.before.note_records-size in
     fills_same s.out.now (both_good s.a.now s.b.now (first_good g.before.before) (second-good g))
-    (table_put s.a.now s.b.now n.new.1.1.0 n.result s.out.now n.ensures c.before.before.put-table.ensures)
+    (table_put s.a.now s.b.now n.new.notes n.result s.out.now n.ensures c.before.before.put_table.ensures)
 
 pub merge_spec : {M : Type 1} → statement M
 merge_spec =
@@ -46,15 +46,15 @@ merge_spec =
     (tie.spec
     (λ c κs. search rules)
     (λ c κs. search rules)
-    returns
+    returns-then-not-is_good
     (λ c κs. search rules)
     (λ c κs. search rules)
-    returns-2
+    returns-then-not-is_good-2
     (λ c. search rules)
-    note-records-requires
+    note_records-size-requires
     (λ c. search rules)
     (λ c. search rules)
     (λ c. search rules)
     (λ c κs. search rules)
     (λ c. search rules)
-    returns-3)
+    returns)

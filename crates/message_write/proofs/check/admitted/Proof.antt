@@ -5,27 +5,27 @@ use borrow.Author.Tests.{le-leb, lt-leb}
 use Rattle.message_write.proofs.check.admitted.Statement.{statement}
 use Rattle.message_write.proofs.check.admitted.Tie as tie
 
+returns-then-id-gt-ID_LIMIT : tie.Need-returns-then-id-gt-ID_LIMIT
+returns-then-id-gt-ID_LIMIT c = c.refused.ensures ∙ simp (lt-leb c.before.before.args.id 4095 c.before.if-id-gt-ID_LIMIT.true)
+
+returns-in_default : tie.Need-returns-in_default
+returns-in_default c = simp (le-leb c.before.before.args.id 4095 c.before.if-id-gt-ID_LIMIT.false, c.in_default.is)
+
+returns-then-room-n : tie.Need-returns-then-room-n
+returns-then-room-n c = c.refused-then-room-n.ensures ∙ simp (le-leb c.before.before.before.before.args.id 4095 c.before.before.before.if-id-gt-ID_LIMIT.false, c.before.before.in-Filled.is, lt-leb c.before.before.in-Filled.n c.before.before.before.before.args.room c.before.if-room-n.true)
+
 returns : tie.Need-returns
-returns c = c.refused.ensures ∙ simp (lt-leb c.before.before.args.id 4095 c.before.if1.true)
-
-returns-2 : tie.Need-returns-2
-returns-2 c = simp (le-leb c.before.before.before.args.id 4095 c.before.before.if1.false, c.enum_told.given.1)
-
-returns-3 : tie.Need-returns-3
-returns-3 c = c.refused2.ensures ∙ simp (le-leb c.before.before.before.before.before.before.args.id 4095 c.before.before.before.before.before.if1.false, c.before.before.before.checked.given.1, lt-leb c.before.before.before.checked.given.0.0 c.before.before.before.before.before.before.args.room c.before.if2.true)
-
-returns-4 : tie.Need-returns-4
-returns-4 c = simp (le-leb c.before.before.before.before.before.args.id 4095 c.before.before.before.before.if1.false, c.before.before.checked.given.1, le-leb c.before.before.checked.given.0.0 c.before.before.before.before.before.args.room c.if2.false)
+returns c = simp (le-leb c.before.before.before.args.id 4095 c.before.before.if-id-gt-ID_LIMIT.false, c.before.in-Filled.is, le-leb c.before.in-Filled.n c.before.before.before.args.room c.if-room-n.false)
 
 pub admitted_spec : {M : Type 1} → statement M
 admitted_spec =
     tie.close
     (tie.spec
     (λ c κs. search rules)
-    returns
+    returns-then-id-gt-ID_LIMIT
     (λ c. search rules)
     (λ c. search rules)
-    returns-2
+    returns-in_default
     (λ c κs. search rules)
-    returns-3
-    returns-4)
+    returns-then-room-n
+    returns)

@@ -12,14 +12,14 @@ use Rattle.xdr.proofs.Told.{told_taken, told_refused}
 use Rattle.message_write.proofs.check.check_hash.Statement.{statement}
 use Rattle.message_write.proofs.check.check_hash.Tie as tie
 
-returns : tie.Need-returns
-returns c = answered bytes_answer (told_refused c.before.args.l.now (ne_eqb _ _ c.if1.true))
+returns-then-l-ne32 : tie.Need-returns-then-l-ne32
+returns-then-l-ne32 c = answered bytes_answer (told_refused c.before.args.l.now (ne_eqb _ _ c.if-l-ne32.true))
 
-returns-2 : tie.Need-returns-2
-returns-2 c =
+returns : tie.Need-returns
+returns c =
     let l = c.before.args.l.now in
-    let size : 36 ≡ 4 + padded (length l) = omega (arith, c.if1.false) in
-    ap (B.Taken 32) size ∙ ap (λ (n : ℕ). B.Taken n (4 + padded (length l))) (sym c.if1.false) ∙ answered bytes_answer (told_taken l (eq-eqb _ _ c.if1.false))
+    let size : 36 ≡ 4 + padded (length l) = omega (arith, c.if-l-ne32.false) in
+    ap (B.Taken 32) size ∙ ap (λ (n : ℕ). B.Taken n (4 + padded (length l))) (sym c.if-l-ne32.false) ∙ answered bytes_answer (told_taken l (eq-eqb _ _ c.if-l-ne32.false))
 
 pub check_hash_spec : {M : Type 1} → statement M
-check_hash_spec = tie.close (tie.spec returns returns-2)
+check_hash_spec = tie.close (tie.spec returns-then-l-ne32 returns)

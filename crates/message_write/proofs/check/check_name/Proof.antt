@@ -19,24 +19,24 @@ use Rattle.message_write.proofs.check.check_name.Statement.{statement}
 use Rattle.message_write.proofs.check.check_name.Tie as tie
 
 -- the text that was read: its contents are those that were given
-text-read : (c : tie.After-known-told)
-    → (l : List ℕ) × Reads (text name_limit) (encode (bytes word) c.before.before.before.before.before.args.l.now) 0 (taken l c.before.answer.given.0.1.0) × (length l ≡ c.before.answer.given.0.0)
-text-read c = bytes_taken c.before.before.before.check-text.ensures c.before.answer.given.1
+text-read : (c : tie.In-Taken)
+    → (l : List ℕ) × Reads (text name_limit) (encode (bytes word) c.before.before.before.args.l.now) 0 (taken l c.in-Taken.size) × (length l ≡ c.in-Taken.n)
+text-read c = bytes_taken c.before.check_text-answer.ensures c.in-Taken.is
 
-fault : (c : tie.After-name-fault) → c.name-fault.result ≡ name_fault (text-read c.before).0
-fault c = c.name-fault.ensures ∙ ap name_fault (sym (told_same c.before.before.before.before.before.before.args.l.now (passed (text-read c.before).1)).0)
+fault : (c : tie.After-name_fault-fault) → c.name_fault-fault.result ≡ name_fault (text-read c.before).0
+fault c = c.name_fault-fault.ensures ∙ ap name_fault (sym (told_same c.before.before.before.before.args.l.now (passed (text-read c.before).1)).0)
+
+returns-in_default : tie.Need-returns-in_default
+returns-in_default c = answered bytes_answer (name_refused (bytes_refused c.before.before.check_text-answer.ensures c.before.in_default.is c.refusal.ensures))
+
+returns-then-fault-ne0 : tie.Need-returns-then-fault-ne0
+returns-then-fault-ne0 c = answered bytes_answer (name_faulty (text-read c.before.before).1 (fault c.before) c.if-fault-ne0.true)
 
 returns : tie.Need-returns
-returns c = answered bytes_answer (name_refused (bytes_refused c.before.before.before.check-text.ensures c.before.enum_told.given.1 c.refusal.ensures))
-
-returns-2 : tie.Need-returns-2
-returns-2 c = answered bytes_answer (name_faulty (text-read c.before.before).1 (fault c.before) c.if1.true)
-
-returns-3 : tie.Need-returns-3
-returns-3 c =
+returns c =
     let q = text-read c.before.before in
-    ap (λ (n : ℕ). B.Taken n c.before.before.before.answer.given.0.1.0) (sym q.2)
-    ∙ answered bytes_answer (name_sound q.1 (sym (fault c.before) ∙ c.if1.false))
+    ap (λ (n : ℕ). B.Taken n c.before.before.in-Taken.size) (sym q.2)
+    ∙ answered bytes_answer (name_sound q.1 (sym (fault c.before) ∙ c.if-fault-ne0.false))
 
 pub check_name_spec : {M : Type 1} → statement M
 check_name_spec =
@@ -46,7 +46,7 @@ check_name_spec =
     (λ c. search rules)
     (λ c. search rules)
     (λ c κs. search rules)
-    returns
+    returns-in_default
     (λ c κs. search rules)
-    returns-2
-    returns-3)
+    returns-then-fault-ne0
+    returns)

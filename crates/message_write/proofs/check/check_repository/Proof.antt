@@ -20,14 +20,14 @@ use Rattle.message_write.proofs.check.check_repository.Tie as tie
 in-edition : {e x : Edition} {w : Bytes} (l : List ℕ) → e ≡ x → w ≡ repository_answer x (read_at (repository x) (given_bytes x l) 0) → w ≡ repository_answer e (read_at (repository e) (given_bytes e l) 0)
 in-edition {w = w} l same a = subst (λ (y : Edition). w ≡ repository_answer y (read_at (repository y) (given_bytes y l) 0)) (sym same) a
 
-returns : tie.Need-returns
-returns c = in-edition c.before.before.before.args.repository.now c.enum_told.given.1 (ap (repository_answer E.Old) (sym (nothing_read [] 0).is))
+returns-in-Old : tie.Need-returns-in-Old
+returns-in-Old c = in-edition c.before.before.args.repository.now c.in-Old.is (ap (repository_answer E.Old) (sym (nothing_read [] 0).is))
 
-returns-2 : tie.Need-returns-2
-returns-2 c =
-    let l : List ℕ = c.before.before.before.before.args.repository.now in
-    in-edition l c.before.enum-told2.given.1 (c.check-text.ensures ∙ new_answer (read_at (repository E.New) (encode (bytes word) l) 0))
+returns-in-New : tie.Need-returns-in-New
+returns-in-New c =
+    let l : List ℕ = c.before.before.before.args.repository.now in
+    in-edition l c.before.in-New.is (c.check_text.ensures ∙ new_answer (read_at (repository E.New) (encode (bytes word) l) 0))
 
 pub check_repository_spec : {M : Type 1} → statement M
 check_repository_spec =
-    tie.close (tie.spec (λ c. search rules) (λ c. search rules) (λ c κs. search rules) returns returns-2)
+    tie.close (tie.spec (λ c. search rules) (λ c. search rules) (λ c κs. search rules) returns-in-Old returns-in-New)

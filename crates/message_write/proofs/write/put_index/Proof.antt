@@ -25,32 +25,32 @@ by_index c =
     either 1 6 a.kind (λ k. writing (message a.edition) a.id k (body c) ≡ writing_body (index a.edition) a.id k (body c)) c.requires
     (by_body a.edition a.id 1 (body c) (omega arith) (omega (arith, types))) (by_body a.edition a.id 6 (body c) (omega arith) types)
 
-passed : (c : tie.After-known-told) → let k = c.before.before.before.before.before.before.before.before in Passed (index k.args.edition) k.args.id (body k) (length k.args.out.now) c.before.answer.given.0.0
+passed : (c : tie.In-Filled) → let k = c.before.before.before.before.before.before in Passed (index k.args.edition) k.args.id (body k) (length k.args.out.now) c.in-Filled.n
 passed c =
-    let k = c.before.before.before.before.before.before.before.before in
+    let k = c.before.before.before.before.before.before in
     let a = k.args in
-    admits (index a.edition) a.id a.kind (body k) (length a.out.now) c.before.before.before.admitted.ensures c.before.before.before.before.check-index.ensures c.before.answer.given.1
+    admits (index a.edition) a.id a.kind (body k) (length a.out.now) c.before.admitted-answer.ensures c.before.before.check_index.ensures c.in-Filled.is
 
-returns : tie.Need-returns
-returns c =
-    let k = c.before.before.before.before.before.before.before in
+returns-in_default : tie.Need-returns-in_default
+returns-in_default c =
+    let k = c.before.before.before.before.before.before in
     let a = k.args in
     fills_same a.out.now (by_index k)
-    (not_admitted (index a.edition) a.id a.kind (body k) (length a.out.now) c.before.before.admitted.ensures c.before.before.before.check-index.ensures a.out.now refl c.enum_told.given.1)
+    (not_admitted (index a.edition) a.id a.kind (body k) (length a.out.now) c.before.admitted-answer.ensures c.before.before.check_index.ensures a.out.now refl c.in_default.is)
 
-store-index-requires : tie.Need-store-index-requires
-store-index-requires c κs =
+store_index-requires : tie.Need-store_index-requires
+store_index-requires c κs =
     let k = c.before.before in
-    let a = c.before.before.before.before.before.before.before.before.before.before.args in
+    let a = c.before.before.before.before.before.before.before.before.args in
     let w = index_parts a.edition a.repository.now a.files.now (passed k).reads in
     ((w.0, (passed k).room), (w.1, w.2))
 
-returns-2 : tie.Need-returns-2
-returns-2 c =
-    let k = c.before.before.before.before.before.before.before.before.before.before.before.before.before in
+returns : tie.Need-returns
+returns c =
+    let k = c.before.before.before.before.before.before.before.before.before.before.before in
     let a = k.args in
     fills_same a.out.now (by_index k)
-    (body_filled a.id a.kind (body k) a.out.now (passed c.before.before.before.before.before) (either 1 6 a.kind (λ k. k < 256) k.requires (omega arith) (omega arith)) c.before.before.before.header_of.ensures refl c.before.before.store-index.ensures)
+    (body_filled a.id a.kind (body k) a.out.now (passed c.before.before.before.before.before) (either 1 6 a.kind (λ k. k < 256) k.requires (omega arith) (omega arith)) c.before.before.before.header_of.ensures refl c.before.before.store_index.ensures)
 
 pub put_index_spec : {M : Type 1} → statement M
 put_index_spec =
@@ -60,8 +60,8 @@ put_index_spec =
     (λ c κs. search rules)
     (λ c. search rules)
     (λ c. search rules)
-    returns
+    returns-in_default
     (λ c κs. search rules)
-    store-index-requires
+    store_index-requires
     (λ c. search rules)
-    returns-2)
+    returns)

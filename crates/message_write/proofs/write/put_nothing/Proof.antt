@@ -32,23 +32,23 @@ by-nothing c =
     let a = c.args in
     either 4 5 a.kind (λ k. writing (message E.New) a.id k [] ≡ writing_body nothing a.id k []) c.requires (by_body E.New a.id 4 [] (omega arith) (omega arith)) (by_body E.New a.id 5 [] (omega arith) (omega arith))
 
-passed : (c : tie.After-enum-told) → let a = c.before.before.before.before.args in Passed nothing a.id [] (length a.out.now) c.enum_told.given.0.0
-passed c = let a = c.before.before.before.before.args in admits nothing a.id a.kind [] (length a.out.now) c.before.before.admitted.ensures checked c.enum_told.given.1
+passed : (c : tie.In-Filled) → let a = c.before.before.before.args in Passed nothing a.id [] (length a.out.now) c.in-Filled.field-0
+passed c = let a = c.before.before.before.args in admits nothing a.id a.kind [] (length a.out.now) c.before.admitted-answer.ensures checked c.in-Filled.is
+
+returns-in_default : tie.Need-returns-in_default
+returns-in_default c = let a = c.before.before.before.args in fills_same a.out.now (by-nothing c.before.before.before) (not_admitted nothing a.id a.kind [] (length a.out.now) c.before.admitted-answer.ensures checked a.out.now refl c.in_default.is)
 
 returns : tie.Need-returns
-returns c = let a = c.before.before.before.before.args in fills_same a.out.now (by-nothing c.before.before.before.before) (not_admitted nothing a.id a.kind [] (length a.out.now) c.before.before.admitted.ensures checked a.out.now refl c.enum-told2.given.1)
-
-returns-2 : tie.Need-returns-2
-returns-2 c =
+returns c =
     let k = c.before.before.before.before.before in
-    let a = c.before.before.before.before.before.before.before.before.before.args in
-    let n = k.enum_told.given.0.0 in
+    let a = c.before.before.before.before.before.before.before.before.args in
+    let n = k.in-Filled.field-0 in
     let head = c.before.before.before.header_of.result in
     let p = passed k in
     let four = nothing_parts p.reads in
     let size = number_size 4 head in
-    fills_same a.out.now (by-nothing c.before.before.before.before.before.before.before.before.before)
-    (body_filled a.id a.kind [] a.out.now p (either 4 5 a.kind (λ k. k < 256) c.before.before.before.before.before.before.before.before.before.requires (omega arith) (omega arith)) c.before.before.before.header_of.ensures k.enum_told.given.1
+    fills_same a.out.now (by-nothing c.before.before.before.before.before.before.before.before)
+    (body_filled a.id a.kind [] a.out.now p (either 4 5 a.kind (λ k. k < 256) c.before.before.before.before.before.before.before.before.requires (omega arith) (omega arith)) c.before.before.before.header_of.ensures k.in-Filled.is
     ((put_next (filled_none a.out.now) (encode word head) size (omega (arith, four, p.room)) c.before.before.put_word.ensures.1).fills
     ∙ ap (filled a.out.now) (sym (append-nil (encode word head)) ∙ sym (take_all n (encode word head ++ []) (simp append-nil (omega (arith, size, four)))))))
 
@@ -59,8 +59,8 @@ put_nothing_spec =
     (λ c κs. search rules)
     (λ c. search rules)
     (λ c. search rules)
-    returns
+    returns-in_default
     (λ c κs. search rules)
     (λ c κs. search rules)
     (λ c. search rules)
-    returns-2)
+    returns)

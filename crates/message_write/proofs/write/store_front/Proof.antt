@@ -29,21 +29,21 @@ header-put head out {r} {after} room p =
     subst (λ (l : List ℕ). Stored l out r after) (sym (append-nil (encode word head)))
     (count, (put_next (filled_none out) (encode word head) size room p.1).fills)
 
-store-opaque-requires : tie.Need-store-opaque-requires
-store-opaque-requires c κs =
-    let k = c.before.before.before.before.before in
-    let p = subst (λ (y : Edition). (length (given_bytes y k.args.repository.now) ≤ 68) × (4 + length (given_bytes y k.args.repository.now) ≤ length k.args.out.now)) c.before.enum-told2.given.1 k.requires in
+store_opaque-requires : tie.Need-store_opaque-requires
+store_opaque-requires c κs =
+    let k = c.before.before.before.before in
+    let p = subst (λ (y : Edition). (length (given_bytes y k.args.repository.now) ≤ 68) × (4 + length (given_bytes y k.args.repository.now) ≤ length k.args.out.now)) c.before.in-New.is k.requires in
     (omega (arith, p.0, string_size k.args.repository.now), p.1)
 
-returns : tie.Need-returns
-returns c =
-    let a = c.before.before.before.before.before.before.before.before.args in
-    in-edition a.head a.repository.now a.out.now c.before.before.before.before.enum_told.given.1 (header-put a.head a.out.now (omega (arith, c.before.before.before.before.before.before.before.before.requires)) c.before.before.put_word.ensures)
+returns-in-Old : tie.Need-returns-in-Old
+returns-in-Old c =
+    let a = c.before.before.before.before.before.before.before.args in
+    in-edition a.head a.repository.now a.out.now c.before.before.before.before.in-Old.is (header-put a.head a.out.now (omega (arith, c.before.before.before.before.before.before.before.requires)) c.before.before.put_word.ensures)
 
-returns-2 : tie.Need-returns-2
-returns-2 c =
-    let a = c.before.before.before.before.before.before.before.before.args in
-    in-edition a.head a.repository.now a.out.now c.before.before.before.before.enum-told2.given.1 c.before.before.store-opaque.ensures
+returns-in-New : tie.Need-returns-in-New
+returns-in-New c =
+    let a = c.before.before.before.before.before.before.before.args in
+    in-edition a.head a.repository.now a.out.now c.before.before.before.before.in-New.is c.before.before.store_opaque.ensures
 
 pub store_front_spec : {M : Type 1} → statement M
 store_front_spec =
@@ -52,8 +52,8 @@ store_front_spec =
     (λ c. search rules)
     (λ c κs. search rules)
     (λ c. search rules)
-    store-opaque-requires
+    store_opaque-requires
     (λ c. search rules)
-    returns
+    returns-in-Old
     (λ c. search rules)
-    returns-2)
+    returns-in-New)

@@ -19,39 +19,39 @@ use Rattle.message_write.proofs.BodyLaws.{options_parts, take_behind}
 use Rattle.message_write.proofs.write.write_options.Statement.{statement}
 use Rattle.message_write.proofs.write.write_options.Tie as tie
 
-passed : (c : tie.After-known-told) → let a = c.before.before.before.before.before.before.before.args in Passed (options options_limit) a.id a.options.now (length a.out.now) c.before.answer.given.0.0
+passed : (c : tie.In-Filled) → let a = c.before.before.before.before.before.args in Passed (options options_limit) a.id a.options.now (length a.out.now) c.in-Filled.n
 passed c =
-    let a = c.before.before.before.before.before.before.before.args in
-    admits (options options_limit) a.id 7 a.options.now (length a.out.now) c.before.before.before.admitted.ensures c.before.before.before.before.check-options.ensures c.before.answer.given.1
+    let a = c.before.before.before.before.before.args in
+    admits (options options_limit) a.id 7 a.options.now (length a.out.now) c.before.admitted-answer.ensures c.before.before.check_options.ensures c.in-Filled.is
 
-parts : (c : tie.After-known-told) → (4 ≤ c.before.answer.given.0.0) × (c.before.answer.given.0.0 ≤ 4 + length c.before.before.before.before.before.before.before.args.options.now)
-parts c = options_parts c.before.before.before.before.before.before.before.args.options.now (passed c).reads
+parts : (c : tie.In-Filled) → (4 ≤ c.in-Filled.n) × (c.in-Filled.n ≤ 4 + length c.before.before.before.before.before.args.options.now)
+parts c = options_parts c.before.before.before.before.before.args.options.now (passed c).reads
+
+returns-in_default : tie.Need-returns-in_default
+returns-in_default c =
+    let a = c.before.before.before.before.before.args in
+    fills_same a.out.now (by_body E.New a.id 7 a.options.now (omega arith) (omega arith))
+    (not_admitted (options options_limit) a.id 7 a.options.now (length a.out.now) c.before.admitted-answer.ensures c.before.before.check_options.ensures a.out.now refl c.in_default.is)
+
+overflow_sub-used : tie.Need-overflow_sub-used
+overflow_sub-used c = (parts c).0
+
+slice_bounds-store_raw-end : tie.Need-slice_bounds-store_raw-end
+slice_bounds-store_raw-end c = let w = parts c.before.before in omega arith
+
+store_raw-requires : tie.Need-store_raw-requires
+store_raw-requires c κs =
+    let k = c.before.before.before in
+    let w = parts k in
+    let part = length-take-le (k.in-Filled.n - 4 - 0) (drop 0 c.before.before.before.before.before.before.before.before.args.options.now) (omega arith) in
+    omega (arith, part, (passed k).room)
 
 returns : tie.Need-returns
 returns c =
-    let a = c.before.before.before.before.before.before.args in
-    fills_same a.out.now (by_body E.New a.id 7 a.options.now (omega arith) (omega arith))
-    (not_admitted (options options_limit) a.id 7 a.options.now (length a.out.now) c.before.before.admitted.ensures c.before.before.before.check-options.ensures a.out.now refl c.enum_told.given.1)
-
-sub_used : tie.Need-overflow-sub-used
-sub_used c = (parts c).0
-
-part-store-raw-end : tie.Need-slice-bounds-store-raw-end
-part-store-raw-end c = let w = parts c.before.before in omega arith
-
-store-raw-requires : tie.Need-store-raw-requires
-store-raw-requires c κs =
-    let k = c.before.before.before in
-    let w = parts k in
-    let part = length-take-le (k.before.answer.given.0.0 - 4 - 0) (drop 0 c.before.before.before.before.before.before.before.before.before.before.args.options.now) (omega arith) in
-    omega (arith, part, (passed k).room)
-
-returns-2 : tie.Need-returns-2
-returns-2 c =
     let k = c.before.before.before.before.before.before in
-    let a = c.before.before.before.before.before.before.before.before.before.before.before.before.before.args in
+    let a = c.before.before.before.before.before.before.before.before.before.before.before.args in
     let head = c.before.before.before.before.header_of.result in
-    let n = k.before.answer.given.0.0 in
+    let n = k.in-Filled.n in
     let w = parts k in
     let used : n - 4 - 0 ≡ n - 4 = omega arith in
     fills_same a.out.now (by_body E.New a.id 7 a.options.now (omega arith) (omega arith))
@@ -68,12 +68,12 @@ write_options_spec =
     (λ c κs. search rules)
     (λ c. search rules)
     (λ c. search rules)
-    returns
-    sub_used
+    returns-in_default
+    overflow_sub-used
     (λ c κs. search rules)
     (λ c. search rules)
     (λ c. search rules)
-    part-store-raw-end
-    store-raw-requires
+    slice_bounds-store_raw-end
+    store_raw-requires
     (λ c. search rules)
-    returns-2)
+    returns)

@@ -5,11 +5,11 @@ use borrow.Author.Rules.{rules}
 use Rattle.settings.proofs.contents.byte_in.Statement.{statement}
 use Rattle.settings.proofs.contents.byte_in.Tie as tie
 
-returns : tie.Need-returns
-returns c = no_byte c.before.args.contents.now c.if1.true
+returns-then-contents-eq0 : tie.Need-returns-then-contents-eq0
+returns-then-contents-eq0 c = no_byte c.before.args.contents.now c.if-contents-eq0.true
 
-cast-result : tie.Need-overflow-cast-result
-cast-result c = omega (arith, c.shared-slice-known.given 0)
+overflow_cast-result : tie.Need-overflow_cast-result
+overflow_cast-result c = omega (arith, c.shared_slice_known-1.given 0)
 
 pub byte_in_spec : {M : Type 1} → statement M
-byte_in_spec = tie.close (tie.spec returns (λ c. search rules) cast-result (λ c. search rules))
+byte_in_spec = tie.close (tie.spec returns-then-contents-eq0 (λ c. search rules) overflow_cast-result (λ c. search rules))

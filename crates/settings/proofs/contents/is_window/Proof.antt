@@ -6,11 +6,11 @@ use borrow.Author.Rules.{rules}
 use Rattle.settings.proofs.contents.is_window.Statement.{statement}
 use Rattle.settings.proofs.contents.is_window.Tie as tie
 
-returns : tie.Need-returns
-returns c = simp (ne_eqb _ _ c.if1.true)
+returns-then-contents-ne1 : tie.Need-returns-then-contents-ne1
+returns-then-contents-ne1 c = simp (ne_eqb _ _ c.if-contents-ne1.true)
 
-returns-2 : tie.Need-returns-2
-returns-2 c = c.within.ensures ∙ ap (is_within 1 16) c.before.byte-in.ensures ∙ simp (eq-eqb _ _ c.before.before.if1.false)
+returns : tie.Need-returns
+returns c = c.within.ensures ∙ ap (is_within 1 16) c.before.byte_in.ensures ∙ simp (eq-eqb _ _ c.before.before.if-contents-ne1.false)
 
 pub is_window_spec : {M : Type 1} → statement M
-is_window_spec = tie.close (tie.spec returns (λ c κs. search rules) (λ c κs. search rules) returns-2)
+is_window_spec = tie.close (tie.spec returns-then-contents-ne1 (λ c κs. search rules) (λ c κs. search rules) returns)

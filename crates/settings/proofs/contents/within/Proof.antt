@@ -3,11 +3,11 @@ use borrow.Author.Tests.{le-leb, lt-leb}
 use Rattle.settings.proofs.contents.within.Statement.{statement}
 use Rattle.settings.proofs.contents.within.Tie as tie
 
-returns : tie.Need-returns
-returns c = simp (lt-leb _ _ c.if1.true)
+returns-then-n-least : tie.Need-returns-then-n-least
+returns-then-n-least c = simp (lt-leb _ _ c.if-n-least.true)
 
-returns-2 : tie.Need-returns-2
-returns-2 c = simp (le-leb _ _ c.if1.false)
+returns : tie.Need-returns
+returns c = simp (le-leb _ _ c.if-n-least.false)
 
 pub within_spec : {M : Type 1} → statement M
-within_spec = tie.close (tie.spec returns returns-2)
+within_spec = tie.close (tie.spec returns-then-n-least returns)

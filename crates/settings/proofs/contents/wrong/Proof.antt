@@ -12,23 +12,23 @@ use Rattle.settings.proofs.contents.wrong.Tie as tie
 abbrev unless_good : Bool → ℕ
 unless_good b = cond b 0 26
 
+returns-then-tag-eq-WINDOW : tie.Need-returns-then-tag-eq-WINDOW
+returns-then-tag-eq-WINDOW c = wrong_window _ _ _ c.before.before.if-tag-eq-WINDOW.true (c.unless.ensures ∙ ap unless_good c.before.is_window.ensures)
+
+returns-then-tag-eq-ALLOWANCE : tie.Need-returns-then-tag-eq-ALLOWANCE
+returns-then-tag-eq-ALLOWANCE c = wrong_allowance _ _ _ c.before.before.if-tag-eq-ALLOWANCE.true (c.unless-then-tag-eq-ALLOWANCE.ensures ∙ ap unless_good c.before.is_allowance.ensures)
+
+returns-then-tag-eq-REPOSITORY : tie.Need-returns-then-tag-eq-REPOSITORY
+returns-then-tag-eq-REPOSITORY c = wrong_repository _ _ _ c.before.before.if-tag-eq-REPOSITORY.true (c.unless-then-tag-eq-REPOSITORY.ensures ∙ ap unless_good c.before.is_repository.ensures)
+
+returns-then-tag-lt-NOTE : tie.Need-returns-then-tag-lt-NOTE
+returns-then-tag-lt-NOTE c = wrong_unknown _ _ c.before.before.before.if-tag-eq-WINDOW.false c.before.before.if-tag-eq-ALLOWANCE.false c.before.if-tag-eq-REPOSITORY.false c.if-tag-lt-NOTE.true
+
+returns-then-tag-eq-NOTE : tie.Need-returns-then-tag-eq-NOTE
+returns-then-tag-eq-NOTE c = wrong_note _ _ _ c.before.before.if-tag-eq-NOTE.true (c.unless-then-tag-eq-NOTE.ensures ∙ ap unless_good c.before.is_note.ensures)
+
 returns : tie.Need-returns
-returns c = wrong_window _ _ _ c.before.before.if1.true (c.unless.ensures ∙ ap unless_good c.before.is-window.ensures)
-
-returns-2 : tie.Need-returns-2
-returns-2 c = wrong_allowance _ _ _ c.before.before.if2.true (c.unless2.ensures ∙ ap unless_good c.before.is-allowance.ensures)
-
-returns-3 : tie.Need-returns-3
-returns-3 c = wrong_repository _ _ _ c.before.before.if3.true (c.unless3.ensures ∙ ap unless_good c.before.is-repository.ensures)
-
-returns-4 : tie.Need-returns-4
-returns-4 c = wrong_unknown _ _ c.before.before.before.if1.false c.before.before.if2.false c.before.if3.false c.if4.true
-
-returns-5 : tie.Need-returns-5
-returns-5 c = wrong_note _ _ _ c.before.before.if5.true (c.unless4.ensures ∙ ap unless_good c.before.is-note.ensures)
-
-returns-6 : tie.Need-returns-6
-returns-6 c = wrong_above _ _ (omega arith)
+returns c = wrong_above _ _ (omega arith)
 
 pub wrong_spec : {M : Type 1} → statement M
 wrong_spec =
@@ -36,15 +36,15 @@ wrong_spec =
     (tie.spec
     (λ c κs. search rules)
     (λ c κs. search rules)
-    returns
+    returns-then-tag-eq-WINDOW
     (λ c κs. search rules)
     (λ c κs. search rules)
-    returns-2
+    returns-then-tag-eq-ALLOWANCE
     (λ c κs. search rules)
     (λ c κs. search rules)
-    returns-3
-    returns-4
+    returns-then-tag-eq-REPOSITORY
+    returns-then-tag-lt-NOTE
     (λ c κs. search rules)
     (λ c κs. search rules)
-    returns-5
-    returns-6)
+    returns-then-tag-eq-NOTE
+    returns)

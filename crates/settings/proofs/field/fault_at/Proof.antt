@@ -2,7 +2,7 @@
 use Prim.Native.Nat.{◌+◌}
 use mathlib.Core.Path.{sym, ap, ◌∙◌}
 use native.Mathlib.Omega.{arith}
-use borrow.Author.Tests.{not-true, not-false, leb-true, leb-false}
+use borrow.Author.Tests.{leb-true, leb-false}
 use lib.ListN.{drop, get_or, length-drop}
 use Rattle.settings.specs.Field.{wrong}
 use Rattle.settings.proofs.FieldLaws.{fault_cut, fault_order, fault_contents, contents_part}
@@ -10,47 +10,47 @@ use borrow.Author.Rules.{rules}
 use Rattle.settings.proofs.field.fault_at.Statement.{statement}
 use Rattle.settings.proofs.field.fault_at.Tie as tie
 
-returns : tie.Need-returns
-returns c =
+returns-then-s-at-lt3 : tie.Need-returns-then-s-at-lt3
+returns-then-s-at-lt3 c =
     let a = c.before.before.args in
     fault_cut a.least _ (drop (a.at + 1) a.s.now) (simp length-drop (omega arith))
 
-returns-2 : tie.Need-returns-2
-returns-2 c =
+returns-then-s-start : tie.Need-returns-then-s-start
+returns-then-s-start c =
     let a = c.before.before.before.before.args in
-    fault_cut a.least _ (drop (a.at + 1) a.s.now) (simp length-drop (omega (arith, c.before.size-at.ensures)))
+    fault_cut a.least _ (drop (a.at + 1) a.s.now) (simp length-drop (omega (arith, c.before.size_at-n.ensures)))
 
-returns-3 : tie.Need-returns-3
-returns-3 c =
+returns-then-not-in_order : tie.Need-returns-then-not-in_order
+returns-then-not-in_order c =
     let a = c.before.before.before.before.before.before.before.args in
-    fault_order a.least _ (drop (a.at + 1) a.s.now) (simp length-drop (omega (arith, c.before.before.before.before.size-at.ensures))) (leb-false _ _ (sym c.before.in_order.ensures ∙ not-true _ c.if3.true))
+    fault_order a.least _ (drop (a.at + 1) a.s.now) (simp length-drop (omega (arith, c.before.before.before.before.size_at-n.ensures))) (leb-false _ _ (sym c.before.in_order.ensures ∙ c.if-not-in_order.true))
 
-returns-4 : tie.Need-returns-4
-returns-4 c =
+returns : tie.Need-returns
+returns c =
     let a = c.before.before.before.before.before.before.before.before.before.before.args in
-    let size = c.before.before.before.before.before.before.before.size-at.ensures in
+    let size = c.before.before.before.before.before.before.before.size_at-n.ensures in
     c.wrong.ensures
     ∙ ap (wrong (get_or a.s.now a.at 0)) (contents_part a.s.now a.at _ size)
-    ∙ fault_contents a.least _ (drop (a.at + 1) a.s.now) (simp length-drop (omega (arith, size))) (leb-true _ _ (sym c.before.before.before.before.in_order.ensures ∙ not-false _ c.before.before.before.if3.false))
+    ∙ fault_contents a.least _ (drop (a.at + 1) a.s.now) (simp length-drop (omega (arith, size))) (leb-true _ _ (sym c.before.before.before.before.in_order.ensures ∙ c.before.before.before.if-not-in_order.false))
 
 pub fault_at_spec : {M : Type 1} → statement M
 fault_at_spec =
     tie.close
     (tie.spec
     (λ c. search rules)
-    returns
+    returns-then-s-at-lt3
     (λ c. search rules)
     (λ c. search rules)
     (λ c κs. search rules)
     (λ c. search rules)
-    returns-2
+    returns-then-s-start
     (λ c. search rules)
     (λ c κs. search rules)
-    returns-3
+    returns-then-not-in_order
     (λ c. search rules)
     (λ c. search rules)
     (λ c. search rules)
     (λ c. search rules)
     (λ c. search rules)
     (λ c κs. search rules)
-    returns-4)
+    returns)

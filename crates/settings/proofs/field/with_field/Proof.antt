@@ -5,22 +5,22 @@ use borrow.Author.Rules.{rules}
 use Rattle.settings.proofs.field.with_field.Statement.{statement}
 use Rattle.settings.proofs.field.with_field.Tie as tie
 
+returns-then-tag-eq-WINDOW : tie.Need-returns-then-tag-eq-WINDOW
+returns-then-tag-eq-WINDOW c = c.settings_of.ensures ∙ with_window _ _ _ _ c.before.before.before.before.requires.1 c.before.before.if-tag-eq-WINDOW.true c.before.byte_in.ensures
+
+returns-then-tag-eq-ALLOWANCE : tie.Need-returns-then-tag-eq-ALLOWANCE
+returns-then-tag-eq-ALLOWANCE c =
+    let four = c.before.word_in.ensures (allowance_long _ _ c.before.before.if-tag-eq-ALLOWANCE.true c.before.before.before.before.before.requires.0) in
+    c.settings_of-then-tag-eq-ALLOWANCE.ensures ∙ with_allowance _ _ _ _ c.before.before.before.before.before.requires.1 c.before.before.if-tag-eq-ALLOWANCE.true four
+
+returns-then-tag-eq-REPOSITORY : tie.Need-returns-then-tag-eq-REPOSITORY
+returns-then-tag-eq-REPOSITORY c = c.settings_of-then-tag-eq-REPOSITORY.ensures ∙ with_repository_lem _ _ _ _ c.before.before.before.before.before.requires.1 c.before.if-tag-eq-REPOSITORY.true
+
+returns-then-tag-eq-NOTE : tie.Need-returns-then-tag-eq-NOTE
+returns-then-tag-eq-NOTE c = c.settings_of-then-tag-eq-NOTE.ensures ∙ with_note _ _ _ _ c.before.before.before.before.before.before.requires.1 c.before.if-tag-eq-NOTE.true
+
 returns : tie.Need-returns
-returns c = c.settings-of.ensures ∙ with_window _ _ _ _ c.before.before.before.before.requires.1 c.before.before.if1.true c.before.byte-in.ensures
-
-returns-2 : tie.Need-returns-2
-returns-2 c =
-    let four = c.before.word_in.ensures (allowance_long _ _ c.before.before.if2.true c.before.before.before.before.before.requires.0) in
-    c.settings-of2.ensures ∙ with_allowance _ _ _ _ c.before.before.before.before.before.requires.1 c.before.before.if2.true four
-
-returns-3 : tie.Need-returns-3
-returns-3 c = c.settings-of3.ensures ∙ with_repository_lem _ _ _ _ c.before.before.before.before.before.requires.1 c.before.if3.true
-
-returns-4 : tie.Need-returns-4
-returns-4 c = c.settings-of4.ensures ∙ with_note _ _ _ _ c.before.before.before.before.before.before.requires.1 c.before.if4.true
-
-returns-5 : tie.Need-returns-5
-returns-5 c = with_carried _ _ _ _ c.before.before.before.if1.false c.before.before.if2.false c.before.if3.false c.if4.false
+returns c = with_carried _ _ _ _ c.before.before.before.if-tag-eq-WINDOW.false c.before.before.if-tag-eq-ALLOWANCE.false c.before.if-tag-eq-REPOSITORY.false c.if-tag-eq-NOTE.false
 
 pub with_field_spec : {M : Type 1} → statement M
 with_field_spec =
@@ -28,12 +28,12 @@ with_field_spec =
     (tie.spec
     (λ c κs. search rules)
     (λ c κs. search rules)
-    returns
+    returns-then-tag-eq-WINDOW
     (λ c κs. search rules)
     (λ c κs. search rules)
-    returns-2
+    returns-then-tag-eq-ALLOWANCE
     (λ c κs. search rules)
-    returns-3
+    returns-then-tag-eq-REPOSITORY
     (λ c κs. search rules)
-    returns-4
-    returns-5)
+    returns-then-tag-eq-NOTE
+    returns)

@@ -11,8 +11,8 @@ returns c =
     let a = c.before.before.before.before.before.before.before.before.before.before.before.before.before.before.args in
     fills_same a.out.now
     (numbers_saved a.window a.allowance (of_bytes a.named a.repository.now) (of_bytes a.noted a.note.now) a.carried.now
-    c.before.before.before.before.before.before.before.before.before.is-there.ensures c.before.before.before.before.before.before.before.byte.ensures c.before.before.before.before.before.before.before.before.is-there2.ensures c.before.before.before.before.before.before.word.ensures)
-    c.before.before.save-bytes.ensures
+    c.before.before.before.before.before.before.before.before.before.is_there.ensures c.before.before.before.before.before.before.before.byte-w.ensures c.before.before.before.before.before.before.before.before.is_there-2.ensures c.before.before.before.before.before.before.word-a.ensures)
+    c.before.before.save_bytes.ensures
 
 pub save_spec : {M : Type 1} → statement M
 save_spec = tie.close (tie.spec (λ c κs. search rules) (λ c κs. search rules) (λ c κs. search rules) (λ c κs. search rules) (λ c. search rules) (λ c. search rules) (λ c κs. search rules) (λ c. search rules) returns)

@@ -21,8 +21,8 @@ loop-holds c = (omega arith, refl)
 
 loop-again : tie.Need-loop-row-preserved invariant-loop decreases-loop
 loop-again c =
-    let l = c.before.before.before.before.before.loop in
-    let e = c.before.before.before.first-eight in
+    let l = c.before.before.before.before.before.loop-row in
+    let e = c.before.before.before.first_eight-half in
     let f = c.before.before.second_eight-step in
     let n : l.row < 3 = omega arith in
     (omega arith, l.invariant.1 ∙ row_turn l.block e.result.block f.result.block l.state e.result.state f.result.state l.row n e.ensures f.ensures)

@@ -4,11 +4,11 @@ use borrow.Author.Rules.{rules}
 use Rattle.want.proofs.block.listed.Statement.{statement}
 use Rattle.want.proofs.block.listed.Tie as tie
 
-returns : tie.Need-returns
-returns c = rw (sym c.before.is-current.ensures ∙ c.if1.true) refl
+returns-then-is_current : tie.Need-returns-then-is_current
+returns-then-is_current c = rw (sym c.before.is_current.ensures ∙ c.if-is_current.true) refl
 
-returns-2 : tie.Need-returns-2
-returns-2 c = rw (sym c.before.is-current.ensures ∙ c.if1.false) refl
+returns : tie.Need-returns
+returns c = rw (sym c.before.is_current.ensures ∙ c.if-is_current.false) refl
 
 pub listed_spec : {M : Type 1} → statement M
-listed_spec = tie.close (tie.spec (λ c κs. search rules) returns returns-2)
+listed_spec = tie.close (tie.spec (λ c κs. search rules) returns-then-is_current returns)

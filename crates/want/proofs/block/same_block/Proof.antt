@@ -6,11 +6,11 @@ use borrow.Author.Rules.{rules}
 use Rattle.want.proofs.block.same_block.Statement.{statement}
 use Rattle.want.proofs.block.same_block.Tie as tie
 
-returns : tie.Need-returns
-returns c = let s = c.before.before.before.before.before in hash_differs s.args.s.now s.args.p c.before.before.hash_at.ensures s.args.size s.args.hash.now (sym (not-true _ c.if1.true) ∙ c.before.same_hash.ensures)
+returns-then-not-same_hash : tie.Need-returns-then-not-same_hash
+returns-then-not-same_hash c = let s = c.before.before.before.before.before in hash_differs s.args.s.now s.args.p c.before.before.hash_at.ensures s.args.size s.args.hash.now (sym (c.if-not-same_hash.true) ∙ c.before.same_hash.ensures)
 
-returns-2 : tie.Need-returns-2
-returns-2 c = let s = c.before.before.before.before.before.before in hash_same s.args.s.now s.args.p c.before.before.before.hash_at.ensures s.args.size s.args.hash.now (sym (not-false _ c.before.if1.false) ∙ c.before.before.same_hash.ensures) c.size-at.ensures
+returns : tie.Need-returns
+returns c = let s = c.before.before.before.before.before.before in hash_same s.args.s.now s.args.p c.before.before.before.hash_at.ensures s.args.size s.args.hash.now (sym (c.before.if-not-same_hash.false) ∙ c.before.before.same_hash.ensures) c.size_at.ensures
 
 pub same_block_spec : {M : Type 1} → statement M
 same_block_spec =
@@ -18,6 +18,6 @@ same_block_spec =
     (tie.spec
     (λ c κs. search rules)
     (λ c κs. search rules)
-    returns
+    returns-then-not-same_hash
     (λ c κs. search rules)
-    returns-2)
+    returns)

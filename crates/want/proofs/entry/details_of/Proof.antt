@@ -18,44 +18,44 @@ abbrev peers : tie.Start → List (List ℕ)
 peers c = c.args.peer1.now ∷ c.args.peer2.now ∷ c.args.peer3.now ∷ c.args.peer4.now ∷ []
 
 -- where they are good
-abbrev start : tie.Else1 → tie.Start
+abbrev start : tie.Else-not-all_good → tie.Start
 start c = c.before.before.before.before.before.before.before
 
-five : (c : tie.Else1) → Five ((start c).args.local.now ∷ peers (start c))
+five : (c : tie.Else-not-all_good) → Five ((start c).args.local.now ∷ peers (start c))
 five c =
     let s = (start c).args in
     five_good s.local.now s.peer1.now s.peer2.now s.peer3.now s.peer4.now
-    (λ i. (c.before.before.before.before.before.before.shared-slice-known.given i).fits) (λ i. (c.before.before.before.before.before.shared-slice-known2.given i).fits) (λ i. (c.before.before.before.before.shared-slice-known3.given i).fits)
-    (λ i. (c.before.before.before.shared-slice-known4.given i).fits) (λ i. (c.before.before.shared-slice-known5.given i).fits)
-    c.before.all_good.ensures (not-false _ c.if1.false)
+    (λ i. (c.before.before.before.before.before.before.shared_slice_known-1.given i).fits) (λ i. (c.before.before.before.before.before.shared_slice_known-2-1.given i).fits) (λ i. (c.before.before.before.before.shared_slice_known-3-1.given i).fits)
+    (λ i. (c.before.before.before.shared_slice_known-4-1.given i).fits) (λ i. (c.before.before.shared_slice_known-5-1.given i).fits)
+    c.before.all_good.ensures (c.if-not-all_good.false)
+
+returns-then-not-all_good : tie.Need-returns-then-not-all_good
+returns-then-not-all_good c =
+    let s = c.before.before.before.before.before.before.before.before in
+    ap D.Refused c.at_start.ensures ∙ details_bad s.args.local.now (peers s) s.args.file s.args.block c.before.before.all_good.ensures (c.before.if-not-all_good.true)
+
+numbered-head-requires : tie.Need-numbered-head-requires
+numbered-head-requires c κs = five c
+
+returns-in_default : tie.Need-returns-in_default
+returns-in_default c =
+    let g = c.before.before in
+    let s = start g in
+    details_none s.args.local.now (peers s) s.args.file s.args.block g.before.all_good.ensures (g.if-not-all_good.false) c.before.numbered-head.ensures c.in_default.is
+
+offset_bounds-tables-table : tie.Need-offset_bounds-tables-table
+offset_bounds-tables-table c = omega (arith, c.before.numbered-head.ensures.small)
+
+bounds-tables-table : tie.Need-bounds-tables-table
+bounds-tables-table c = c.before.numbered-head.ensures.small
 
 returns : tie.Need-returns
 returns c =
-    let s = c.before.before.before.before.before.before.before.before in
-    ap D.Refused c.at_start.ensures ∙ details_bad s.args.local.now (peers s) s.args.file s.args.block c.before.before.all_good.ensures (not-true _ c.before.if1.true)
-
-numbered-requires : tie.Need-numbered-requires
-numbered-requires c κs = five c
-
-returns-2 : tie.Need-returns-2
-returns-2 c =
-    let g = c.before.before.before in
-    let s = start g in
-    details_none s.args.local.now (peers s) s.args.file s.args.block g.before.all_good.ensures (not-false _ g.if1.false) c.before.before.numbered.ensures c.enum_told.given.1
-
-mul-by-fields : tie.Need-overflow-mul-by-fields
-mul-by-fields c = omega (arith, c.before.before.before.numbered.ensures.small)
-
-array-copy-out-by-fields : tie.Need-array-copy-out-by-fields
-array-copy-out-by-fields c = c.before.before.before.numbered.ensures.small
-
-returns-3 : tie.Need-returns-3
-returns-3 c =
-    let g = c.before.before.before.before.before.before in
+    let g = c.before.before.before.before in
     let s = start g in
     let a = s.args in
-    let n = c.before.before.before.before.before.numbered in
-    details_found a.local.now (peers s) a.file a.block g.before.all_good.ensures (not-false _ g.if1.false) n.ensures c.before.before.before.fields.given.1
+    let n = c.before.before.before.numbered-head in
+    details_found a.local.now (peers s) a.file a.block g.before.all_good.ensures (g.if-not-all_good.false) n.ensures c.before.before.in-Whole.is
     (element (λ x. x.now) (a.local ∷ a.peer1 ∷ a.peer2 ∷ a.peer3 ∷ a.peer4 ∷ []) n.result.best _ refl) c.by_fields.ensures
 
 pub details_of_spec : {M : Type 1} → statement M
@@ -64,12 +64,12 @@ details_of_spec =
     (tie.spec
     (λ c κs. search rules)
     (λ c κs. search rules)
-    returns
-    numbered-requires
+    returns-then-not-all_good
+    numbered-head-requires
     (λ c. search rules)
     (λ c. search rules)
-    returns-2
-    mul-by-fields
-    array-copy-out-by-fields
+    returns-in_default
+    offset_bounds-tables-table
+    bounds-tables-table
     (λ c κs. search rules)
-    returns-3)
+    returns)

@@ -7,37 +7,37 @@ use Rattle.want.proofs.NumberLaws.{Ahead, ahead_starts, ahead_none, ahead_turn, 
 use Rattle.want.proofs.entry.numbered.Statement.{statement}
 use Rattle.want.proofs.entry.numbered.Tie as tie
 
-abbrev invariant-loop : tie.invariant-loop
+abbrev invariant-loop : tie.invariant-loop-left
 invariant-loop tables file places₀ left₀ places left = Ahead (map (λ x. x.now) tables) places file left
 
-abbrev decreases-loop : tie.decreases-loop
+abbrev decreases-loop : tie.decreases-loop-left
 decreases-loop tables file places₀ left₀ places left = left
 
-loop-holds : tie.Need-loop-init invariant-loop decreases-loop
+loop-holds : tie.Need-loop-left-init invariant-loop decreases-loop
 loop-holds c = ahead_starts (map (λ x. x.now) c.args.tables) c.args.file c.requires
 
-next-places-requires : tie.Need-next-places-requires invariant-loop decreases-loop
-next-places-requires c κs k s = let a = c.before.loop.invariant in (get_or a.ls k [], a.walk.here k s)
+next_places-passing-requires : tie.Need-next_places-passing-requires invariant-loop decreases-loop
+next_places-passing-requires c κs k s = let a = c.before.loop-left.invariant in (get_or a.ls k [], a.walk.here k s)
+
+returns-then-passing : tie.Need-returns-then-passing invariant-loop decreases-loop
+returns-then-passing c = let p = c.before.before.next_places-passing.ensures in ahead_none c.before.before.before.before.loop-left.invariant p.headed (p.none c.if-passing.true) (omega arith) refl
+
+overflow_sub-left : tie.Need-overflow_sub-left invariant-loop decreases-loop
+overflow_sub-left c = omega (arith, c.before.before.before.loop-left-test.true)
+
+loop-less : tie.Need-loop-left-smaller invariant-loop decreases-loop
+loop-less c = omega (arith, overflow_sub-left c)
+
+loop-again : tie.Need-loop-left-preserved invariant-loop decreases-loop
+loop-again c =
+    let p = c.before.before.next_places-passing.ensures in
+    ahead_turn c.before.before.before.before.loop-left.invariant p.headed (p.some c.if-passing.false).1 (omega (arith, overflow_sub-left c))
+
+next_head-requires : tie.Need-next_head-requires invariant-loop decreases-loop
+next_head-requires c κs k s = let a = c.before.loop-left.invariant in (get_or a.ls k [], a.walk.here k s)
 
 returns : tie.Need-returns invariant-loop decreases-loop
-returns c = let p = c.before.before.next-places.ensures in ahead_none c.before.before.before.before.loop.invariant p.headed (p.none c.if1.true) (omega arith) refl
-
-sub-left : tie.Need-overflow-sub-left invariant-loop decreases-loop
-sub-left c = omega (arith, c.before.before.before.loop-test.true)
-
-loop-less : tie.Need-loop-smaller invariant-loop decreases-loop
-loop-less c = omega (arith, sub-left c)
-
-loop-again : tie.Need-loop-preserved invariant-loop decreases-loop
-loop-again c =
-    let p = c.before.before.next-places.ensures in
-    ahead_turn c.before.before.before.before.loop.invariant p.headed (p.some c.if1.false).1 (omega (arith, sub-left c))
-
-next-head-requires : tie.Need-next-head-requires invariant-loop decreases-loop
-next-head-requires c κs k s = let a = c.before.loop.invariant in (get_or a.ls k [], a.walk.here k s)
-
-returns-2 : tie.Need-returns-2 invariant-loop decreases-loop
-returns-2 c = ahead_here c.before.before.loop.invariant c.next-head.ensures c.before.before.before.requires c.before.loop-test.false
+returns c = ahead_here c.before.before.loop-left.invariant c.next_head.ensures c.before.before.before.requires c.before.loop-left-test.false
 
 pub numbered_spec : {M : Type 1} → statement M
 numbered_spec =
@@ -46,10 +46,10 @@ numbered_spec =
     invariant-loop
     decreases-loop
     loop-holds
-    next-places-requires
-    returns
-    sub-left
+    next_places-passing-requires
+    returns-then-passing
+    overflow_sub-left
     loop-less
     loop-again
-    next-head-requires
-    returns-2)
+    next_head-requires
+    returns)

@@ -4,11 +4,11 @@ use borrow.Author.Rules.{rules}
 use Rattle.want.proofs.fields.eight_at.Statement.{statement}
 use Rattle.want.proofs.fields.eight_at.Tie as tie
 
-returns : tie.Need-returns
-returns c = let s = c.before.before.before.before.before in eight_refused s.args.s.now s.args.p c.before.before.read-hyper.ensures s.requires c.enum_told.given.1
+returns-in_default : tie.Need-returns-in_default
+returns-in_default c = let s = c.before.before.before.before in eight_refused s.args.s.now s.args.p c.before.read_hyper.ensures s.requires c.in_default.is
 
-returns-2 : tie.Need-returns-2
-returns-2 c = let s = c.before.before.before.before.before.before in eight_taken s.args.s.now s.args.p c.before.before.before.read-hyper.ensures c.before.n.given.1
+returns : tie.Need-returns
+returns c = let s = c.before.before.before.before in eight_taken s.args.s.now s.args.p c.before.read_hyper.ensures c.in-Taken.is
 
 pub eight_at_spec : {M : Type 1} → statement M
 eight_at_spec =
@@ -21,5 +21,5 @@ eight_at_spec =
     (λ c κs. search rules)
     (λ c. search rules)
     (λ c. search rules)
-    returns
-    returns-2)
+    returns-in_default
+    returns)

@@ -7,7 +7,7 @@ use Rattle.want.proofs.fields.fields_at.Tie as tie
 returns : tie.Need-returns
 returns c =
     let s = c.before.before.before.before.before.before.args in
-    fields_read s.t.now s.at c.before.before.before.before.word_at.ensures c.before.before.before.word-at2.ensures c.before.before.word-at3.ensures c.before.eight-at.ensures c.word-at4.ensures
+    fields_read s.t.now s.at c.before.before.before.before.word_at-n.ensures c.before.before.before.word_at-blocks.ensures c.before.before.word_at.ensures c.before.eight_at.ensures c.word_at-2.ensures
 
 pub fields_at_spec : {M : Type 1} → statement M
 fields_at_spec =

@@ -3,16 +3,16 @@ use Rattle.want.proofs.FieldLaws.{outline_none, outline_whole, stands_there, wit
 use Rattle.want.proofs.fields.record_at.Statement.{statement}
 use Rattle.want.proofs.fields.record_at.Tie as tie
 
+returns-then-t-at : tie.Need-returns-then-t-at
+returns-then-t-at c = let s = c.before.before.args in outline_none s.t.now s.at c.if-t-at.true
+
+fields_at-requires : tie.Need-fields_at-requires
+fields_at-requires c κs = let s = c.before.before in (within (stands_there s.args.t.now s.args.at s.requires c.if-t-at.false)).inside
+
 returns : tie.Need-returns
-returns c = let s = c.before.before.args in outline_none s.t.now s.at c.if1.true
-
-fields-at-requires : tie.Need-fields-at-requires
-fields-at-requires c κs = let s = c.before.before in (within (stands_there s.args.t.now s.args.at s.requires c.if1.false)).inside
-
-returns-2 : tie.Need-returns-2
-returns-2 c =
+returns c =
     let s = c.before.before.before in
-    outline_whole s.args.t.now s.args.at c.fields_at.ensures (within (stands_there s.args.t.now s.args.at s.requires c.before.if1.false)).inside
+    outline_whole s.args.t.now s.args.at c.fields_at.ensures (within (stands_there s.args.t.now s.args.at s.requires c.before.if-t-at.false)).inside
 
 pub record_at_spec : {M : Type 1} → statement M
-record_at_spec = tie.close (tie.spec returns fields-at-requires returns-2)
+record_at_spec = tie.close (tie.spec returns-then-t-at fields_at-requires returns)

@@ -7,28 +7,28 @@ use borrow.Author.Rules.{rules}
 use Rattle.want.proofs.head.by_records.Statement.{statement}
 use Rattle.want.proofs.head.by_records.Tie as tie
 
-returns : tie.Need-returns
-returns c = sym (ap (rank_in Equal) (c.before.is_same.ensures c.if1.true))
+returns-then-is_same : tie.Need-returns-then-is_same
+returns-then-is_same c = sym (ap (rank_in Equal) (c.before.is_same.ensures c.if-is_same.true))
 
-returns-2 : tie.Need-returns-2
-returns-2 c = rank_records c.enum_told.given.1 c.before.before.compare-records.ensures
+returns-in-Less : tie.Need-returns-in-Less
+returns-in-Less c = rank_records c.in-Less.is c.before.compare_records.ensures
 
-returns-3 : tie.Need-returns-3
-returns-3 c = rank_records c.enum-told2.given.1 c.before.before.compare-records.ensures
+returns-in-Equal : tie.Need-returns-in-Equal
+returns-in-Equal c = rank_records c.in-Equal.is c.before.compare_records.ensures
 
-returns-4 : tie.Need-returns-4
-returns-4 c = rank_records c.enum-told3.given.1 c.before.before.compare-records.ensures
+returns-in-Greater : tie.Need-returns-in-Greater
+returns-in-Greater c = rank_records c.in-Greater.is c.before.compare_records.ensures
 
 pub by_records_spec : {M : Type 1} → statement M
 by_records_spec =
     tie.close
     (tie.spec
     (λ c κs. search rules)
-    returns
+    returns-then-is_same
     (λ c κs. search rules)
     (λ c. search rules)
     (λ c. search rules)
     (λ c. search rules)
-    returns-2
-    returns-3
-    returns-4)
+    returns-in-Less
+    returns-in-Equal
+    returns-in-Greater)

@@ -14,94 +14,94 @@ use borrow.Author.Rules.{rules}
 use Rattle.want.proofs.head.next_head.Statement.{statement}
 use Rattle.want.proofs.head.next_head.Tie as tie
 
-abbrev invariant-loop : tie.invariant-loop
+abbrev invariant-loop : tie.invariant-loop-k
 invariant-loop t1 tables places best₀ fields₀ past₀ k₀ best fields past k = Headed (map (λ x. x.now) t1) places k best fields past × (length places ≡ 5) × (k ≤ 5)
 
-abbrev decreases-loop : tie.decreases-loop
+abbrev decreases-loop : tie.decreases-loop-k
 decreases-loop t1 tables places best₀ fields₀ past₀ k₀ best fields past k = 5 - k
 
-record-at-requires : tie.Need-record-at-requires invariant-loop decreases-loop
-record-at-requires c κs = let s = c.before in stands_in (place_at s.args.t2 0) (s.requires 0 (omega arith)) (element (λ x. x.now) s.args.t1 0 _ refl)
+record_at-fields-requires : tie.Need-record_at-fields-requires invariant-loop decreases-loop
+record_at-fields-requires c κs = let s = c.before in stands_in (place_at s.args.t2 0) (s.requires 0 (omega arith)) (element (λ x. x.now) s.args.t1 0 _ refl)
 
-loop-holds : tie.Need-loop-init invariant-loop decreases-loop
+loop-holds : tie.Need-loop-k-init invariant-loop decreases-loop
 loop-holds c =
     let s = c.before.before.before.args in
     let long : length s.t2 ≡ 5 = search rules in
-    (head_starts (map (λ x. x.now) s.t1) s.t2 (outline_in (place_at s.t2 0) c.before.record-at.ensures (element (λ x. x.now) s.t1 0 _ refl)) c.past_of.ensures long, long, omega arith)
+    (head_starts (map (λ x. x.now) s.t1) s.t2 (outline_in (place_at s.t2 0) c.before.record_at-fields.ensures (element (λ x. x.now) s.t1 0 _ refl)) c.past_of.ensures long, long, omega arith)
 
-mul-t : tie.Need-overflow-mul-t invariant-loop decreases-loop
-mul-t c = omega (arith, c.loop-test.true)
+offset_bounds-tables-k : tie.Need-offset_bounds-tables-k invariant-loop decreases-loop
+offset_bounds-tables-k c = omega (arith, c.loop-k-test.true)
 
-array-copy-out-t : tie.Need-array-copy-out-t invariant-loop decreases-loop
-array-copy-out-t c = omega (arith, c.loop-test.true)
+bounds-tables-k : tie.Need-bounds-tables-k invariant-loop decreases-loop
+bounds-tables-k c = omega (arith, c.loop-k-test.true)
 
-mul_at : tie.Need-overflow-mul-at invariant-loop decreases-loop
-mul_at c = omega (arith, c.before.loop-test.true)
+offset_bounds-places-k : tie.Need-offset_bounds-places-k invariant-loop decreases-loop
+offset_bounds-places-k c = omega (arith, c.before.loop-k-test.true)
 
-array-read-at : tie.Need-array-read-at invariant-loop decreases-loop
-array-read-at c = omega (arith, c.before.loop-test.true)
+bounds-places-k : tie.Need-bounds-places-k invariant-loop decreases-loop
+bounds-places-k c = omega (arith, c.before.loop-k-test.true)
 
-mul-standing : tie.Need-overflow-mul-standing invariant-loop decreases-loop
-mul-standing c = omega (arith, c.before.before.loop.invariant.0.small)
+offset_bounds-tables-best : tie.Need-offset_bounds-tables-best invariant-loop decreases-loop
+offset_bounds-tables-best c = omega (arith, c.before.before.loop-k.invariant.0.small)
 
-array-copy-out-standing : tie.Need-array-copy-out-standing invariant-loop decreases-loop
-array-copy-out-standing c = omega (arith, c.before.before.loop.invariant.0.small)
+bounds-tables-best : tie.Need-bounds-tables-best invariant-loop decreases-loop
+bounds-tables-best c = omega (arith, c.before.before.loop-k.invariant.0.small)
 
 standing-requires : tie.Need-standing-requires invariant-loop decreases-loop
 standing-requires c κs =
-    let v = c.before.before.before.loop in
+    let v = c.before.before.before.loop-k in
     let s = c.before.before.before.before.before.before.before in (
       kept_in (place_at s.args.t2 v.best) v.invariant.0.fields_are (s.requires v.best v.invariant.0.small) (element (λ x. x.now) s.args.t1 v.best _ refl),
-      stands_in (place_at s.args.t2 v.k) (s.requires v.k c.before.before.loop-test.true) (element (λ x. x.now) s.args.t1 v.k _ refl),
+      stands_in (place_at s.args.t2 v.k) (s.requires v.k c.before.before.loop-k-test.true) (element (λ x. x.now) s.args.t1 v.k _ refl),
     )
 
-record-at-requires-2 : tie.Need-record-at-requires-2 invariant-loop decreases-loop
-record-at-requires-2 c κs =
-    let v = c.before.before.before.before.before.before.loop in
-    let s = c.before.before.before.before.before.before.before.before.before.before in
-    stands_in (place_at s.args.t2 v.k) (s.requires v.k c.before.before.before.before.before.loop-test.true) (element (λ x. x.now) s.args.t1 v.k _ refl)
+record_at-requires : tie.Need-record_at-requires invariant-loop decreases-loop
+record_at-requires c κs =
+    let v = c.before.before.before.before.before.loop-k in
+    let s = c.before.before.before.before.before.before.before.before.before in
+    stands_in (place_at s.args.t2 v.k) (s.requires v.k c.before.before.before.before.loop-k-test.true) (element (λ x. x.now) s.args.t1 v.k _ refl)
 
-mul-past : tie.Need-overflow-mul-past invariant-loop decreases-loop
-mul-past c = omega (arith, c.before.before.before.before.before.before.before.loop-test.true)
+offset_bounds-past-k : tie.Need-offset_bounds-past-k invariant-loop decreases-loop
+offset_bounds-past-k c = omega (arith, c.before.before.before.before.before.before.loop-k-test.true)
 
-array-write-past-2 : tie.Need-array-write-past-2 invariant-loop decreases-loop
-array-write-past-2 c = omega (arith, c.before.before.before.before.before.before.before.loop-test.true)
+bounds-past-k : tie.Need-bounds-past-k invariant-loop decreases-loop
+bounds-past-k c = omega (arith, c.before.before.before.before.before.before.loop-k-test.true)
 
-record-at-requires-3 : tie.Need-record-at-requires-3 invariant-loop decreases-loop
-record-at-requires-3 c κs =
-    let v = c.before.before.before.before.before.before.loop in
-    let s = c.before.before.before.before.before.before.before.before.before.before in
-    stands_in (place_at s.args.t2 v.k) (s.requires v.k c.before.before.before.before.before.loop-test.true) (element (λ x. x.now) s.args.t1 v.k _ refl)
+record_at-fields-requires-in-Newer : tie.Need-record_at-fields-requires-in-Newer invariant-loop decreases-loop
+record_at-fields-requires-in-Newer c κs =
+    let v = c.before.before.before.before.before.loop-k in
+    let s = c.before.before.before.before.before.before.before.before.before in
+    stands_in (place_at s.args.t2 v.k) (s.requires v.k c.before.before.before.before.loop-k-test.true) (element (λ x. x.now) s.args.t1 v.k _ refl)
 
-mul-past-2 : tie.Need-overflow-mul-past-2 invariant-loop decreases-loop
-mul-past-2 c = omega (arith, c.before.before.before.before.before.before.before.loop-test.true)
+offset_bounds-past-k-in-Newer : tie.Need-offset_bounds-past-k-in-Newer invariant-loop decreases-loop
+offset_bounds-past-k-in-Newer c = omega (arith, c.before.before.before.before.before.before.loop-k-test.true)
 
-array-write-past-3 : tie.Need-array-write-past-3 invariant-loop decreases-loop
-array-write-past-3 c = omega (arith, c.before.before.before.before.before.before.before.loop-test.true)
+bounds-past-k-in-Newer : tie.Need-bounds-past-k-in-Newer invariant-loop decreases-loop
+bounds-past-k-in-Newer c = omega (arith, c.before.before.before.before.before.before.loop-k-test.true)
 
-record-at-requires-4 : tie.Need-record-at-requires-4 invariant-loop decreases-loop
-record-at-requires-4 c κs =
-    let v = c.before.before.before.before.before.before.loop in
-    let s = c.before.before.before.before.before.before.before.before.before.before in
-    stands_in (place_at s.args.t2 v.k) (s.requires v.k c.before.before.before.before.before.loop-test.true) (element (λ x. x.now) s.args.t1 v.k _ refl)
+record_at-fields-requires-in-After : tie.Need-record_at-fields-requires-in-After invariant-loop decreases-loop
+record_at-fields-requires-in-After c κs =
+    let v = c.before.before.before.before.before.loop-k in
+    let s = c.before.before.before.before.before.before.before.before.before in
+    stands_in (place_at s.args.t2 v.k) (s.requires v.k c.before.before.before.before.loop-k-test.true) (element (λ x. x.now) s.args.t1 v.k _ refl)
 
-mul-past-3 : tie.Need-overflow-mul-past-3 invariant-loop decreases-loop
-mul-past-3 c = omega (arith, c.before.before.before.before.before.before.before.loop-test.true)
+offset_bounds-past-k-in-After : tie.Need-offset_bounds-past-k-in-After invariant-loop decreases-loop
+offset_bounds-past-k-in-After c = omega (arith, c.before.before.before.before.before.before.loop-k-test.true)
 
-array-write-past-4 : tie.Need-array-write-past-4 invariant-loop decreases-loop
-array-write-past-4 c = omega (arith, c.before.before.before.before.before.before.before.loop-test.true)
+bounds-past-k-in-After : tie.Need-bounds-past-k-in-After invariant-loop decreases-loop
+bounds-past-k-in-After c = omega (arith, c.before.before.before.before.before.before.loop-k-test.true)
 
-add-k : tie.Need-overflow-add-k invariant-loop decreases-loop
-add-k c = omega (arith, c.before.before.before.before.loop-test.true)
+overflow_add-k : tie.Need-overflow_add-k invariant-loop decreases-loop
+overflow_add-k c = omega (arith, c.before.before.before.before.loop-k-test.true)
 
-loop-less : tie.Need-loop-smaller invariant-loop decreases-loop
-loop-less c = omega (arith, c.before.before.before.before.loop-test.true)
+loop-less : tie.Need-loop-k-smaller invariant-loop decreases-loop
+loop-less c = omega (arith, c.before.before.before.before.loop-k-test.true)
 
-loop-again : tie.Need-loop-preserved invariant-loop decreases-loop
+loop-again : tie.Need-loop-k-preserved invariant-loop decreases-loop
 loop-again c =
     let s = c.before.before.before.before.before.before.before.before.before.args in
-    let v = c.before.before.before.before.before.loop in
-    let h = c.before.before.before.before.loop-test.true in
+    let v = c.before.before.before.before.before.loop-k in
+    let h = c.before.before.before.before.loop-k-test.true in
     let at = place_at s.t2 v.k in
     let t = element (λ x. x.now) s.t1 v.k _ refl in
     let q = rank_in_lem v.fields at c.before.standing.ensures (element (λ x. x.now) s.t1 v.best _ refl) t in (
@@ -112,13 +112,13 @@ loop-again c =
           (⊎_elim
           (λ p. head_as (head_newer v.invariant.0 h v.invariant.1 refl q (past_in at p.3.ensures (outline_in at p.2.ensures t)) p.1.given.1) p.4 (p.5 ∙ outline_in at p.2.ensures t) p.6)
           (λ p. head_as (head_after v.invariant.0 h v.invariant.1 refl q (past_in at p.3.ensures (outline_in at p.2.ensures t)) p.1.given.1) p.4 (p.5 ∙ outline_in at p.2.ensures t) p.6)))
-          c.match.branch,
+          c.match-standing.branch,
       v.invariant.1,
       omega (arith, h),
     )
 
 returns : tie.Need-returns invariant-loop decreases-loop
-returns c = head_ends c.before.loop.invariant.0 c.before.loop.invariant.2 c.loop-test.false
+returns c = head_ends c.before.loop-k.invariant.0 c.before.loop-k.invariant.2 c.loop-k-test.false
 
 pub next_head_spec : {M : Type 1} → statement M
 next_head_spec =
@@ -128,35 +128,35 @@ next_head_spec =
     decreases-loop
     (λ c. search rules)
     (λ c. search rules)
-    record-at-requires
+    record_at-fields-requires
     (λ c. search rules)
     (λ c κs. search rules)
     (λ c. search rules)
     loop-holds
-    mul-t
-    array-copy-out-t
-    mul_at
-    array-read-at
-    mul-standing
-    array-copy-out-standing
+    offset_bounds-tables-k
+    bounds-tables-k
+    offset_bounds-places-k
+    bounds-places-k
+    offset_bounds-tables-best
+    bounds-tables-best
     standing-requires
     (λ c. search rules)
     (λ c. search rules)
-    record-at-requires-2
+    record_at-requires
     (λ c κs. search rules)
-    mul-past
-    array-write-past-2
+    offset_bounds-past-k
+    bounds-past-k
     (λ c. search rules)
-    record-at-requires-3
+    record_at-fields-requires-in-Newer
     (λ c κs. search rules)
-    mul-past-2
-    array-write-past-3
+    offset_bounds-past-k-in-Newer
+    bounds-past-k-in-Newer
     (λ c. search rules)
-    record-at-requires-4
+    record_at-fields-requires-in-After
     (λ c κs. search rules)
-    mul-past-3
-    array-write-past-4
-    add-k
+    offset_bounds-past-k-in-After
+    bounds-past-k-in-After
+    overflow_add-k
     loop-less
     loop-again
     returns)

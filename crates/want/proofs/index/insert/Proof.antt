@@ -5,20 +5,20 @@ use borrow.Author.Rules.{rules}
 use Rattle.want.proofs.index.insert.Statement.{statement}
 use Rattle.want.proofs.index.insert.Tie as tie
 
-mul-index : tie.Need-overflow-mul-index
-mul-index c = let s = c.before.before.before.before.before.before.before.before.args in omega (arith, slot_below s.t.now s.index.now s.p c.before.before.before.before.probe.ensures c.before.before.i.given.1)
+offset_bounds-index-i : tie.Need-offset_bounds-index-i
+offset_bounds-index-i c = let s = c.before.before.before.before.before.before.before.before.args in omega (arith, slot_below s.t.now s.index.now s.p c.before.before.probe.ensures c.before.in-Free.is)
 
-slice-write-index : tie.Need-slice-write-index
-slice-write-index c = let s = c.before.before.before.before.before.before.before.before in omega (arith, slot_below s.args.t.now s.args.index.now s.args.p c.before.before.before.before.probe.ensures c.before.before.i.given.1, s.requires.0.0)
+bounds-index-i : tie.Need-bounds-index-i
+bounds-index-i c = let s = c.before.before.before.before.before.before.before.before in omega (arith, slot_below s.args.t.now s.args.index.now s.args.p c.before.before.probe.ensures c.before.in-Free.is, s.requires.0.0)
 
-returns : tie.Need-returns
-returns c = let s = c.before.before.before.before.before.before.before.before.args in put_told s.t.now s.index.now s.p c.before.before.before.before.probe.ensures c.before.before.i.given.1 c.narrow.ensures
+returns-in-Free : tie.Need-returns-in-Free
+returns-in-Free c = let s = c.before.before.before.before.before.before.before.before.args in put_told s.t.now s.index.now s.p c.before.before.probe.ensures c.before.in-Free.is c.narrow.ensures
 
-returns-2 : tie.Need-returns-2
-returns-2 c = let s = c.before.before.before.before.before.before.args in placed_told s.t.now s.index.now s.p c.before.before.probe.ensures c.enum_told.given.1
+returns-in-Present : tie.Need-returns-in-Present
+returns-in-Present c = let s = c.before.before.before.before.before.before.args in placed_told s.t.now s.index.now s.p c.before.probe.ensures c.in-Present.is
 
-returns-3 : tie.Need-returns-3
-returns-3 c = let s = c.before.before.before.before.before.before.args in placed_told s.t.now s.index.now s.p c.before.before.probe.ensures c.enum-told2.given.1
+returns-in-Full : tie.Need-returns-in-Full
+returns-in-Full c = let s = c.before.before.before.before.before.before.args in placed_told s.t.now s.index.now s.p c.before.probe.ensures c.in-Full.is
 
 pub insert_spec : {M : Type 1} → statement M
 insert_spec =
@@ -27,13 +27,13 @@ insert_spec =
     (λ c κs. search rules)
     (λ c. search rules)
     (λ c κs. search rules)
-    mul-index
-    slice-write-index
+    offset_bounds-index-i
+    bounds-index-i
     (λ c. search rules)
     (λ c. search rules)
     (λ c. search rules)
-    returns
+    returns-in-Free
     (λ c. search rules)
-    returns-2
+    returns-in-Present
     (λ c. search rules)
-    returns-3)
+    returns-in-Full)

@@ -8,7 +8,7 @@ use Rattle.want.proofs.index.same_at.Statement.{statement}
 use Rattle.want.proofs.index.same_at.Tie as tie
 
 returns : tie.Need-returns
-returns c = let s = c.before.before.before.before.before.args in c.same_block.ensures ∙ ap (is_same (block_here s.s.now s.p)) (read_here s.t.now s.q c.before.before.size-at.ensures c.before.hash_at.ensures)
+returns c = let s = c.before.before.before.before.before.args in c.same_block.ensures ∙ ap (is_same (block_here s.s.now s.p)) (read_here s.t.now s.q c.before.before.size_at.ensures c.before.hash_at.ensures)
 
 pub same_at_spec : {M : Type 1} → statement M
 same_at_spec =

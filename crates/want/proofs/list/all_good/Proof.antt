@@ -6,32 +6,32 @@ use borrow.Author.Rules.{rules}
 use Rattle.want.proofs.list.all_good.Statement.{statement}
 use Rattle.want.proofs.list.all_good.Tie as tie
 
+returns-then-not-is_good : tie.Need-returns-then-not-is_good
+returns-then-not-is_good c = rw (sym c.before.is_good.ensures ∙ c.if-not-is_good.true) refl
+
+returns-then-not-is_good-2 : tie.Need-returns-then-not-is_good-2
+returns-then-not-is_good-2 c = rw (sym c.before.before.before.is_good.ensures ∙ c.before.before.if-not-is_good.false, sym c.before.is_good-2.ensures ∙ c.if-not-is_good-2.true) refl
+
+returns-then-not-is_good-3 : tie.Need-returns-then-not-is_good-3
+returns-then-not-is_good-3 c = rw (sym c.before.before.before.before.before.is_good.ensures ∙ c.before.before.before.before.if-not-is_good.false, sym c.before.before.before.is_good-2.ensures ∙ c.before.before.if-not-is_good-2.false, sym c.before.is_good-3.ensures ∙ c.if-not-is_good-3.true) refl
+
+returns-then-not-is_good-4 : tie.Need-returns-then-not-is_good-4
+returns-then-not-is_good-4 c = rw (sym c.before.before.before.before.before.before.before.is_good.ensures ∙ c.before.before.before.before.before.before.if-not-is_good.false, sym c.before.before.before.before.before.is_good-2.ensures ∙ c.before.before.before.before.if-not-is_good-2.false, sym c.before.before.before.is_good-3.ensures ∙ c.before.before.if-not-is_good-3.false, sym c.before.is_good-4.ensures ∙ c.if-not-is_good-4.true) refl
+
 returns : tie.Need-returns
-returns c = rw (sym c.before.is-good.ensures ∙ not-true _ c.if1.true) refl
-
-returns-2 : tie.Need-returns-2
-returns-2 c = rw (sym c.before.before.before.is-good.ensures ∙ not-false _ c.before.before.if1.false, sym c.before.is-good2.ensures ∙ not-true _ c.if2.true) refl
-
-returns-3 : tie.Need-returns-3
-returns-3 c = rw (sym c.before.before.before.before.before.is-good.ensures ∙ not-false _ c.before.before.before.before.if1.false, sym c.before.before.before.is-good2.ensures ∙ not-false _ c.before.before.if2.false, sym c.before.is-good3.ensures ∙ not-true _ c.if3.true) refl
-
-returns-4 : tie.Need-returns-4
-returns-4 c = rw (sym c.before.before.before.before.before.before.before.is-good.ensures ∙ not-false _ c.before.before.before.before.before.before.if1.false, sym c.before.before.before.before.before.is-good2.ensures ∙ not-false _ c.before.before.before.before.if2.false, sym c.before.before.before.is-good3.ensures ∙ not-false _ c.before.before.if3.false, sym c.before.is-good4.ensures ∙ not-true _ c.if4.true) refl
-
-returns-5 : tie.Need-returns-5
-returns-5 c = rw (sym c.before.before.before.before.before.before.before.before.is-good.ensures ∙ not-false _ c.before.before.before.before.before.before.before.if1.false, sym c.before.before.before.before.before.before.is-good2.ensures ∙ not-false _ c.before.before.before.before.before.if2.false, sym c.before.before.before.before.is-good3.ensures ∙ not-false _ c.before.before.before.if3.false, sym c.before.before.is-good4.ensures ∙ not-false _ c.before.if4.false) (c.is-good5.ensures ∙ sym (and_true _))
+returns c = rw (sym c.before.before.before.before.before.before.before.before.is_good.ensures ∙ c.before.before.before.before.before.before.before.if-not-is_good.false, sym c.before.before.before.before.before.before.is_good-2.ensures ∙ c.before.before.before.before.before.if-not-is_good-2.false, sym c.before.before.before.before.is_good-3.ensures ∙ c.before.before.before.if-not-is_good-3.false, sym c.before.before.is_good-4.ensures ∙ c.before.if-not-is_good-4.false) (c.is_good-5.ensures ∙ sym (and_true _))
 
 pub all_good_spec : {M : Type 1} → statement M
 all_good_spec =
     tie.close
     (tie.spec
     (λ c κs. search rules)
-    returns
+    returns-then-not-is_good
     (λ c κs. search rules)
-    returns-2
+    returns-then-not-is_good-2
     (λ c κs. search rules)
-    returns-3
+    returns-then-not-is_good-3
     (λ c κs. search rules)
-    returns-4
+    returns-then-not-is_good-4
     (λ c κs. search rules)
-    returns-5)
+    returns)

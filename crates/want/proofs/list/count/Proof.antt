@@ -13,53 +13,53 @@ use borrow.Author.Rules.{rules}
 use Rattle.want.proofs.list.count.Statement.{statement}
 use Rattle.want.proofs.list.count.Tie as tie
 
-abbrev invariant-loop : tie.invariant-loop
+abbrev invariant-loop : tie.invariant-loop-tables
 invariant-loop t1 index tables places₀ n₀ places n = Counted (map (λ x. x.now) t1) places n
 
-abbrev decreases-loop : tie.decreases-loop
+abbrev decreases-loop : tie.decreases-loop-tables
 decreases-loop t1 index tables places₀ n₀ places n = 327680 - total places
 
-loop-holds : tie.Need-loop-init invariant-loop decreases-loop
+loop-holds : tie.Need-loop-tables-init invariant-loop decreases-loop
 loop-holds c = let s = c.before.before in counted_starts (begun_done (map (λ x. x.now) s.args.t1) s.requires.0 s.args.start.file s.args.start.places s.requires.1.1)
 
-next-head-requires : tie.Need-next-head-requires invariant-loop decreases-loop
-next-head-requires c κs = done_stand c.loop.invariant.so_far
+next_head-head-requires : tie.Need-next_head-head-requires invariant-loop decreases-loop
+next_head-head-requires c κs = done_stand c.loop-tables.invariant.so_far
 
-returns : tie.Need-returns invariant-loop decreases-loop
-returns c = counted_all c.before.before.before.before.before.before.requires.0 c.before.before.before.loop.invariant c.before.before.next-head.ensures (turn_ended c.before.before.next-head.result.best c.before.before.next-head.result.fields c.before.turn-of.ensures c.if1.true)
+returns-then-turn : tie.Need-returns-then-turn invariant-loop decreases-loop
+returns-then-turn c = counted_all c.before.before.before.before.before.before.requires.0 c.before.before.before.loop-tables.invariant c.before.before.next_head-head.ensures (turn_ended c.before.before.next_head-head.result.best c.before.before.next_head-head.result.fields c.before.turn_of-turn.ensures c.if-turn.true)
 
-mul-count-blocks : tie.Need-overflow-mul-count-blocks invariant-loop decreases-loop
-mul-count-blocks c = omega (arith, c.before.before.before.next-head.ensures.small)
+offset_bounds-tables-best : tie.Need-offset_bounds-tables-best invariant-loop decreases-loop
+offset_bounds-tables-best c = omega (arith, c.before.before.before.next_head-head.ensures.small)
 
-array-copy-out-count-blocks-2 : tie.Need-array-copy-out-count-blocks-2 invariant-loop decreases-loop
-array-copy-out-count-blocks-2 c = c.before.before.before.next-head.ensures.small
+bounds-tables-best : tie.Need-bounds-tables-best invariant-loop decreases-loop
+bounds-tables-best c = c.before.before.before.next_head-head.ensures.small
 
-count-blocks-requires : tie.Need-count-blocks-requires invariant-loop decreases-loop
-count-blocks-requires c κs =
+count_blocks-n-requires : tie.Need-count_blocks-n-requires invariant-loop decreases-loop
+count_blocks-n-requires c κs =
     let s = c.before.before.before.before.before.before.before.before in
-    let h = c.before.before.before.before.next-head.ensures in
-    let g = turn_goes c.before.before.before.before.next-head.result.best c.before.before.before.before.next-head.result.fields c.before.before.before.turn-of.ensures c.before.before.if1.false in
-    (local_good (λ x. x.now) s.args.t1 _ refl s.requires.0, (serves_first (λ x. x.now) s.args.t1 _ refl s.requires.1.0, within_lent (λ x. x.now) s.args.t1 _ _ refl (omega (arith, g.first_is, g.count_is, blocks_within c.before.before.before.before.before.loop.invariant.so_far s.requires.0 (headed_lowest h) h.fields_are g.is))))
+    let h = c.before.before.before.before.next_head-head.ensures in
+    let g = turn_goes c.before.before.before.before.next_head-head.result.best c.before.before.before.before.next_head-head.result.fields c.before.before.before.turn_of-turn.ensures c.before.before.if-turn.false in
+    (local_good (λ x. x.now) s.args.t1 _ refl s.requires.0, (serves_first (λ x. x.now) s.args.t1 _ refl s.requires.1.0, within_lent (λ x. x.now) s.args.t1 _ _ refl (omega (arith, g.first_is, g.count_is, blocks_within c.before.before.before.before.before.loop-tables.invariant.so_far s.requires.0 (headed_lowest h) h.fields_are g.is))))
 
-add-n : tie.Need-overflow-add-n invariant-loop decreases-loop
-add-n c =
+overflow_add-n : tie.Need-overflow_add-n invariant-loop decreases-loop
+overflow_add-n c =
     let s = c.before.before.before.before.before.before.before.before.before in
-    let h = c.before.before.before.before.before.next-head.ensures in
-    let g = turn_goes c.before.before.before.before.before.next-head.result.best c.before.before.before.before.before.next-head.result.fields c.before.before.before.before.turn-of.ensures c.before.before.before.if1.false in
-    omega (arith, counted_small s.requires.0 (counted_more s.requires.0 c.before.before.before.before.before.before.loop.invariant h g.is (element (λ x. x.now) s.args.t1 0 _ refl) (element (λ x. x.now) s.args.t1 _ _ refl) g.first_is g.count_is c.count-blocks.ensures))
+    let h = c.before.before.before.before.before.next_head-head.ensures in
+    let g = turn_goes c.before.before.before.before.before.next_head-head.result.best c.before.before.before.before.before.next_head-head.result.fields c.before.before.before.before.turn_of-turn.ensures c.before.before.before.if-turn.false in
+    omega (arith, counted_small s.requires.0 (counted_more s.requires.0 c.before.before.before.before.before.before.loop-tables.invariant h g.is (element (λ x. x.now) s.args.t1 0 _ refl) (element (λ x. x.now) s.args.t1 _ _ refl) g.first_is g.count_is c.count_blocks-n.ensures))
 
-loop-less : tie.Need-loop-smaller invariant-loop decreases-loop
+loop-less : tie.Need-loop-tables-smaller invariant-loop decreases-loop
 loop-less c =
-    let h = c.before.before.before.before.before.before.next-head.ensures in
-    let g = turn_goes c.before.before.before.before.before.before.next-head.result.best c.before.before.before.before.before.before.next-head.result.fields c.before.before.before.before.before.turn-of.ensures c.before.before.before.before.if1.false in
-    done_less c.before.before.before.before.before.before.before.loop.invariant.so_far c.before.before.before.before.before.before.before.before.before.before.requires.0 (headed_lowest h) h.fields_are g.is (headed_after h g.is)
+    let h = c.before.before.before.before.before.before.next_head-head.ensures in
+    let g = turn_goes c.before.before.before.before.before.before.next_head-head.result.best c.before.before.before.before.before.before.next_head-head.result.fields c.before.before.before.before.before.turn_of-turn.ensures c.before.before.before.before.if-turn.false in
+    done_less c.before.before.before.before.before.before.before.loop-tables.invariant.so_far c.before.before.before.before.before.before.before.before.before.before.requires.0 (headed_lowest h) h.fields_are g.is (headed_after h g.is)
 
-loop-again : tie.Need-loop-preserved invariant-loop decreases-loop
+loop-again : tie.Need-loop-tables-preserved invariant-loop decreases-loop
 loop-again c =
     let s = c.before.before.before.before.before.before.before.before.before.before in
-    let h = c.before.before.before.before.before.before.next-head.ensures in
-    let g = turn_goes c.before.before.before.before.before.before.next-head.result.best c.before.before.before.before.before.before.next-head.result.fields c.before.before.before.before.before.turn-of.ensures c.before.before.before.before.if1.false in
-    counted_more s.requires.0 c.before.before.before.before.before.before.before.loop.invariant h g.is (element (λ x. x.now) s.args.t1 0 _ refl) (element (λ x. x.now) s.args.t1 _ _ refl) g.first_is g.count_is c.before.count-blocks.ensures
+    let h = c.before.before.before.before.before.before.next_head-head.ensures in
+    let g = turn_goes c.before.before.before.before.before.before.next_head-head.result.best c.before.before.before.before.before.before.next_head-head.result.fields c.before.before.before.before.before.turn_of-turn.ensures c.before.before.before.before.if-turn.false in
+    counted_more s.requires.0 c.before.before.before.before.before.before.before.loop-tables.invariant h g.is (element (λ x. x.now) s.args.t1 0 _ refl) (element (λ x. x.now) s.args.t1 _ _ refl) g.first_is g.count_is c.before.count_blocks-n.ensures
 
 pub count_spec : {M : Type 1} → statement M
 count_spec =
@@ -68,13 +68,13 @@ count_spec =
     invariant-loop
     decreases-loop
     loop-holds
-    next-head-requires
+    next_head-head-requires
     (λ c κs. search rules)
-    returns
+    returns-then-turn
     (λ c. search rules)
-    mul-count-blocks
-    array-copy-out-count-blocks-2
-    count-blocks-requires
-    add-n
+    offset_bounds-tables-best
+    bounds-tables-best
+    count_blocks-n-requires
+    overflow_add-n
     loop-less
     loop-again)

@@ -4,11 +4,11 @@ use borrow.Author.Rules.{rules}
 use Rattle.want.proofs.list.count_block.Statement.{statement}
 use Rattle.want.proofs.list.count_block.Tie as tie
 
-returns : tie.Need-returns
-returns c = rw (sym c.before.holds.ensures ∙ c.if1.true) refl
+returns-then-holds : tie.Need-returns-then-holds
+returns-then-holds c = rw (sym c.before.holds.ensures ∙ c.if-holds.true) refl
 
-returns-2 : tie.Need-returns-2
-returns-2 c = rw (sym c.before.holds.ensures ∙ c.if1.false) refl
+returns : tie.Need-returns
+returns c = rw (sym c.before.holds.ensures ∙ c.if-holds.false) refl
 
 pub count_block_spec : {M : Type 1} → statement M
-count_block_spec = tie.close (tie.spec (λ c κs. search rules) returns returns-2)
+count_block_spec = tie.close (tie.spec (λ c κs. search rules) returns-then-holds returns)

@@ -16,20 +16,20 @@ use borrow.Author.Rules.{rules}
 use Rattle.want.proofs.list.fill_record.Statement.{statement}
 use Rattle.want.proofs.list.fill_record.Tie as tie
 
-returns : tie.Need-returns
-returns c = let s = c.before.before.before.before.args in run_nothing (map (λ x. x.now) s.t1) (runs_from (map (λ x. x.now) s.t1) s.places s.past) s.file (table_at (map (λ x. x.now) s.t1) s.best) s.turn.first c.if1.true s.out.now s.at
+returns-then-turn-eq0 : tie.Need-returns-then-turn-eq0
+returns-then-turn-eq0 c = let s = c.before.before.before.before.args in run_nothing (map (λ x. x.now) s.t1) (runs_from (map (λ x. x.now) s.t1) s.places s.past) s.file (table_at (map (λ x. x.now) s.t1) s.best) s.turn.first c.if-turn-eq0.true s.out.now s.at
 
-mul-t : tie.Need-overflow-mul-t
-mul-t c = omega (arith, c.before.before.before.before.before.requires.1.1.0.0)
+offset_bounds-tables-best : tie.Need-offset_bounds-tables-best
+offset_bounds-tables-best c = omega (arith, c.before.before.before.before.before.requires.1.1.0.0)
 
-array-copy-out-t : tie.Need-array-copy-out-t
-array-copy-out-t c = c.before.before.before.before.before.requires.1.1.0.0
+bounds-tables-best : tie.Need-bounds-tables-best
+bounds-tables-best c = c.before.before.before.before.before.requires.1.1.0.0
 
-fill-blocks-requires : tie.Need-fill-blocks-requires
-fill-blocks-requires c κs =
+fill_blocks-requires : tie.Need-fill_blocks-requires
+fill_blocks-requires c κs =
     let s = c.before.before.before.before.before.before.before in
     let ts = map (λ x. x.now) s.args.t1 in
-    let e = c.before.before.runs-at.ensures in (
+    let e = c.before.before.runs_at-runs.ensures in (
       s.requires.0,
       (
         s.requires.1.0,
@@ -43,21 +43,21 @@ fill-blocks-requires c κs =
       ),
     )
 
-returns-2 : tie.Need-returns-2
-returns-2 c =
+returns : tie.Need-returns
+returns c =
     let s = c.before.before.before.before.before.before.before.before.before.before.args in
-    let q = run_lent (map (λ x. x.now) s.t1) c.before.before.before.before.before.runs-at.ensures s.file (element (λ x. x.now) s.t1 s.best _ refl) s.turn.first s.turn.count in
-    let f = c.before.before.fill-blocks.ensures in
+    let q = run_lent (map (λ x. x.now) s.t1) c.before.before.before.before.before.runs_at-runs.ensures s.file (element (λ x. x.now) s.t1 s.best _ refl) s.turn.first s.turn.count in
+    let f = c.before.before.fill_blocks.ensures in
     (f.0 ∙ ap (λ (l : List Wanted). s.at + length (list_bytes l)) q, f.1 ∙ ap (λ (l : List Wanted). over s.out.now s.at (list_bytes l)) q)
 
 pub fill_record_spec : {M : Type 1} → statement M
 fill_record_spec =
     tie.close
     (tie.spec
-    returns
+    returns-then-turn-eq0
     (λ c κs. search rules)
-    mul-t
-    array-copy-out-t
-    fill-blocks-requires
+    offset_bounds-tables-best
+    bounds-tables-best
+    fill_blocks-requires
     (λ c. search rules)
-    returns-2)
+    returns)

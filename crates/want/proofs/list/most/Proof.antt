@@ -19,17 +19,17 @@ same c k = ap length (element (λ x. x.now) c.args.t1 k (record { ref_ptr = (0, 
 short : (c : tie.Start) (k : ℕ) → k < 5 → length (get_or c.args.t1 k (record { ref_ptr = (0, 0); now = [] })).now ≤ 65536
 short c k h = omega (arith, table_short c.requires k h, same c k)
 
-add-result : tie.Need-overflow-add-result
-add-result c = omega (arith, short c 1 (omega arith), short c 2 (omega arith), short c 3 (omega arith), short c 4 (omega arith))
+overflow_add-result : tie.Need-overflow_add-result
+overflow_add-result c = omega (arith, short c 1 (omega arith), short c 2 (omega arith), short c 3 (omega arith), short c 4 (omega arith))
 
-add-result-2 : tie.Need-overflow-add-result-2
-add-result-2 c = omega (arith, short c 1 (omega arith), short c 2 (omega arith), short c 3 (omega arith), short c 4 (omega arith))
+overflow_add-result-2 : tie.Need-overflow_add-result-2
+overflow_add-result-2 c = omega (arith, short c 1 (omega arith), short c 2 (omega arith), short c 3 (omega arith), short c 4 (omega arith))
 
-add-result-3 : tie.Need-overflow-add-result-3
-add-result-3 c = omega (arith, short c 1 (omega arith), short c 2 (omega arith), short c 3 (omega arith), short c 4 (omega arith))
+overflow_add-result-3 : tie.Need-overflow_add-result-3
+overflow_add-result-3 c = omega (arith, short c 1 (omega arith), short c 2 (omega arith), short c 3 (omega arith), short c 4 (omega arith))
 
-mul-result : tie.Need-overflow-mul-result
-mul-result c = omega (arith, short c 1 (omega arith), short c 2 (omega arith), short c 3 (omega arith), short c 4 (omega arith))
+overflow_mul-result : tie.Need-overflow_mul-result
+overflow_mul-result c = omega (arith, short c 1 (omega arith), short c 2 (omega arith), short c 3 (omega arith), short c 4 (omega arith))
 
 returns : tie.Need-returns
 returns c = omega (arith, list_room c.requires, bytes_length (list_of (map (λ x. x.now) c.args.t1)), same c 1, same c 2, same c 3, same c 4)
@@ -40,10 +40,10 @@ most_spec =
     (tie.spec
     (λ c. search rules)
     (λ c. search rules)
-    add-result
+    overflow_add-result
     (λ c. search rules)
-    add-result-2
+    overflow_add-result-2
     (λ c. search rules)
-    add-result-3
-    mul-result
+    overflow_add-result-3
+    overflow_mul-result
     returns)

@@ -5,7 +5,7 @@ use Rattle.want.proofs.list.put_wanted.Statement.{statement}
 use Rattle.want.proofs.list.put_wanted.Tie as tie
 
 returns : tie.Need-returns
-returns c = let s = c.before.before.before.before.before.before.before.before.before.before.before.before.before.before.before.before.before.before.before.before.before in wanted_put s.args.w s.args.out.now s.args.at s.requires c.before.before.before.before.before.before.before.before.before.before.before.before.before.before.before.before.before.before.put_word.ensures.1 c.before.before.before.before.before.before.before.before.before.before.before.before.before.before.put-word2.ensures.1 c.before.before.before.before.before.before.before.before.before.before.put-hyper.ensures.1 c.before.before.before.before.before.before.put-word3.ensures.1 c.before.before.put-word4.ensures.1
+returns c = let s = c.before.before.before.before.before.before.before.before.before.before.before.before.before.before.before.before.before.before.before.before.before in wanted_put s.args.w s.args.out.now s.args.at s.requires c.before.before.before.before.before.before.before.before.before.before.before.before.before.before.before.before.before.before.put_word.ensures.1 c.before.before.before.before.before.before.before.before.before.before.before.before.before.before.put_word-2.ensures.1 c.before.before.before.before.before.before.before.before.before.before.put_hyper.ensures.1 c.before.before.before.before.before.before.put_word-3.ensures.1 c.before.before.put_word-4.ensures.1
 
 pub put_wanted_spec : {M : Type 1} → statement M
 put_wanted_spec =

@@ -26,51 +26,51 @@ abbrev tables : tie.Start → List (List ℕ)
 tables c = c.args.local.now ∷ peers c
 
 -- where they are good
-abbrev start : tie.Else1 → tie.Start
+abbrev start : tie.Else-not-all_good → tie.Start
 start c = c.before.before.before.before.before.before.before.before
 
-five : (c : tie.Else1) → Five (tables (start c))
+five : (c : tie.Else-not-all_good) → Five (tables (start c))
 five c =
     let s = (start c).args in
-    five_good s.local.now s.peer1.now s.peer2.now s.peer3.now s.peer4.now (λ i. (c.before.before.before.before.before.before.before.shared-slice-known.given i).fits) (λ i. (c.before.before.before.before.before.before.shared-slice-known2.given i).fits) (λ i. (c.before.before.before.before.before.shared-slice-known3.given i).fits) (λ i. (c.before.before.before.before.shared-slice-known4.given i).fits) (λ i. (c.before.before.before.shared-slice-known5.given i).fits) c.before.all_good.ensures (not-false _ c.if1.false)
+    five_good s.local.now s.peer1.now s.peer2.now s.peer3.now s.peer4.now (λ i. (c.before.before.before.before.before.before.before.shared_slice_known-1.given i).fits) (λ i. (c.before.before.before.before.before.before.shared_slice_known-2-1.given i).fits) (λ i. (c.before.before.before.before.before.shared_slice_known-3-1.given i).fits) (λ i. (c.before.before.before.before.shared_slice_known-4-1.given i).fits) (λ i. (c.before.before.before.shared_slice_known-5-1.given i).fits) c.before.all_good.ensures (c.if-not-all_good.false)
 
-good : (c : tie.Else1) → request_outcome (start c).args.local.now (peers (start c)) ≡ gives (list_bytes (list_of (tables (start c))))
-good c = request_good (start c).args.local.now (peers (start c)) c.before.all_good.ensures (not-false _ c.if1.false)
+good : (c : tie.Else-not-all_good) → request_outcome (start c).args.local.now (peers (start c)) ≡ gives (list_bytes (list_of (tables (start c))))
+good c = request_good (start c).args.local.now (peers (start c)) c.before.all_good.ensures (c.if-not-all_good.false)
 
-returns : tie.Need-returns
-returns c = let s = c.before.before.before.before.before.before.before.before.before in fills_refused s.args.out.now (request_bad s.args.local.now (peers s) c.before.before.all_good.ensures (not-true _ c.before.if1.true)) c.refused.ensures
+returns-then-not-all_good : tie.Need-returns-then-not-all_good
+returns-then-not-all_good c = let s = c.before.before.before.before.before.before.before.before.before in fills_refused s.args.out.now (request_bad s.args.local.now (peers s) c.before.before.all_good.ensures (c.before.if-not-all_good.true)) c.refused.ensures
 
-seek-requires : tie.Need-seek-requires
-seek-requires c κs = five c
+seek-start-requires : tie.Need-seek-start-requires
+seek-start-requires c κs = five c
 
 -- nothing is wanted
-returns-2 : tie.Need-returns-2
-returns-2 c =
+returns-then-start : tie.Need-returns-then-start
+returns-then-start c =
     let s = c.before.before.before.before.before.before.before.before.before.before in
-    let none = c.before.seek.ensures.1 c.if2.true in
+    let none = c.before.seek-start.ensures.1 c.if-start.true in
     fills_given s.args.out.now (good c.before.before) (omega (arith, ap (λ (l : List Wanted). length (list_bytes l)) none)) (sym (ap (λ (l : List Wanted). length (list_bytes l)) none)) (sym (ap (λ (l : List Wanted). filled s.args.out.now (list_bytes l)) none))
 
-build-requires : tie.Need-build-requires
-build-requires c κs = ((five c.before.before.before).good 0 (omega arith), zeros_empty)
+build-built-requires : tie.Need-build-built-requires
+build-built-requires c κs = ((five c.before.before.before).good 0 (omega arith), zeros_empty)
 
 -- the index, where it was built
-serves : (c : tie.After-served) → Serves (start c.before.before.before.before.before.before.before).args.local.now c.served.result.now
-serves c = serves_by (start c.before.before.before.before.before.before.before).args.local.now _ c.before.before.before.build.result c.served.ensures c.before.before.before.build.ensures
+serves : (c : tie.After-served-index) → Serves (start c.before.before.before.before.before.before.before).args.local.now c.served-index.result.now
+serves c = serves_by (start c.before.before.before.before.before.before.before).args.local.now _ c.before.before.before.build-built.result c.served-index.ensures c.before.before.before.build-built.ensures
 
 fits-requires : tie.Need-fits-requires
-fits-requires c κs = (five c.before.before.before.before.before.before.before, (serves c, c.before.before.before.before.before.before.seek.ensures.0))
+fits-requires c κs = (five c.before.before.before.before.before.before.before, (serves c, c.before.before.before.before.before.before.seek-start.ensures.0))
 
-returns-3 : tie.Need-returns-3
-returns-3 c = let s = c.before.before.before.before.before.before.before.before.before.before.before.before.before.before.before.before.before.before in fills_short s.args.out.now (good c.before.before.before.before.before.before.before.before.before.before) (leb-false (length (list_bytes (list_of (tables s)))) (length s.args.out.now) (sym c.before.before.fits2.ensures ∙ not-true _ c.before.if3.true)) c.refused2.ensures
+returns-then-not-fits : tie.Need-returns-then-not-fits
+returns-then-not-fits c = let s = c.before.before.before.before.before.before.before.before.before.before.before.before.before.before.before.before.before.before in fills_short s.args.out.now (good c.before.before.before.before.before.before.before.before.before.before) (leb-false (length (list_bytes (list_of (tables s)))) (length s.args.out.now) (sym c.before.before.fits2.ensures ∙ c.before.if-not-fits.true)) c.refused-then-not-fits.ensures
 
 fill-requires : tie.Need-fill-requires
-fill-requires c κs = (five c.before.before.before.before.before.before.before.before.before.before, (serves c.before.before.before, (c.before.before.before.before.before.before.before.before.before.seek.ensures.0, leb-true _ _ (sym c.before.before.fits2.ensures ∙ not-false _ c.before.if3.false))))
+fill-requires c κs = (five c.before.before.before.before.before.before.before.before.before.before, (serves c.before.before.before, (c.before.before.before.before.before.before.before.before.before.seek-start.ensures.0, leb-true _ _ (sym c.before.before.fits2.ensures ∙ c.before.if-not-fits.false))))
 
-returns-4 : tie.Need-returns-4
-returns-4 c =
+returns : tie.Need-returns
+returns c =
     let s = c.before.before.before.before.before.before.before.before.before.before.before.before.before.before.before.before.before.before.before.before.before in
     let f = c.before.before.fill.ensures in
-    fills_given s.args.out.now (good c.before.before.before.before.before.before.before.before.before.before.before.before.before) (leb-true _ _ (sym c.before.before.before.before.before.fits2.ensures ∙ not-false _ c.before.before.before.before.if3.false)) f.0 f.1
+    fills_given s.args.out.now (good c.before.before.before.before.before.before.before.before.before.before.before.before.before) (leb-true _ _ (sym c.before.before.before.before.before.fits2.ensures ∙ c.before.before.before.before.if-not-fits.false)) f.0 f.1
 
 pub request_list_spec : {M : Type 1} → statement M
 request_list_spec =
@@ -78,16 +78,16 @@ request_list_spec =
     (tie.spec
     (λ c κs. search rules)
     (λ c κs. search rules)
-    returns
-    seek-requires
-    returns-2
+    returns-then-not-all_good
+    seek-start-requires
+    returns-then-start
     (λ c. search rules)
-    build-requires
+    build-built-requires
     (λ c. search rules)
     (λ c κs. search rules)
     fits-requires
     (λ c κs. search rules)
-    returns-3
+    returns-then-not-fits
     fill-requires
     (λ c. search rules)
-    returns-4)
+    returns)

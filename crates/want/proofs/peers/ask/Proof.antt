@@ -12,105 +12,105 @@ use Rattle.want.proofs.PeerLaws.{mark_here, along_turn, told_here}
 use Rattle.want.proofs.peers.ask.Statement.{statement}
 use Rattle.want.proofs.peers.ask.Tie as tie
 
-abbrev invariant-loop : tie.invariant-loop
+abbrev invariant-loop : tie.invariant-loop-k
 invariant-loop t1 js₀ froms₀ offset size hash tables runs k₀ js froms k =
     Asking (λ (i : ℕ). has_run (table_at (map (λ x. x.now) t1) i) (run_at runs i) offset (block_with size hash)) k × Along (map (λ x. x.now) t1) runs js froms offset
 
-abbrev decreases-loop : tie.decreases-loop
+abbrev decreases-loop : tie.decreases-loop-k
 decreases-loop t1 js₀ froms₀ offset size hash tables runs k₀ js froms k = 5 - k
 
-loop-holds : tie.Need-loop-init invariant-loop decreases-loop
+loop-holds : tie.Need-loop-k-init invariant-loop decreases-loop
 loop-holds c = (asking_starts _, c.before.before.before.requires)
 
-mul-run : tie.Need-overflow-mul-run invariant-loop decreases-loop
-mul-run c = omega (arith, c.loop-test.true)
+offset_bounds-runs-k : tie.Need-offset_bounds-runs-k invariant-loop decreases-loop
+offset_bounds-runs-k c = omega (arith, c.loop-k-test.true)
 
-array-copy-out-run : tie.Need-array-copy-out-run invariant-loop decreases-loop
-array-copy-out-run c = omega (arith, c.loop-test.true)
+bounds-runs-k : tie.Need-bounds-runs-k invariant-loop decreases-loop
+bounds-runs-k c = omega (arith, c.loop-k-test.true)
 
-mul-t15 : tie.Need-overflow-mul-t15 invariant-loop decreases-loop
-mul-t15 c = omega (arith, c.before.loop-test.true)
+offset_bounds-js-k : tie.Need-offset_bounds-js-k invariant-loop decreases-loop
+offset_bounds-js-k c = omega (arith, c.before.loop-k-test.true)
 
-slice-read-t20 : tie.Need-slice-read-t20 invariant-loop decreases-loop
-slice-read-t20 c = omega (arith, c.before.before.loop-test.true, c.before.before.before.loop.invariant.1.many)
+bounds-js-k : tie.Need-bounds-js-k invariant-loop decreases-loop
+bounds-js-k c = omega (arith, c.before.before.loop-k-test.true, c.before.before.before.loop-k.invariant.1.many)
 
-mul-t21 : tie.Need-overflow-mul-t21 invariant-loop decreases-loop
-mul-t21 c = omega (arith, c.before.before.loop-test.true)
+offset_bounds-froms-k : tie.Need-offset_bounds-froms-k invariant-loop decreases-loop
+offset_bounds-froms-k c = omega (arith, c.before.before.loop-k-test.true)
 
-slice-read-t23 : tie.Need-slice-read-t23 invariant-loop decreases-loop
-slice-read-t23 c = omega (arith, c.before.before.before.loop-test.true, c.before.before.before.before.loop.invariant.1.as_many)
+bounds-froms-k : tie.Need-bounds-froms-k invariant-loop decreases-loop
+bounds-froms-k c = omega (arith, c.before.before.before.loop-k-test.true, c.before.before.before.before.loop-k.invariant.1.as_many)
 
-mul-forward : tie.Need-overflow-mul-forward invariant-loop decreases-loop
-mul-forward c = omega (arith, c.before.before.before.loop-test.true)
+offset_bounds-tables-k : tie.Need-offset_bounds-tables-k invariant-loop decreases-loop
+offset_bounds-tables-k c = omega (arith, c.before.before.before.loop-k-test.true)
 
-array-copy-out-forward : tie.Need-array-copy-out-forward invariant-loop decreases-loop
-array-copy-out-forward c = omega (arith, c.before.before.before.loop-test.true)
+bounds-tables-k : tie.Need-bounds-tables-k invariant-loop decreases-loop
+bounds-tables-k c = omega (arith, c.before.before.before.loop-k-test.true)
 
-forward-requires : tie.Need-forward-requires invariant-loop decreases-loop
-forward-requires c κs = mark_here c.before.before.before.before.before.loop.invariant.1 c.before.before.before.before.loop-test.true (element (λ x. x.now) c.before.before.before.before.before.before.before.before.before.args.t1 _ _ refl)
+forward-next-requires : tie.Need-forward-next-requires invariant-loop decreases-loop
+forward-next-requires c κs = mark_here c.before.before.before.before.before.loop-k.invariant.1 c.before.before.before.before.loop-k-test.true (element (λ x. x.now) c.before.before.before.before.before.before.before.before.before.args.t1 _ _ refl)
 
-mul-js : tie.Need-overflow-mul-js invariant-loop decreases-loop
-mul-js c = omega (arith, c.before.before.before.before.before.loop-test.true)
+offset_bounds-js-k-in-loop-k : tie.Need-offset_bounds-js-k-in-loop-k invariant-loop decreases-loop
+offset_bounds-js-k-in-loop-k c = omega (arith, c.before.before.before.before.before.loop-k-test.true)
 
-slice-write-js : tie.Need-slice-write-js invariant-loop decreases-loop
-slice-write-js c = omega (arith, c.before.before.before.before.before.loop-test.true, c.before.before.before.before.before.before.loop.invariant.1.many)
+bounds-js-k-in-loop-k : tie.Need-bounds-js-k-in-loop-k invariant-loop decreases-loop
+bounds-js-k-in-loop-k c = omega (arith, c.before.before.before.before.before.loop-k-test.true, c.before.before.before.before.before.before.loop-k.invariant.1.many)
 
-mul-froms : tie.Need-overflow-mul-froms invariant-loop decreases-loop
-mul-froms c = omega (arith, c.before.before.before.before.before.loop-test.true)
+offset_bounds-froms-k-in-loop-k : tie.Need-offset_bounds-froms-k-in-loop-k invariant-loop decreases-loop
+offset_bounds-froms-k-in-loop-k c = omega (arith, c.before.before.before.before.before.loop-k-test.true)
 
-slice-write-froms : tie.Need-slice-write-froms invariant-loop decreases-loop
-slice-write-froms c = omega (arith, c.before.before.before.before.before.loop-test.true, c.before.before.before.before.before.before.loop.invariant.1.as_many)
+bounds-froms-k-in-loop-k : tie.Need-bounds-froms-k-in-loop-k invariant-loop decreases-loop
+bounds-froms-k-in-loop-k c = omega (arith, c.before.before.before.before.before.loop-k-test.true, c.before.before.before.before.before.before.loop-k.invariant.1.as_many)
 
-mul-has-there : tie.Need-overflow-mul-has-there invariant-loop decreases-loop
-mul-has-there c = omega (arith, c.before.before.before.before.before.loop-test.true)
+offset_bounds-tables-k-in-loop-k : tie.Need-offset_bounds-tables-k-in-loop-k invariant-loop decreases-loop
+offset_bounds-tables-k-in-loop-k c = omega (arith, c.before.before.before.before.before.loop-k-test.true)
 
-array-copy-out-has-there : tie.Need-array-copy-out-has-there invariant-loop decreases-loop
-array-copy-out-has-there c = omega (arith, c.before.before.before.before.before.loop-test.true)
+bounds-tables-k-in-loop-k : tie.Need-bounds-tables-k-in-loop-k invariant-loop decreases-loop
+bounds-tables-k-in-loop-k c = omega (arith, c.before.before.before.before.before.loop-k-test.true)
 
-has-there-requires : tie.Need-has-there-requires invariant-loop decreases-loop
-has-there-requires c κs = c.before.forward.ensures.within
+has_there-requires : tie.Need-has_there-requires invariant-loop decreases-loop
+has_there-requires c κs = c.before.forward-next.ensures.within
 
-cast-result : tie.Need-overflow-cast-result invariant-loop decreases-loop
-cast-result c = omega (arith, c.before.before.before.before.before.before.before.before.loop-test.true)
+overflow_cast-result : tie.Need-overflow_cast-result invariant-loop decreases-loop
+overflow_cast-result c = omega (arith, c.before.before.before.before.before.before.before.before.loop-k-test.true)
 
-same_length : tie.Need-same-length invariant-loop decreases-loop
-same_length c = length-set c.before.before.before.before.before.before.before.before.before.loop.js _ _ ∙ c.before.before.before.before.before.before.before.before.before.loop.invariant.1.many ∙ sym c.before.before.before.before.before.before.before.before.before.before.before.before.before.requires.many
+shape_of-js-then-has_there : tie.Need-shape_of-js-then-has_there invariant-loop decreases-loop
+shape_of-js-then-has_there c = length-set c.before.before.before.before.before.before.before.before.before.loop-k.js _ _ ∙ c.before.before.before.before.before.before.before.before.before.loop-k.invariant.1.many ∙ sym c.before.before.before.before.before.before.before.before.before.before.before.before.before.requires.many
 
-same-length-2 : tie.Need-same-length-2 invariant-loop decreases-loop
-same-length-2 c = length-set c.before.before.before.before.before.before.before.before.before.loop.froms _ _ ∙ c.before.before.before.before.before.before.before.before.before.loop.invariant.1.as_many ∙ sym c.before.before.before.before.before.before.before.before.before.before.before.before.before.requires.as_many
+shape_of-froms-then-has_there : tie.Need-shape_of-froms-then-has_there invariant-loop decreases-loop
+shape_of-froms-then-has_there c = length-set c.before.before.before.before.before.before.before.before.before.loop-k.froms _ _ ∙ c.before.before.before.before.before.before.before.before.before.loop-k.invariant.1.as_many ∙ sym c.before.before.before.before.before.before.before.before.before.before.before.before.before.requires.as_many
 
-returns : tie.Need-returns invariant-loop decreases-loop
-returns c =
+returns-then-has_there : tie.Need-returns-then-has_there invariant-loop decreases-loop
+returns-then-has_there c =
     let l = c.before.before.before.before.before.before.before.before.before in
     let s = c.before.before.before.before.before.before.before.before.before.before.before.before.before.args in
-    let h = c.before.before.before.before.before.before.before.before.loop-test.true in
-    let e = element (λ x. x.now) s.t1 l.loop.k _ refl in
-    let m = c.before.before.before.forward.ensures in
-    (asking_found l.loop.invariant.0 h (told_here l.loop.invariant.1 h e m (block_with s.size s.hash.now) c.before.Has-there.ensures c.if1.true), along_turn l.loop.invariant.1 h e m)
+    let h = c.before.before.before.before.before.before.before.before.loop-k-test.true in
+    let e = element (λ x. x.now) s.t1 l.loop-k.k _ refl in
+    let m = c.before.before.before.forward-next.ensures in
+    (asking_found l.loop-k.invariant.0 h (told_here l.loop-k.invariant.1 h e m (block_with s.size s.hash.now) c.before.has_there.ensures c.if-has_there.true), along_turn l.loop-k.invariant.1 h e m)
 
-add-k : tie.Need-overflow-add-k invariant-loop decreases-loop
-add-k c = omega (arith, c.before.before.before.before.before.before.before.before.loop-test.true)
+overflow_add-k : tie.Need-overflow_add-k invariant-loop decreases-loop
+overflow_add-k c = omega (arith, c.before.before.before.before.before.before.before.before.loop-k-test.true)
 
-loop-less : tie.Need-loop-smaller invariant-loop decreases-loop
-loop-less c = omega (arith, c.before.before.before.before.before.before.before.before.loop-test.true)
+loop-less : tie.Need-loop-k-smaller invariant-loop decreases-loop
+loop-less c = omega (arith, c.before.before.before.before.before.before.before.before.loop-k-test.true)
 
-loop-again : tie.Need-loop-preserved invariant-loop decreases-loop
+loop-again : tie.Need-loop-k-preserved invariant-loop decreases-loop
 loop-again c =
     let l = c.before.before.before.before.before.before.before.before.before in
     let s = c.before.before.before.before.before.before.before.before.before.before.before.before.before.args in
-    let h = c.before.before.before.before.before.before.before.before.loop-test.true in
-    let e = element (λ x. x.now) s.t1 l.loop.k _ refl in
-    let m = c.before.before.before.forward.ensures in
-    (asking_goes_on l.loop.invariant.0 h (told_here l.loop.invariant.1 h e m (block_with s.size s.hash.now) c.before.Has-there.ensures c.if1.false), along_turn l.loop.invariant.1 h e m)
+    let h = c.before.before.before.before.before.before.before.before.loop-k-test.true in
+    let e = element (λ x. x.now) s.t1 l.loop-k.k _ refl in
+    let m = c.before.before.before.forward-next.ensures in
+    (asking_goes_on l.loop-k.invariant.0 h (told_here l.loop-k.invariant.1 h e m (block_with s.size s.hash.now) c.before.has_there.ensures c.if-has_there.false), along_turn l.loop-k.invariant.1 h e m)
 
-same-length-3 : tie.Need-same-length-3 invariant-loop decreases-loop
-same-length-3 c = c.before.loop.invariant.1.many ∙ sym c.before.before.before.before.before.requires.many
+shape_of-js : tie.Need-shape_of-js invariant-loop decreases-loop
+shape_of-js c = c.before.loop-k.invariant.1.many ∙ sym c.before.before.before.before.before.requires.many
 
-same-length-4 : tie.Need-same-length-4 invariant-loop decreases-loop
-same-length-4 c = c.before.loop.invariant.1.as_many ∙ sym c.before.before.before.before.before.requires.as_many
+shape_of-froms : tie.Need-shape_of-froms invariant-loop decreases-loop
+shape_of-froms c = c.before.loop-k.invariant.1.as_many ∙ sym c.before.before.before.before.before.requires.as_many
 
-returns-2 : tie.Need-returns-2 invariant-loop decreases-loop
-returns-2 c = (asking_ends c.before.loop.invariant.0 c.loop-test.false, c.before.loop.invariant.1)
+returns : tie.Need-returns invariant-loop decreases-loop
+returns c = (asking_ends c.before.loop-k.invariant.0 c.loop-k-test.false, c.before.loop-k.invariant.1)
 
 pub ask_spec : {M : Type 1} → statement M
 ask_spec =
@@ -119,29 +119,29 @@ ask_spec =
     invariant-loop
     decreases-loop
     loop-holds
-    mul-run
-    array-copy-out-run
-    mul-t15
-    slice-read-t20
-    mul-t21
-    slice-read-t23
-    mul-forward
-    array-copy-out-forward
-    forward-requires
-    mul-js
-    slice-write-js
-    mul-froms
-    slice-write-froms
-    mul-has-there
-    array-copy-out-has-there
-    has-there-requires
-    cast-result
-    same_length
-    same-length-2
-    returns
-    add-k
+    offset_bounds-runs-k
+    bounds-runs-k
+    offset_bounds-js-k
+    bounds-js-k
+    offset_bounds-froms-k
+    bounds-froms-k
+    offset_bounds-tables-k
+    bounds-tables-k
+    forward-next-requires
+    offset_bounds-js-k-in-loop-k
+    bounds-js-k-in-loop-k
+    offset_bounds-froms-k-in-loop-k
+    bounds-froms-k-in-loop-k
+    offset_bounds-tables-k-in-loop-k
+    bounds-tables-k-in-loop-k
+    has_there-requires
+    overflow_cast-result
+    shape_of-js-then-has_there
+    shape_of-froms-then-has_there
+    returns-then-has_there
+    overflow_add-k
     loop-less
     loop-again
-    same-length-3
-    same-length-4
-    returns-2)
+    shape_of-js
+    shape_of-froms
+    returns)

@@ -6,23 +6,23 @@ use borrow.Author.Rules.{rules}
 use Rattle.want.proofs.peers.run_at.Statement.{statement}
 use Rattle.want.proofs.peers.run_at.Tie as tie
 
+returns-then-at-past : tie.Need-returns-then-at-past
+returns-then-at-past c = let s = c.before.before.args in run_none s.t.now s.at s.past c.if-at-past.true
+
+returns-in_default : tie.Need-returns-in_default
+returns-in_default c = let s = c.before.before.before.before.args in run_by_lem s.t.now s.at s.past c.before.before.if-at-past.false c.before.outline_at.ensures c.in_default.is
+
 returns : tie.Need-returns
-returns c = let s = c.before.before.args in run_none s.t.now s.at s.past c.if1.true
-
-returns-2 : tie.Need-returns-2
-returns-2 c = let s = c.before.before.before.before.before.args in run_by_lem s.t.now s.at s.past c.before.before.before.if1.false c.before.before.outline-at.ensures c.enum_told.given.1
-
-returns-3 : tie.Need-returns-3
-returns-3 c = let s = c.before.before.before.before.before.before.before.args in let f = c.before.before.f in ap (run_of f.given.0.0.first) c.listed.ensures ∙ run_by_lem s.t.now s.at s.past c.before.before.before.before.before.if1.false c.before.before.before.before.outline-at.ensures f.given.1
+returns c = let s = c.before.before.before.before.before.args in let f = c.before.before.f in ap (run_of f.given.0.0.first) c.listed-count.ensures ∙ run_by_lem s.t.now s.at s.past c.before.before.before.if-at-past.false c.before.before.outline_at.ensures f.given.1
 
 pub run_at_spec : {M : Type 1} → statement M
 run_at_spec =
     tie.close
     (tie.spec
-    returns
+    returns-then-at-past
     (λ c κs. search rules)
     (λ c. search rules)
     (λ c. search rules)
-    returns-2
+    returns-in_default
     (λ c κs. search rules)
-    returns-3)
+    returns)

@@ -7,14 +7,14 @@ use borrow.Author.Rules.{rules}
 use Rattle.want.proofs.search.find_local.Statement.{statement}
 use Rattle.want.proofs.search.find_local.Tie as tie
 
-returns : tie.Need-returns
-returns c = let s = c.before.before.before.before.args in found_bad s.table.now (block_with s.size s.hash.now) (sym c.before.is-good.ensures ∙ not-true _ c.if1.true)
+returns-then-not-is_good : tie.Need-returns-then-not-is_good
+returns-then-not-is_good c = let s = c.before.before.before.before.args in found_bad s.table.now (block_with s.size s.hash.now) (sym c.before.is_good.ensures ∙ c.if-not-is_good.true)
 
 search-requires : tie.Need-search-requires
-search-requires c κs = sym c.before.is-good.ensures ∙ not-false _ c.if1.false
+search-requires c κs = sym c.before.is_good.ensures ∙ c.if-not-is_good.false
 
-returns-2 : tie.Need-returns-2
-returns-2 c = let s = c.before.before.before.before.before.args in found_good s.table.now (block_with s.size s.hash.now) (sym c.before.before.is-good.ensures ∙ not-false _ c.before.if1.false) c.search.ensures
+returns : tie.Need-returns
+returns c = let s = c.before.before.before.before.before.args in found_good s.table.now (block_with s.size s.hash.now) (sym c.before.before.is_good.ensures ∙ c.before.if-not-is_good.false) c.search.ensures
 
 pub find_local_spec : {M : Type 1} → statement M
-find_local_spec = tie.close (tie.spec (λ c κs. search rules) returns search-requires returns-2)
+find_local_spec = tie.close (tie.spec (λ c κs. search rules) returns-then-not-is_good search-requires returns)

@@ -5,11 +5,11 @@ use borrow.Author.Rules.{rules}
 use Rattle.want.proofs.turn.sought.Statement.{statement}
 use Rattle.want.proofs.turn.sought.Tie as tie
 
-returns : tie.Need-returns
-returns c = rw (eq-eqb _ _ c.if1.true) refl
+returns-then-best-eq0 : tie.Need-returns-then-best-eq0
+returns-then-best-eq0 c = rw (eq-eqb _ _ c.if-best-eq0.true) refl
 
-returns-2 : tie.Need-returns-2
-returns-2 c = rw (ne_eqb _ _ c.before.if1.false) c.listed.ensures
+returns : tie.Need-returns
+returns c = rw (ne_eqb _ _ c.before.if-best-eq0.false) c.listed.ensures
 
 pub sought_spec : {M : Type 1} → statement M
-sought_spec = tie.close (tie.spec returns (λ c κs. search rules) returns-2)
+sought_spec = tie.close (tie.spec returns-then-best-eq0 (λ c κs. search rules) returns)

@@ -7,11 +7,11 @@ use borrow.Author.Rules.{rules}
 use Rattle.want.proofs.turn.turn_of.Statement.{statement}
 use Rattle.want.proofs.turn.turn_of.Tie as tie
 
-returns : tie.Need-returns
-returns c = ap (turn_of c.before.before.args.best) (sym c.enum_told.given.1)
+returns-in_default : tie.Need-returns-in_default
+returns-in_default c = ap (turn_of c.before.args.best) (sym c.in_default.is)
 
-returns-2 : tie.Need-returns-2
-returns-2 c = ap (λ (n : ℕ). record { first = c.before.before.fields.given.0.0.first; count = n; ended = false }) c.sought.ensures ∙ ap (turn_of c.before.before.before.before.args.best) (sym c.before.before.fields.given.1)
+returns : tie.Need-returns
+returns c = ap (λ (n : ℕ). record { first = c.before.in-Whole.f.first; count = n; ended = false }) c.sought-count.ensures ∙ ap (turn_of c.before.before.args.best) (sym c.before.in-Whole.is)
 
 pub turn_of_spec : {M : Type 1} → statement M
 turn_of_spec =
@@ -19,6 +19,6 @@ turn_of_spec =
     (tie.spec
     (λ c. search rules)
     (λ c. search rules)
-    returns
+    returns-in_default
     (λ c κs. search rules)
-    returns-2)
+    returns)

@@ -4,7 +4,7 @@ use Rattle.feed.proofs.state.Feed.open.Statement.{statement}
 use Rattle.feed.proofs.state.Feed.open.Tie as tie
 
 returns : tie.Need-returns
-returns c = simp c.at-goal.ensures
+returns c = simp c.at_goal.ensures
 
 pub open_spec : {M : Type 1} → statement M
 open_spec = tie.close (tie.spec (λ c κs. search rules) returns)

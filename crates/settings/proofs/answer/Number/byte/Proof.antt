@@ -6,13 +6,13 @@ use borrow.Author.Rules.{rules}
 use Rattle.settings.proofs.answer.Number.byte.Statement.{statement}
 use Rattle.settings.proofs.answer.Number.byte.Tie as tie
 
-returns-2 : tie.Need-returns-2
-returns-2 c = byte_held _ c.if1.true ∙ ap byte_of (sym c.before.before.self.given.1)
+returns-then-n-le255 : tie.Need-returns-then-n-le255
+returns-then-n-le255 c = byte_held _ c.if-n-le255.true ∙ ap byte_of (sym c.before.in-There.is)
 
-returns-3 : tie.Need-returns-3
-returns-3 c = byte_none _ c.if1.false ∙ ap byte_of (sym c.before.before.self.given.1)
+returns-else-n-le255 : tie.Need-returns-else-n-le255
+returns-else-n-le255 c = byte_none _ c.if-n-le255.false ∙ ap byte_of (sym c.before.in-There.is)
 
 pub byte_spec : {M : Type 1} → statement M
 byte_spec =
     tie.close
-    (tie.spec (λ c. search rules) (λ c. search rules) (λ c. search rules) (λ c. search rules) returns-2 returns-3)
+    (tie.spec (λ c. search rules) (λ c. search rules) (λ c. search rules) (λ c. search rules) returns-then-n-le255 returns-else-n-le255)

@@ -5,13 +5,13 @@ use borrow.Author.Rules.{rules}
 use Rattle.settings.proofs.answer.Number.word.Statement.{statement}
 use Rattle.settings.proofs.answer.Number.word.Tie as tie
 
-returns : tie.Need-returns
-returns c = c.four_bytes.ensures ∙ ap word_of (sym c.before.enum_told.given.1)
+returns-in-Absent : tie.Need-returns-in-Absent
+returns-in-Absent c = c.four_bytes.ensures ∙ ap word_of (sym c.before.in-Absent.is)
 
-returns-2 : tie.Need-returns-2
-returns-2 c = c.four-bytes2.ensures ∙ ap word_of (sym c.before.before.self.given.1)
+returns-in-There : tie.Need-returns-in-There
+returns-in-There c = c.four_bytes-in-There.ensures ∙ ap word_of (sym c.before.in-There.is)
 
 pub word_spec : {M : Type 1} → statement M
 word_spec =
     tie.close
-    (tie.spec (λ c. search rules) (λ c κs. search rules) (λ c. search rules) (λ c κs. search rules) returns returns-2)
+    (tie.spec (λ c. search rules) (λ c κs. search rules) (λ c. search rules) (λ c κs. search rules) returns-in-Absent returns-in-There)

@@ -31,22 +31,22 @@ returns-then-s-room c =
     ∙ ap (λ (l : List ℕ). kept h.state (l ++ s) (h.size + length s)) (held_pending h at.result (long start) at.ensures)
 
 slice_bounds-laid-end-2 : tie.Need-slice_bounds-laid-end-2
-slice_bounds-laid-end-2 c = sym (length-take-le (64 - c.before.before.before.before.before.place.result) c.before.before.before.before.before.before.before.args.s.now (omega arith))
+slice_bounds-laid-end-2 c = sym (length-take-le (64 - c.before.before.before.before.place-held.result) c.before.before.before.before.before.before.args.s.now (omega arith))
 
 laid-block-requires : tie.Need-laid-block-requires
-laid-block-requires c κs = omega (arith, length-take-le (64 - c.before.before.before.before.before.place.result) c.before.before.before.before.before.before.before.args.s.now (omega arith))
+laid-block-requires c κs = omega (arith, length-take-le (64 - c.before.before.before.before.place-held.result) c.before.before.before.before.before.before.args.s.now (omega arith))
 
 returns : tie.Need-returns
 unfolding continued
 returns c =
-    let start = c.before.before.before.before.before.before.before.before.before.before.before.before.before.before in
+    let start = c.before.before.before.before.before.before.before.before.before.before.before.before.before in
     let h = start.args.self in
     let s = start.args.s.now in
-    let at = c.before.before.before.before.before.before.before.before.before.before.before.before.place in
+    let at = c.before.before.before.before.before.before.before.before.before.before.before.place-held in
     let room = 64 - at.result in
     let past = room + (length s - room) / 64 * 64 in
-    updated_long (take at.result h.tail) s h.state (h.size + length s) c.before.before.before.before.before.before.before.before.before.before.before.wrapping-add-u64.result at.result
-    (held_long h at.result (long start) at.ensures) (omega arith) c.before.before.before.before.before.before.before.before.before.before.before.wrapping-add-u64.ensures
+    updated_long (take at.result h.tail) s h.state (h.size + length s) c.before.before.before.before.before.before.before.before.before.before.wrapping_add_u64-size.result at.result
+    (held_long h at.result (long start) at.ensures) (omega arith) c.before.before.before.before.before.before.before.before.before.before.wrapping_add_u64-size.ensures
     h.tail (long start) refl (omega arith) c.before.before.before.before.before.before.laid-block.result (take (length s - room) (drop room s)) (take (length s - past) (drop past s)) c.laid-left.result c.before.before.before.before.hashed-first.result c.before.before.hashed-last.result
     c.before.before.before.before.before.before.laid-block.ensures c.before.before.before.before.hashed-first.ensures (to_end s room) c.before.before.hashed-last.ensures (to_end s past) c.laid-left.ensures
     ∙ ap (λ (l : List ℕ). kept h.state (l ++ s) (h.size + length s)) (held_pending h at.result (long start) at.ensures)
