@@ -28,7 +28,7 @@ slice_bounds-fill-end c = omega (arith, (ordered c).0)
 fill-requires : tie.Need-fill-requires
 fill-requires c κs =
     let same : c.before.before.in-Sorted.n ≡ c.before.before.in-Sorted.n - 0 = omega arith in
-    (subst (λ (n : ℕ). SortedPlaces c.before.before.before.before.before.before.before.before.before.before.before.before.args.s.now (take n c.before.before.before.before.before.sort.new.1.0)) same (ordered c.before.before).1, c.before.before.before.before.before.before.before.before.before.before.before.before.requires.1)
+    (subst (λ (n : ℕ). SortedPlaces c.before.before.before.before.before.before.before.before.before.args.s.now (take n c.before.before.before.before.sort.new.places)) same (ordered c.before.before).1, c.before.before.before.before.before.before.before.before.before.requires.1)
 
 returns-in-Repeated : tie.Need-returns-in-Repeated
 returns-in-Repeated c =
@@ -37,7 +37,7 @@ returns-in-Repeated c =
 
 returns-in-Sorted : tie.Need-returns-in-Sorted
 returns-in-Sorted c =
-    let a = c.before.before.before.before.before.before.before.before.before.before.before.before.before.before.before.args in
+    let a = c.before.before.before.before.before.before.before.before.before.before.before.before.args in
     fills_same a.out.now ((ordered c.before.before.before.before.before).1.unrefused a.start (resulting_table (result_of a.update a.s.now a.old.now))) c.before.before.fill.ensures
 
 pub accept_list_spec : {M : Type 1} → statement M

@@ -6,9 +6,9 @@ use Rattle.accept.proofs.accepting.fill.Tie as tie
 
 returns : tie.Need-returns
 returns c =
-    let s = c.before.before.before.before.before.before.before.before.before.before.before.before.before.args in
-    let n = c.before.before.before.before.before.before.before.note-records in
-    table_put s.s.now s.old.now n.new.1.1.1.1.0 n.result s.out.now n.ensures c.before.before.put_table.ensures
+    let s = c.before.before.before.before.before.before.before.before.before.before.before.before.args in
+    let n = c.before.before.before.before.before.before.note_records-size in
+    table_put s.s.now s.old.now n.new.notes n.result s.out.now n.ensures c.before.before.put_table.ensures
 
 pub fill_spec : {M : Type 1} → statement M
 fill_spec =

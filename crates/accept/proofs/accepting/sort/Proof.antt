@@ -26,10 +26,10 @@ few : (c : tie.In-Whole invariant-loop decreases-loop) → c.before.before.loop-
 few c = sorting_few c.before.before.before.before.before.requires.0 c.before.before.loop-f.invariant.0 c.before.outline_at.ensures c.in-Whole.is
 
 -- its slot is behind at most all of them
-slot : (c : tie.In-Free invariant-loop decreases-loop) → c.in-Free.j ≤ c.before.before.before.before.before.before.loop.n
+slot : (c : tie.In-Free invariant-loop decreases-loop) → c.in-Free.j ≤ c.before.before.before.before.before.loop-f.n
 slot c =
-    let l = c.before.before.before.before.before.before.loop in
-    let k = sorting_slot c.before.before.before.before.before.before.before.before.before.before.before.before.before.requires.0 l.invariant.0 c.before.before.before.before.before.outline-at.ensures c.before.before.before.in-Whole.is (lent l.places l.n) c.before.slot_of.ensures c.in-Free.is in
+    let l = c.before.before.before.before.before.loop-f in
+    let k = sorting_slot c.before.before.before.before.before.before.before.before.requires.0 l.invariant.0 c.before.before.before.before.outline_at.ensures c.before.before.before.in-Whole.is (lent l.places l.n) c.before.slot_of.ensures c.in-Free.is in
     omega (arith, k, ap length (lent l.places l.n), length-take-le l.n l.places (omega (arith, l.invariant.1, few c.before.before.before)))
 
 loop-holds : tie.Need-loop-f-init invariant-loop decreases-loop
@@ -45,13 +45,13 @@ slice_bounds-slot_of-start : tie.Need-slice_bounds-slot_of-start invariant-loop 
 slice_bounds-slot_of-start c = omega arith
 
 slice_bounds-slot_of-end : tie.Need-slice_bounds-slot_of-end invariant-loop decreases-loop
-slice_bounds-slot_of-end c = omega (arith, c.before.before.before.loop.invariant.1)
+slice_bounds-slot_of-end c = omega (arith, c.before.before.loop-f.invariant.1)
 
 shape_of-places-in_default-slot_of : tie.Need-shape_of-places-in_default-slot_of invariant-loop decreases-loop
-shape_of-places-in_default-slot_of c = c.before.before.before.before.before.before.loop.invariant.1.1 ∙ sym c.before.before.before.before.before.before.before.before.before.before.before.before.requires.1
+shape_of-places-in_default-slot_of c = c.before.before.before.before.before.loop-f.invariant.1.1 ∙ sym c.before.before.before.before.before.before.before.before.requires.1
 
 returns-in_default-slot_of : tie.Need-returns-in_default-slot_of invariant-loop decreases-loop
-returns-in_default-slot_of c = let l = c.before.before.before.before.before.before.loop in sorting_repeated c.before.before.before.before.before.before.before.before.before.before.before.before.requires.0 l.invariant.0 c.before.before.before.before.before.outline-at.ensures c.before.before.before.in-Whole.is (lent l.places l.n) c.before.slot_of.ensures c.in_default-slot_of.is
+returns-in_default-slot_of c = let l = c.before.before.before.before.before.loop-f in sorting_repeated c.before.before.before.before.before.before.before.before.requires.0 l.invariant.0 c.before.before.before.before.outline_at.ensures c.before.before.before.in-Whole.is (lent l.places l.n) c.before.slot_of.ensures c.in_default-slot_of.is
 
 overflow_add-n : tie.Need-overflow_add-n invariant-loop decreases-loop
 overflow_add-n c = omega (arith, few c.before.before.before)
@@ -63,26 +63,26 @@ slice_bounds-insert_at-start : tie.Need-slice_bounds-insert_at-start invariant-l
 slice_bounds-insert_at-start c = omega arith
 
 slice_bounds-insert_at-end : tie.Need-slice_bounds-insert_at-end invariant-loop decreases-loop
-slice_bounds-insert_at-end c = omega (arith, few c.before.before.before, c.before.before.before.before.before.before.loop.invariant.1)
+slice_bounds-insert_at-end c = omega (arith, few c.before.before.before, c.before.before.before.before.before.loop-f.invariant.1)
 
 insert_at-requires : tie.Need-insert_at-requires invariant-loop decreases-loop
 insert_at-requires c κs =
-    let l = c.before.before.before.before.before.before.before.loop in
+    let l = c.before.before.before.before.before.before.loop-f in
     omega (arith, slot c.before, ap length (lent l.places (l.n + 1)), length-take-le (l.n + 1) l.places (omega (arith, few c.before.before.before.before, l.invariant.1)))
 
-overflow_add-n-in-loop-f : tie.Need-overflow_add-n invariant-loop decreases-loop
-overflow_add-n-in-loop-f c = omega (arith, few c.before.before.before.before.before.before)
+overflow_add-n-in-loop-f : tie.Need-overflow_add-n-in-loop-f invariant-loop decreases-loop
+overflow_add-n-in-loop-f c = omega (arith, few c.before.before.before.before.before.before.before)
 
 loop-less : tie.Need-loop-f-smaller invariant-loop decreases-loop
-loop-less c = omega (arith, sorting_grows c.before.before.before.before.before.before.before.before.before.before.before.before.before.before.before.before.before.requires.0 c.before.before.before.before.before.before.before.before.before.before.loop.invariant.0 c.before.before.before.before.before.before.before.before.before.outline-at.ensures c.before.before.before.before.before.before.before.in-Whole.is)
+loop-less c = omega (arith, sorting_grows c.before.before.before.before.before.before.before.before.before.before.before.before.requires.0 c.before.before.before.before.before.before.before.before.before.loop-f.invariant.0 c.before.before.before.before.before.before.before.before.outline_at.ensures c.before.before.before.before.before.before.before.in-Whole.is)
 
 loop-again : tie.Need-loop-f-preserved invariant-loop decreases-loop
 loop-again c =
-    let l = c.before.before.before.before.before.before.before.before.before.before.loop in
+    let l = c.before.before.before.before.before.before.before.before.before.loop-f in
     let j = c.before.before.before.before.in-Free.j in
     let n : l.n < length l.places = omega (arith, few c.before.before.before.before.before.before.before, l.invariant.1) in
     let long = inserted_long l.places l.n j l.at (take (l.n + 1 - 0) l.places) c.before.before.insert_at.new.places n (slot c.before.before.before.before) (lent l.places (l.n + 1)) c.before.before.insert_at.ensures in (
-      sorting_more c.before.before.before.before.before.before.before.before.before.before.before.before.before.before.before.before.before.requires.0 l.invariant.0 c.before.before.before.before.before.before.before.before.before.outline-at.ensures c.before.before.before.before.before.before.before.in-Whole.is (lent l.places l.n) c.before.before.before.before.before.slot_of.ensures c.before.before.before.before.in-Free.is
+      sorting_more c.before.before.before.before.before.before.before.before.before.before.before.before.requires.0 l.invariant.0 c.before.before.before.before.before.before.before.before.outline_at.ensures c.before.before.before.before.before.before.before.in-Whole.is (lent l.places l.n) c.before.before.before.before.before.slot_of.ensures c.before.before.before.before.in-Free.is
           (inserted l.places l.n j l.at (take (l.n + 1 - 0) l.places) c.before.before.insert_at.new.places n (slot c.before.before.before.before) (lent l.places (l.n + 1)) c.before.before.insert_at.ensures (drop (l.n + 1 - 0) l.places)),
       (
         omega (arith, few c.before.before.before.before.before.before.before),

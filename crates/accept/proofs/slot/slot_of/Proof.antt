@@ -44,8 +44,8 @@ returns-then-is_less c = sym (slot_behind _ _ _ (omega (arith, c.before.before.b
 returns-then-is_equal : tie.Need-returns-then-is_equal invariant-loop decreases-loop
 returns-then-is_equal c = sym (slot_repeated _ _ _ (omega (arith, c.before.before.before.before.before.before.before.loop-j-test.true)) (compared c.before.before.before.before) (sym c.before.is_equal.ensures ∙ c.if-is_equal.true)) ∙ asked c.before.before.before.before.before.before.before.before
 
-overflow_sub-j-in-loop-j : tie.Need-overflow_sub-j invariant-loop decreases-loop
-overflow_sub-j-in-loop-j c = omega (arith, c.before.before.before.before.before.before.before.loop-test.true)
+overflow_sub-j-in-loop-j : tie.Need-overflow_sub-j-in-loop-j invariant-loop decreases-loop
+overflow_sub-j-in-loop-j c = omega (arith, c.before.before.before.before.before.before.before.loop-j-test.true)
 
 loop-less : tie.Need-loop-j-smaller invariant-loop decreases-loop
 loop-less c = omega (arith, c.before.before.before.before.before.before.before.loop-j-test.true)

@@ -17,7 +17,7 @@ returns-then-state-ne0-2 : tie.Need-returns-then-state-ne0-2
 returns-then-state-ne0-2 c = sym (ap (λ (g : Goal). fits_test g c.before.before.before.args.state) c.before.before.in-Stopped.is ∙ simp (ne_eqb c.before.before.before.args.state.have 0 c.if-state-ne0-2.true))
 
 returns-in-Word : tie.Need-returns-in-Word
-returns-in-Word c = c.is_IsWord.ensures ∙ ap (λ (g : Goal). fits_test g c.before.before.args.state) (sym c.before.in-Word.is)
+returns-in-Word c = c.is_word.ensures ∙ ap (λ (g : Goal). fits_test g c.before.before.args.state) (sym c.before.in-Word.is)
 
 returns-then-state-le3 : tie.Need-returns-then-state-le3
 returns-then-state-le3 c = sym (ap (λ (g : Goal). fits_test g c.before.before.before.before.args.state) c.before.before.before.in-String.is ∙ ap (λ (x : Bool). cond x (word_test c.before.before.before.before.args.state.have c.before.before.before.before.args.state.value) (inside_test c.before.before.before.in-String.string c.before.before.before.before.args.state)) (le-leb c.before.before.before.before.args.state.have 3 c.before.if-state-le3.true) ∙ sym c.is_word-then-state-le3.ensures)

@@ -8,13 +8,13 @@ use borrow.Author.Rules.{rules}
 use Rattle.feed_lent.proofs.feeding.feed_first.Statement.{statement}
 use Rattle.feed_lent.proofs.feeding.feed_first.Tie as tie
 
-returns-3 : tie.Need-returns-3
-returns-3 c = let a = c.before.before.before.before.before.before.before.before.before.before.before.before.before.args in fed_as refl c.closed.ensures
-    (first_ended a.words.now a.run.now c.before.before.before.before.before.before.before.before.before.before.before.before.before.requires (word_taken c.before.before.before.before.before.before.before.before.before.before.before.read_word.ensures c.before.before.before.before.before.before.before.before.before.header.given.1) (ap (λ (e : Edition). at_once e a.run.now) (sym c.before.before.before.before.before.before.edition-of.ensures) ∙ sym c.before.before.before.before.before.at_once.ensures ∙ c.before.before.before.answer.given.1))
+returns-in-Ended : tie.Need-returns-in-Ended
+returns-in-Ended c = let a = c.before.before.before.before.before.before.before.before.before.args in fed_as refl c.closed.ensures
+    (first_ended a.words.now a.run.now c.before.before.before.before.before.before.before.before.before.requires (word_taken c.before.before.before.before.before.before.before.read_word.ensures c.before.before.before.before.before.before.in-Taken.is) (ap (λ (e : Edition). at_once e a.run.now) (sym c.before.before.before.edition_of.ensures) ∙ sym c.before.before.at_once-answer.ensures ∙ c.before.in-Ended.is))
 
-returns-4 : tie.Need-returns-4
-returns-4 c = let a = c.before.before.before.before.before.before.before.before.before.before.before.before.before.args in fed_as refl c.closed2.ensures
-    (first_refused a.words.now a.run.now c.before.before.before.before.before.before.before.before.before.before.before.before.before.requires (word_taken c.before.before.before.before.before.before.before.before.before.before.before.read_word.ensures c.before.before.before.before.before.before.before.before.before.header.given.1) (ap (λ (e : Edition). at_once e a.run.now) (sym c.before.before.before.before.before.before.edition-of.ensures) ∙ sym c.before.before.before.before.before.at_once.ensures ∙ c.before.before.before.answer2.given.1))
+returns-in-Refused : tie.Need-returns-in-Refused
+returns-in-Refused c = let a = c.before.before.before.before.before.before.before.before.before.args in fed_as refl c.closed-in-Refused.ensures
+    (first_refused a.words.now a.run.now c.before.before.before.before.before.before.before.before.before.requires (word_taken c.before.before.before.before.before.before.before.read_word.ensures c.before.before.before.before.before.before.in-Taken.is) (ap (λ (e : Edition). at_once e a.run.now) (sym c.before.before.before.edition_of.ensures) ∙ sym c.before.before.at_once-answer.ensures ∙ c.before.in-Refused.is))
 
 pub feed_first_spec : {M : Type 1} → statement M
 feed_first_spec =
@@ -35,5 +35,5 @@ feed_first_spec =
     (λ c. search rules)
     (λ c κs. search rules)
     (λ c. search rules)
-    returns-3
-    returns-4)
+    returns-in-Ended
+    returns-in-Refused)

@@ -6,40 +6,40 @@ use borrow.Author.Rules.{rules}
 use Rattle.feed_lent.proofs.feeding.feed_on.Statement.{statement}
 use Rattle.feed_lent.proofs.feeding.feed_on.Tie as tie
 
-cast-passed-over : tie.Need-overflow-cast-passed-over
-cast-passed-over c = let h = c.before.before.is-in-gap.ensures c.before.if1.true in omega (arith, h.few, h.room)
+overflow_cast-len : tie.Need-overflow_cast-len
+overflow_cast-len c = let h = c.before.is_in_gap.ensures c.if-is_in_gap.true in omega (arith, h.few, h.room)
 
-passed-over-requires : tie.Need-passed-over-requires
-passed-over-requires c κs = let h = c.before.before.is-in-gap.ensures c.before.if1.true in (omega (arith, h.few), omega (arith, h.few, h.room))
+passed_over-requires : tie.Need-passed_over-requires
+passed_over-requires c κs = let h = c.before.is_in_gap.ensures c.if-is_in_gap.true in (omega (arith, h.few), omega (arith, h.few, h.room))
 
-returns : tie.Need-returns
-returns c = let a = c.before.before.before.before.before.before.before.args in fed_as c.waiting.ensures c.before.passed_over.ensures (fed_gap a.words.now a.run.now c.before.before.before.before.before.before.before.requires.0 c.before.before.before.before.before.before.before.requires.1 (c.before.before.before.before.is-in-gap.ensures c.before.before.before.if1.true))
+returns-then-is_in_gap : tie.Need-returns-then-is_in_gap
+returns-then-is_in_gap c = let a = c.before.before.before.before.before.args in fed_as c.waiting.ensures c.before.passed_over.ensures (fed_gap a.words.now a.run.now c.before.before.before.before.before.requires.0 c.before.before.before.before.before.requires.1 (c.before.before.before.is_in_gap.ensures c.before.before.if-is_in_gap.true))
 
-one-more-requires : tie.Need-one-more-requires
-one-more-requires c κs = let h = c.before.before.before.is-in-word.ensures c.before.before.if2.true in (h.few, small_word _ _ (omega (arith, h.few)) h.number)
+one_more-requires : tie.Need-one_more-requires
+one_more-requires c κs = let h = c.before.before.is_in_word.ensures c.before.if-is_in_word.true in (h.few, small_word _ _ (omega (arith, h.few)) h.number)
 
-returns-2 : tie.Need-returns-2
-returns-2 c = let a = c.before.before.before.before.before.before.before.before.before.before.before.args in fed_as c.waiting2.ensures c.before.one_more.ensures (fed_byte a.words.now a.run.now c.before.before.before.before.before.before.before.before.before.before.before.requires.0 (c.before.before.before.before.before.is-in-word.ensures c.before.before.before.before.if2.true) (c.before.before.shared-slice-known2.given 0).fits)
+returns-then-is_in_word : tie.Need-returns-then-is_in_word
+returns-then-is_in_word c = let a = c.before.before.before.before.before.before.before.before.args in fed_as c.waiting-then-is_in_word.ensures c.before.one_more.ensures (fed_byte a.words.now a.run.now c.before.before.before.before.before.before.before.before.requires.0 (c.before.before.before.before.is_in_word.ensures c.before.before.before.if-is_in_word.true) (c.before.before.shared_slice_known-then-is_in_word-1.given 0).fits)
 
-feed-string-requires : tie.Need-feed-string-requires
-feed-string-requires c κs = (c.before.before.before.before.before.before.before.before.before.before.before.requires.0, c.before.before.is-in-string.ensures c.before.if3.true, c.before.before.before.before.before.before.before.before.before.before.before.requires.1)
+feed_string-requires : tie.Need-feed_string-requires
+feed_string-requires c κs = (c.before.before.before.before.before.before.before.before.requires.0, c.before.before.is_in_string.ensures c.before.if-is_in_string.true, c.before.before.before.before.before.before.before.before.requires.1)
 
 pub feed_on_spec : {M : Type 1} → statement M
 feed_on_spec =
     tie.close
     (tie.spec
     (λ c κs. search rules)
-    cast-passed-over
-    passed-over-requires
+    overflow_cast-len
+    passed_over-requires
     (λ c κs. search rules)
-    returns
+    returns-then-is_in_gap
     (λ c κs. search rules)
     (λ c. search rules)
-    one-more-requires
+    one_more-requires
     (λ c κs. search rules)
-    returns-2
+    returns-then-is_in_word
     (λ c κs. search rules)
-    feed-string-requires
+    feed_string-requires
     (λ c. search rules)
     (λ c κs. search rules)
     (λ c. search rules))

@@ -8,11 +8,11 @@ use borrow.Author.Rules.{rules}
 use Rattle.feed_lent.proofs.feeding.feed_state.Statement.{statement}
 use Rattle.feed_lent.proofs.feeding.feed_state.Tie as tie
 
-returns : tie.Need-returns
-returns c = fed_unsound (ap is_sound (sym c.before.before.before.unpacked.ensures) ∙ sym c.before.before.is-sound.ensures ∙ not-true _ c.before.if1.true) (ap A.Refused c.at_start.ensures) refl
+returns-then-not-is_sound : tie.Need-returns-then-not-is_sound
+returns-then-not-is_sound c = fed_unsound (ap is_sound (sym c.before.before.before.unpacked-state.ensures) ∙ sym c.before.before.is_sound.ensures ∙ c.before.if-not-is_sound.true) (ap A.Refused c.at_start.ensures) refl
 
-returns-2 : tie.Need-returns-2
-returns-2 c = fed_sound c.before.before.before.before.before.unpacked.ensures (sym c.before.before.before.before.is-sound.ensures ∙ not-false _ c.before.before.before.if1.false) c.before.before.feed.ensures c.packed.ensures
+returns : tie.Need-returns
+returns c = fed_sound c.before.before.before.before.before.unpacked-state.ensures (sym c.before.before.before.before.is_sound.ensures ∙ c.before.before.before.if-not-is_sound.false) c.before.before.feed-fed.ensures c.packed.ensures
 
 pub feed_state_spec : {M : Type 1} → statement M
 feed_state_spec =
@@ -21,7 +21,7 @@ feed_state_spec =
     (λ c κs. search rules)
     (λ c κs. search rules)
     (λ c κs. search rules)
-    returns
+    returns-then-not-is_sound
     (λ c κs. search rules)
     (λ c κs. search rules)
-    returns-2)
+    returns)

@@ -6,27 +6,27 @@ use borrow.Author.Rules.{rules}
 use Rattle.feed_lent.proofs.feeding.feed_string.Statement.{statement}
 use Rattle.feed_lent.proofs.feeding.feed_string.Tie as tie
 
-contents-over-requires : tie.Need-contents-over-requires
-contents-over-requires c κs = (c.before.before.before.before.before.before.requires.1, (c.before.before.is-in-contents.ensures c.before.if1.true).0)
+contents_over-requires : tie.Need-contents_over-requires
+contents_over-requires c κs = (c.before.before.before.before.before.before.requires.1, (c.before.is_in_contents.ensures c.if-is_in_contents.true).0)
 
-returns : tie.Need-returns
-returns c =
+returns-then-is_in_contents : tie.Need-returns-then-is_in_contents
+returns-then-is_in_contents c =
     let a = c.before.before.before.before.before.before.before.before.args in
     let p = c.before.before.before.before.before.before.before.before.requires in
-    let h = c.before.before.before.before.is-in-contents.ensures c.before.before.before.if1.true in
-    fed_as c.waiting.ensures refl (fed_contents a.words.now a.run.now p.0 p.2 p.1 h.0 h.1 c.before.contents-over.ensures)
+    let h = c.before.before.before.is_in_contents.ensures c.before.before.if-is_in_contents.true in
+    fed_as c.waiting.ensures refl (fed_contents a.words.now a.run.now p.0 p.2 p.1 h.0 h.1 c.before.contents_over.ensures)
 
-zero-over-requires : tie.Need-zero-over-requires
-zero-over-requires c κs =
-    let h = c.before.before.is-in-pad.ensures c.before.if2.true in
+zero_over-requires : tie.Need-zero_over-requires
+zero_over-requires c κs =
+    let h = c.before.is_in_pad.ensures c.if-is_in_pad.true in
     (h.1, omega (arith, h.1, (string_small c.before.before.before.before.before.before.before.before.before.before.args.words.now c.before.before.before.before.before.before.before.before.before.before.requires.1).1))
 
-returns-2 : tie.Need-returns-2
-returns-2 c =
+returns-then-is_in_pad : tie.Need-returns-then-is_in_pad
+returns-then-is_in_pad c =
     let a = c.before.before.before.before.before.before.before.before.before.before.before.before.args in
     let p = c.before.before.before.before.before.before.before.before.before.before.before.before.requires in
-    let h = c.before.before.before.before.is-in-pad.ensures c.before.before.before.if2.true in
-    fed_as c.waiting2.ensures c.before.zero-over.ensures (fed_zero a.words.now a.run.now p.0 p.2 p.1 h.0 h.1 h.2 h.3)
+    let h = c.before.before.before.is_in_pad.ensures c.before.before.if-is_in_pad.true in
+    fed_as c.waiting-then-is_in_pad.ensures c.before.zero_over.ensures (fed_zero a.words.now a.run.now p.0 p.2 p.1 h.0 h.1 h.2 h.3)
 
 pub feed_string_spec : {M : Type 1} → statement M
 feed_string_spec =
@@ -35,14 +35,14 @@ feed_string_spec =
     (λ c. search rules)
     (λ c. search rules)
     (λ c κs. search rules)
-    contents-over-requires
+    contents_over-requires
     (λ c κs. search rules)
-    returns
+    returns-then-is_in_contents
     (λ c. search rules)
     (λ c. search rules)
     (λ c κs. search rules)
-    zero-over-requires
+    zero_over-requires
     (λ c κs. search rules)
-    returns-2
+    returns-then-is_in_pad
     (λ c κs. search rules)
     (λ c. search rules))

@@ -4,11 +4,11 @@ use borrow.Author.Rules.{rules}
 use Rattle.feed_lent.proofs.feeding.feed_words.Statement.{statement}
 use Rattle.feed_lent.proofs.feeding.feed_words.Tie as tie
 
-feed-on-requires : tie.Need-feed-on-requires
-feed-on-requires c κs = (c.before.before.is-under-way.ensures c.before.if2.true, omega (arith, c.before.before.before.before.if1.false))
+feed_on-requires : tie.Need-feed_on-requires
+feed_on-requires c κs = (c.before.before.is_under_way.ensures c.before.if-is_under_way.true, omega (arith, c.before.before.before.if-run-eq0.false))
 
-feed-first-requires : tie.Need-feed-first-requires
-feed-first-requires c κs = c.before.before.is-unread.ensures c.before.if3.true
+feed_first-requires : tie.Need-feed_first-requires
+feed_first-requires c κs = c.before.before.is_unread.ensures c.before.if-is_unread.true
 
 pub feed_words_spec : {M : Type 1} → statement M
 feed_words_spec =
@@ -17,10 +17,10 @@ feed_words_spec =
     (λ c κs. search rules)
     (λ c. search rules)
     (λ c κs. search rules)
-    feed-on-requires
+    feed_on-requires
     (λ c. search rules)
     (λ c κs. search rules)
-    feed-first-requires
+    feed_first-requires
     (λ c. search rules)
     (λ c κs. search rules)
     (λ c. search rules))

@@ -10,8 +10,8 @@ use Rattle.feed_lent.proofs.feeding.missing_words.Tie as tie
 
 returns : tie.Need-returns
 returns c =
-    let ws = c.before.before.before.before.before.before.before.args.words.now in
-    c.missing-of.ensures ∙ ap (λ (t : ℕ). missing_by t (get_or ws 1 0) (get_or ws 6 0) (get_or ws 9 0) (get_or ws 10 0)) c.before.before.before.before.before.tag_in.ensures ∙ missing_by_lem ws
+    let ws = c.before.before.before.before.before.before.before.before.args.words.now in
+    c.missing_of.ensures ∙ ap (λ (t : ℕ). missing_by t (get_or ws 1 0) (get_or ws 6 0) (get_or ws 9 0) (get_or ws 10 0)) c.before.before.before.before.before.tag_in.ensures ∙ missing_by_lem ws
 
 pub missing_words_spec : {M : Type 1} → statement M
 missing_words_spec =

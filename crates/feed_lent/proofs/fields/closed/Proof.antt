@@ -4,7 +4,7 @@ use Rattle.feed_lent.proofs.fields.closed.Statement.{statement}
 use Rattle.feed_lent.proofs.fields.closed.Tie as tie
 
 returns : tie.Need-returns
-returns c = simp (c.before.before.before.before.before.before.high_half_lem.ensures, c.before.before.before.before.before.before.before.low_half_lem.ensures)
+returns c = simp (c.before.before.before.before.before.before.high_half.ensures, c.before.before.before.before.before.before.before.low_half.ensures)
 
 pub closed_spec : {M : Type 1} → statement M
 closed_spec =

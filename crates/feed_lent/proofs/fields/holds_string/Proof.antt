@@ -10,32 +10,32 @@ use borrow.Author.Rules.{rules}
 use Rattle.feed_lent.proofs.fields.holds_string.Statement.{statement}
 use Rattle.feed_lent.proofs.fields.holds_string.Tie as tie
 
+returns-then-tag-lt10 : tie.Need-returns-then-tag-lt10
+returns-then-tag-lt10 c e = says_no e
+
+returns-then-tag-ge17 : tie.Need-returns-then-tag-ge17
+returns-then-tag-ge17 c e = says_no e
+
+returns-then-not-is_inside : tie.Need-returns-then-not-is_inside
+returns-then-not-is_inside c e = says_no e
+
 returns : tie.Need-returns
-returns c e = says_no e
-
-returns-2 : tie.Need-returns-2
-returns-2 c e = says_no e
-
-returns-3 : tie.Need-returns-3
-returns-3 c e = says_no e
-
-returns-4 : tie.Need-returns-4
-returns-4 c e = let a = c.before.before.before.before.before.before.before.args in record {
-  low = c.before.before.before.before.before.before.if1.false;
-  high = c.before.before.before.before.before.if2.false;
-  parts = ap (λ (l : StringField). parts_test l a.have a.value a.at a.todo a.pad a.zeros) (sym c.before.before.before.before.string-of.ensures) ∙ sym c.before.before.before.is_inside.ensures ∙ not-false _ c.before.before.if3.false;
-  room = omega (arith, has_room_lem a.place c.before.most_string.result (sym c.room_for.ensures ∙ e), c.before.most_string.ensures.0, ap most_string c.before.before.before.before.string-of.ensures);
+returns c e = let a = c.before.before.before.before.before.before.before.args in record {
+  low = c.before.before.before.before.before.before.if-tag-lt10.false;
+  high = c.before.before.before.before.before.if-tag-ge17.false;
+  parts = ap (λ (l : StringField). parts_test l a.have a.value a.at a.todo a.pad a.zeros) (sym c.before.before.before.before.string_of-string.ensures) ∙ sym c.before.before.before.is_inside.ensures ∙ c.before.before.if-not-is_inside.false;
+  room = omega (arith, has_room_lem a.place c.before.most_string.result (sym c.room_for.ensures ∙ e), c.before.most_string.ensures.0, ap most_string c.before.before.before.before.string_of-string.ensures);
 }
 
 pub holds_string_spec : {M : Type 1} → statement M
 holds_string_spec =
     tie.close
     (tie.spec
-    returns
-    returns-2
+    returns-then-tag-lt10
+    returns-then-tag-ge17
     (λ c κs. search rules)
     (λ c κs. search rules)
-    returns-3
+    returns-then-not-is_inside
     (λ c κs. search rules)
     (λ c κs. search rules)
-    returns-4)
+    returns)

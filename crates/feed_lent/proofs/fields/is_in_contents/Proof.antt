@@ -7,16 +7,16 @@ use borrow.Author.Rules.{rules}
 use Rattle.feed_lent.proofs.fields.is_in_contents.Statement.{statement}
 use Rattle.feed_lent.proofs.fields.is_in_contents.Tie as tie
 
-returns : tie.Need-returns
-returns c e = says_no e
+returns-then-todo-len : tie.Need-returns-then-todo-len
+returns-then-todo-len c e = says_no e
 
-returns-2 : tie.Need-returns-2
-returns-2 c e = (omega (arith, c.if1.false), ltb-true c.before.args.len (c.before.args.todo + c.before.args.pad) e)
+returns : tie.Need-returns
+returns c e = (omega (arith, c.if-todo-len.false), ltb-true c.before.args.len (c.before.args.todo + c.before.args.pad) e)
 
 pub is_in_contents_spec : {M : Type 1} → statement M
 is_in_contents_spec =
     tie.close
     (tie.spec
-    returns
+    returns-then-todo-len
     (λ c. search rules)
-    returns-2)
+    returns)

@@ -6,29 +6,29 @@ use borrow.Author.Rules.{rules}
 use Rattle.feed_lent.proofs.once.end_of.Statement.{statement}
 use Rattle.feed_lent.proofs.once.end_of.Tie as tie
 
-returns : tie.Need-returns
-returns c = ap end_of (sym c.before.m.given.1)
+returns-in-Index : tie.Need-returns-in-Index
+returns-in-Index c = ap end_of (sym c.in-Index.is)
 
-returns-2 : tie.Need-returns-2
-returns-2 c = ap end_of (sym c.before.m2.given.1)
+returns-in-Request : tie.Need-returns-in-Request
+returns-in-Request c = ap end_of (sym c.in-Request.is)
 
-returns-3 : tie.Need-returns-3
-returns-3 c = ap end_of (sym c.before.m3.given.1)
+returns-in-Response : tie.Need-returns-in-Response
+returns-in-Response c = ap end_of (sym c.in-Response.is)
 
-returns-4 : tie.Need-returns-4
-returns-4 c = ap end_of (sym c.before.m4.given.1)
+returns-in-Ping : tie.Need-returns-in-Ping
+returns-in-Ping c = ap end_of (sym c.in-Ping.is)
 
-returns-5 : tie.Need-returns-5
-returns-5 c = ap end_of (sym c.before.m5.given.1)
+returns-in-Pong : tie.Need-returns-in-Pong
+returns-in-Pong c = ap end_of (sym c.in-Pong.is)
 
-returns-6 : tie.Need-returns-6
-returns-6 c = ap end_of (sym c.before.m6.given.1)
+returns-in-IndexUpdate : tie.Need-returns-in-IndexUpdate
+returns-in-IndexUpdate c = ap end_of (sym c.in-IndexUpdate.is)
 
-returns-7 : tie.Need-returns-7
-returns-7 c = ap end_of (sym c.before.m7.given.1)
+returns-in-Options : tie.Need-returns-in-Options
+returns-in-Options c = ap end_of (sym c.in-Options.is)
 
-returns-9 : tie.Need-returns-9
-returns-9 c = sym (ap end_of c.before.before.before.m8.given.1 ∙ simp (ne_eqb c.before.before.before.m8.given.0.0.number 1 c.if1.false))
+returns-else-r-eq1 : tie.Need-returns-else-r-eq1
+returns-else-r-eq1 c = sym (ap end_of c.before.before.in-Refused.is ∙ simp (ne_eqb c.before.before.in-Refused.r.number 1 c.if-r-eq1.false))
 
 pub end_of_spec : {M : Type 1} → statement M
 end_of_spec =
@@ -42,12 +42,12 @@ end_of_spec =
     (λ c. search rules)
     (λ c. search rules)
     (λ c. search rules)
-    returns
-    returns-2
-    returns-3
-    returns-4
-    returns-5
-    returns-6
-    returns-7
+    returns-in-Index
+    returns-in-Request
+    returns-in-Response
+    returns-in-Ping
+    returns-in-Pong
+    returns-in-IndexUpdate
+    returns-in-Options
     (λ c. search rules)
-    returns-9)
+    returns-else-r-eq1)

@@ -7,17 +7,17 @@ use Rattle.feed_lent.proofs.LentLaws.{gap_rest}
 use Rattle.feed_lent.proofs.tags.gap_of.Statement.{statement}
 use Rattle.feed_lent.proofs.tags.gap_of.Tie as tie
 
-returns : tie.Need-returns
-returns c = ap (λ (t : ℕ). gap_of t c.before.args.m c.before.args.k) (sym c.match.keys1)
+returns-in-0 : tie.Need-returns-in-0
+returns-in-0 c = ap (λ (t : ℕ). gap_of t c.before.args.m c.before.args.k) (sym c.in-0.is)
 
-returns-2 : tie.Need-returns-2
-returns-2 c = ap (λ (t : ℕ). gap_of t c.before.args.m c.before.args.k) (sym c.match.keys2)
+returns-in-1 : tie.Need-returns-in-1
+returns-in-1 c = ap (λ (t : ℕ). gap_of t c.before.args.m c.before.args.k) (sym c.in-1.is)
 
-returns-3 : tie.Need-returns-3
-returns-3 c = ap (λ (t : ℕ). gap_of t c.before.args.m c.before.args.k) (sym c.match.keys3)
+returns-in-2 : tie.Need-returns-in-2
+returns-in-2 c = ap (λ (t : ℕ). gap_of t c.before.args.m c.before.args.k) (sym c.in-2.is)
 
-returns-4 : tie.Need-returns-4
-returns-4 c = gap_rest c.before.args.tag c.before.args.m c.before.args.k (omega (arith, c.match.rest))
+returns-in_default : tie.Need-returns-in_default
+returns-in_default c = gap_rest c.before.args.tag c.before.args.m c.before.args.k (omega (arith, c.in_default.in_default-own.rest))
 
 pub gap_of_spec : {M : Type 1} → statement M
-gap_of_spec = tie.close (tie.spec returns returns-2 returns-3 returns-4)
+gap_of_spec = tie.close (tie.spec returns-in-0 returns-in-1 returns-in-2 returns-in_default)

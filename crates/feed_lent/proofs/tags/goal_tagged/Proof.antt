@@ -3,67 +3,67 @@ use borrow.Author.Rules.{rules}
 use Rattle.feed_lent.proofs.tags.goal_tagged.Statement.{statement}
 use Rattle.feed_lent.proofs.tags.goal_tagged.Tie as tie
 
-enum-known-goal : tie.Need-enum-known-goal
-enum-known-goal c = search rules
+enum_known-goal : tie.Need-enum_known-goal
+enum_known-goal c = search rules
 
-word-tagged-requires : tie.Need-word-tagged-requires
-word-tagged-requires c κs = search rules
+word_tagged-requires : tie.Need-word_tagged-requires
+word_tagged-requires c κs = search rules
 
-enum-known-goal-2 : tie.Need-enum-known-goal-2
-enum-known-goal-2 c = search rules
+enum_known-goal-in-String-1 : tie.Need-enum_known-goal-in-String-1
+enum_known-goal-in-String-1 c = search rules
 
-string-tagged-requires : tie.Need-string-tagged-requires
-string-tagged-requires c κs = search rules
+string_tagged-requires : tie.Need-string_tagged-requires
+string_tagged-requires c κs = search rules
 
-enum-known-goal-3 : tie.Need-enum-known-goal-3
-enum-known-goal-3 c = search rules
+enum_known-goal-in-Skip-1 : tie.Need-enum_known-goal-in-Skip-1
+enum_known-goal-in-Skip-1 c = search rules
 
-gap-tagged-requires : tie.Need-gap-tagged-requires
-gap-tagged-requires c κs = search rules
+gap_tagged-requires : tie.Need-gap_tagged-requires
+gap_tagged-requires c κs = search rules
 
-enum_told : tie.Need-enum-told
-enum_told c = search rules
+enum_told-1 : tie.Need-enum_told-1
+enum_told-1 c = search rules
 
 numbered-requires : tie.Need-numbered-requires
 numbered-requires c κs = search rules
 
-enum-known-goal-4 : tie.Need-enum-known-goal-4
-enum-known-goal-4 c = search rules
+enum_known-goal-in-Stopped-1 : tie.Need-enum_known-goal-in-Stopped-1
+enum_known-goal-in-Stopped-1 c = search rules
 
-numbered-requires-2 : tie.Need-numbered-requires-2
-numbered-requires-2 c κs = search rules
+numbered-requires-in-Stopped : tie.Need-numbered-requires-in-Stopped
+numbered-requires-in-Stopped c κs = search rules
 
-returns : tie.Need-returns
-returns c = search rules
+returns-in-Word : tie.Need-returns-in-Word
+returns-in-Word c = search rules
 
-returns-2 : tie.Need-returns-2
-returns-2 c = search rules
+returns-in-String : tie.Need-returns-in-String
+returns-in-String c = search rules
 
-returns-3 : tie.Need-returns-3
-returns-3 c = simp (c.gap-tagged.ensures, c.before.before.goal3.given.1)
+returns-in-Skip : tie.Need-returns-in-Skip
+returns-in-Skip c = simp (c.gap_tagged.ensures, c.before.in-Skip.is)
 
-returns-4 : tie.Need-returns-4
-returns-4 c = simp (c.numbered.ensures, c.before.enum_told.given.1)
+returns-in-Ended : tie.Need-returns-in-Ended
+returns-in-Ended c = simp (c.numbered.ensures, c.before.in-Ended.is)
 
-returns-5 : tie.Need-returns-5
-returns-5 c = simp (c.numbered2.ensures, c.before.before.goal4.given.1)
+returns-in-Stopped : tie.Need-returns-in-Stopped
+returns-in-Stopped c = simp (c.numbered-in-Stopped.ensures, c.before.in-Stopped.is)
 
 pub goal_tagged_spec : {M : Type 1} → statement M
 goal_tagged_spec =
     tie.close
     (tie.spec
-    enum-known-goal
-    word-tagged-requires
-    enum-known-goal-2
-    string-tagged-requires
-    enum-known-goal-3
-    gap-tagged-requires
-    enum_told
+    enum_known-goal
+    word_tagged-requires
+    enum_known-goal-in-String-1
+    string_tagged-requires
+    enum_known-goal-in-Skip-1
+    gap_tagged-requires
+    enum_told-1
     numbered-requires
-    enum-known-goal-4
-    numbered-requires-2
-    returns
-    returns-2
-    returns-3
-    returns-4
-    returns-5)
+    enum_known-goal-in-Stopped-1
+    numbered-requires-in-Stopped
+    returns-in-Word
+    returns-in-String
+    returns-in-Skip
+    returns-in-Ended
+    returns-in-Stopped)

@@ -7,27 +7,27 @@ use Rattle.feed_lent.proofs.LentLaws.{string_rest}
 use Rattle.feed_lent.proofs.tags.string_of.Statement.{statement}
 use Rattle.feed_lent.proofs.tags.string_of.Tie as tie
 
-returns : tie.Need-returns
-returns c = ap (λ (t : ℕ). string_of t c.before.args.k) (sym c.match.keys1)
+returns-in-0 : tie.Need-returns-in-0
+returns-in-0 c = ap (λ (t : ℕ). string_of t c.before.args.k) (sym c.in-0.is)
 
-returns-2 : tie.Need-returns-2
-returns-2 c = ap (λ (t : ℕ). string_of t c.before.args.k) (sym c.match.keys2)
+returns-in-1 : tie.Need-returns-in-1
+returns-in-1 c = ap (λ (t : ℕ). string_of t c.before.args.k) (sym c.in-1.is)
 
-returns-3 : tie.Need-returns-3
-returns-3 c = ap (λ (t : ℕ). string_of t c.before.args.k) (sym c.match.keys3)
+returns-in-2 : tie.Need-returns-in-2
+returns-in-2 c = ap (λ (t : ℕ). string_of t c.before.args.k) (sym c.in-2.is)
 
-returns-4 : tie.Need-returns-4
-returns-4 c = ap (λ (t : ℕ). string_of t c.before.args.k) (sym c.match.keys4)
+returns-in-3 : tie.Need-returns-in-3
+returns-in-3 c = ap (λ (t : ℕ). string_of t c.before.args.k) (sym c.in-3.is)
 
-returns-5 : tie.Need-returns-5
-returns-5 c = ap (λ (t : ℕ). string_of t c.before.args.k) (sym c.match.keys5)
+returns-in-4 : tie.Need-returns-in-4
+returns-in-4 c = ap (λ (t : ℕ). string_of t c.before.args.k) (sym c.in-4.is)
 
-returns-6 : tie.Need-returns-6
-returns-6 c = ap (λ (t : ℕ). string_of t c.before.args.k) (sym c.match.keys6)
+returns-in-5 : tie.Need-returns-in-5
+returns-in-5 c = ap (λ (t : ℕ). string_of t c.before.args.k) (sym c.in-5.is)
 
-returns-7 : tie.Need-returns-7
-returns-7 c = string_rest c.before.args.tag c.before.args.k (omega (arith, c.match.rest))
+returns-in_default : tie.Need-returns-in_default
+returns-in_default c = string_rest c.before.args.tag c.before.args.k (omega (arith, c.in_default.in_default-own.rest))
 
 pub string_of_spec : {M : Type 1} → statement M
 string_of_spec =
-    tie.close (tie.spec returns returns-2 returns-3 returns-4 returns-5 returns-6 returns-7)
+    tie.close (tie.spec returns-in-0 returns-in-1 returns-in-2 returns-in-3 returns-in-4 returns-in-5 returns-in_default)

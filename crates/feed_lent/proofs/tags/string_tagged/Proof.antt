@@ -3,91 +3,91 @@ use borrow.Author.Rules.{rules}
 use Rattle.feed_lent.proofs.tags.string_tagged.Statement.{statement}
 use Rattle.feed_lent.proofs.tags.string_tagged.Tie as tie
 
-enum_told : tie.Need-enum-told
-enum_told c = search rules
+enum_told-1 : tie.Need-enum_told-1
+enum_told-1 c = search rules
 
 numbered-requires : tie.Need-numbered-requires
 numbered-requires c κs = search rules
 
-enum-told-2 : tie.Need-enum-told-2
-enum-told-2 c = search rules
+enum_told-in-Request : tie.Need-enum_told-in-Request
+enum_told-in-Request c = search rules
 
-numbered-requires-2 : tie.Need-numbered-requires-2
-numbered-requires-2 c κs = search rules
+numbered-requires-in-Request : tie.Need-numbered-requires-in-Request
+numbered-requires-in-Request c κs = search rules
 
-enum-told-3 : tie.Need-enum-told-3
-enum-told-3 c = search rules
+enum_told-in-RequestName : tie.Need-enum_told-in-RequestName
+enum_told-in-RequestName c = search rules
 
-numbered-requires-3 : tie.Need-numbered-requires-3
-numbered-requires-3 c κs = search rules
+numbered-requires-in-RequestName : tie.Need-numbered-requires-in-RequestName
+numbered-requires-in-RequestName c κs = search rules
 
-enum-told-4 : tie.Need-enum-told-4
-enum-told-4 c = search rules
+enum_told-in-Data : tie.Need-enum_told-in-Data
+enum_told-in-Data c = search rules
 
-numbered-requires-4 : tie.Need-numbered-requires-4
-numbered-requires-4 c κs = search rules
+numbered-requires-in-Data : tie.Need-numbered-requires-in-Data
+numbered-requires-in-Data c κs = search rules
 
-enum-known-string : tie.Need-enum-known-string
-enum-known-string c = search rules
+enum_known-string : tie.Need-enum_known-string
+enum_known-string c = search rules
 
-numbered-requires-5 : tie.Need-numbered-requires-5
-numbered-requires-5 c κs = search rules
+numbered-requires-in-File : tie.Need-numbered-requires-in-File
+numbered-requires-in-File c κs = search rules
 
-enum-known-string-2 : tie.Need-enum-known-string-2
-enum-known-string-2 c = search rules
+enum_known-string-in-Key-1 : tie.Need-enum_known-string-in-Key-1
+enum_known-string-in-Key-1 c = search rules
 
-numbered-requires-6 : tie.Need-numbered-requires-6
-numbered-requires-6 c κs = search rules
+numbered-requires-in-Key : tie.Need-numbered-requires-in-Key
+numbered-requires-in-Key c κs = search rules
 
-enum-known-string-3 : tie.Need-enum-known-string-3
-enum-known-string-3 c = search rules
+enum_known-string-in-Value-1 : tie.Need-enum_known-string-in-Value-1
+enum_known-string-in-Value-1 c = search rules
 
-numbered-requires-7 : tie.Need-numbered-requires-7
-numbered-requires-7 c κs = search rules
+numbered-requires-in-Value : tie.Need-numbered-requires-in-Value
+numbered-requires-in-Value c κs = search rules
 
-returns : tie.Need-returns
-returns c = simp (c.numbered.ensures, c.before.enum_told.given.1)
+returns-in-Index : tie.Need-returns-in-Index
+returns-in-Index c = simp (c.numbered.ensures, c.before.in-Index.is)
 
-returns-2 : tie.Need-returns-2
-returns-2 c = simp (c.numbered2.ensures, c.before.enum-told2.given.1)
+returns-in-Request : tie.Need-returns-in-Request
+returns-in-Request c = simp (c.numbered-in-Request.ensures, c.before.in-Request.is)
 
-returns-3 : tie.Need-returns-3
-returns-3 c = simp (c.numbered3.ensures, c.before.enum-told3.given.1)
+returns-in-RequestName : tie.Need-returns-in-RequestName
+returns-in-RequestName c = simp (c.numbered-in-RequestName.ensures, c.before.in-RequestName.is)
 
-returns-4 : tie.Need-returns-4
-returns-4 c = simp (c.numbered4.ensures, c.before.enum-told4.given.1)
+returns-in-Data : tie.Need-returns-in-Data
+returns-in-Data c = simp (c.numbered-in-Data.ensures, c.before.in-Data.is)
 
-returns-5 : tie.Need-returns-5
-returns-5 c = simp (c.numbered5.ensures, c.before.before.string.given.1)
+returns-in-File : tie.Need-returns-in-File
+returns-in-File c = simp (c.numbered-in-File.ensures, c.before.in-File.is)
 
-returns-6 : tie.Need-returns-6
-returns-6 c = simp (c.numbered6.ensures, c.before.before.string2.given.1)
+returns-in-Key : tie.Need-returns-in-Key
+returns-in-Key c = simp (c.numbered-in-Key.ensures, c.before.in-Key.is)
 
-returns-7 : tie.Need-returns-7
-returns-7 c = simp (c.numbered7.ensures, c.before.before.string3.given.1)
+returns-in-Value : tie.Need-returns-in-Value
+returns-in-Value c = simp (c.numbered-in-Value.ensures, c.before.in-Value.is)
 
 pub string_tagged_spec : {M : Type 1} → statement M
 string_tagged_spec =
     tie.close
     (tie.spec
-    enum_told
+    enum_told-1
     numbered-requires
-    enum-told-2
-    numbered-requires-2
-    enum-told-3
-    numbered-requires-3
-    enum-told-4
-    numbered-requires-4
-    enum-known-string
-    numbered-requires-5
-    enum-known-string-2
-    numbered-requires-6
-    enum-known-string-3
-    numbered-requires-7
-    returns
-    returns-2
-    returns-3
-    returns-4
-    returns-5
-    returns-6
-    returns-7)
+    enum_told-in-Request
+    numbered-requires-in-Request
+    enum_told-in-RequestName
+    numbered-requires-in-RequestName
+    enum_told-in-Data
+    numbered-requires-in-Data
+    enum_known-string
+    numbered-requires-in-File
+    enum_known-string-in-Key-1
+    numbered-requires-in-Key
+    enum_known-string-in-Value-1
+    numbered-requires-in-Value
+    returns-in-Index
+    returns-in-Request
+    returns-in-RequestName
+    returns-in-Data
+    returns-in-File
+    returns-in-Key
+    returns-in-Value)

@@ -8,36 +8,36 @@ use borrow.Author.Rules.{rules}
 use Rattle.feed_lent.proofs.tags.word_of.Statement.{statement}
 use Rattle.feed_lent.proofs.tags.word_of.Tie as tie
 
-returns : tie.Need-returns
-returns c = simp (le-leb 6 c.before.before.args.tag c.before.if1.true, c.late-word-of.ensures)
+returns-then-tag-ge6 : tie.Need-returns-then-tag-ge6
+returns-then-tag-ge6 c = simp (le-leb 6 c.before.before.args.tag c.before.if-tag-ge6.true, c.late_word_of.ensures)
 
-returns-2 : tie.Need-returns-2
-returns-2 c = ap (λ (t : ℕ). word_of t c.before.before.args.m c.before.before.args.k) (sym c.match.keys1)
+returns-in-0 : tie.Need-returns-in-0
+returns-in-0 c = ap (λ (t : ℕ). word_of t c.before.before.args.m c.before.before.args.k) (sym c.in-0.is)
 
-returns-3 : tie.Need-returns-3
-returns-3 c = ap (λ (t : ℕ). word_of t c.before.before.args.m c.before.before.args.k) (sym c.match.keys2)
+returns-in-1 : tie.Need-returns-in-1
+returns-in-1 c = ap (λ (t : ℕ). word_of t c.before.before.args.m c.before.before.args.k) (sym c.in-1.is)
 
-returns-4 : tie.Need-returns-4
-returns-4 c = ap (λ (t : ℕ). word_of t c.before.before.args.m c.before.before.args.k) (sym c.match.keys3)
+returns-in-2 : tie.Need-returns-in-2
+returns-in-2 c = ap (λ (t : ℕ). word_of t c.before.before.args.m c.before.before.args.k) (sym c.in-2.is)
 
-returns-5 : tie.Need-returns-5
-returns-5 c = ap (λ (t : ℕ). word_of t c.before.before.args.m c.before.before.args.k) (sym c.match.keys4)
+returns-in-3 : tie.Need-returns-in-3
+returns-in-3 c = ap (λ (t : ℕ). word_of t c.before.before.args.m c.before.before.args.k) (sym c.in-3.is)
 
-returns-6 : tie.Need-returns-6
-returns-6 c = ap (λ (t : ℕ). word_of t c.before.before.args.m c.before.before.args.k) (sym c.match.keys5)
+returns-in-4 : tie.Need-returns-in-4
+returns-in-4 c = ap (λ (t : ℕ). word_of t c.before.before.args.m c.before.before.args.k) (sym c.in-4.is)
 
-returns-7 : tie.Need-returns-7
-returns-7 c = let e : c.before.before.args.tag ≡ 5 = omega (arith, c.match.rest, c.before.if1.false) in ap (λ (t : ℕ). word_of t c.before.before.args.m c.before.before.args.k) (sym e)
+returns-in_default : tie.Need-returns-in_default
+returns-in_default c = let e : c.before.before.args.tag ≡ 5 = omega (arith, c.in_default.in_default-own.rest, c.before.if-tag-ge6.false) in ap (λ (t : ℕ). word_of t c.before.before.args.m c.before.before.args.k) (sym e)
 
 pub word_of_spec : {M : Type 1} → statement M
 word_of_spec =
     tie.close
     (tie.spec
     (λ c κs. search rules)
-    returns
-    returns-2
-    returns-3
-    returns-4
-    returns-5
-    returns-6
-    returns-7)
+    returns-then-tag-ge6
+    returns-in-0
+    returns-in-1
+    returns-in-2
+    returns-in-3
+    returns-in-4
+    returns-in_default)

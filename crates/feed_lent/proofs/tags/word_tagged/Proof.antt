@@ -3,99 +3,99 @@ use borrow.Author.Rules.{rules}
 use Rattle.feed_lent.proofs.tags.word_tagged.Statement.{statement}
 use Rattle.feed_lent.proofs.tags.word_tagged.Tie as tie
 
-enum-known-field : tie.Need-enum-known-field
-enum-known-field c = search rules
+enum_known-field : tie.Need-enum_known-field
+enum_known-field c = search rules
 
-edition-tag-requires : tie.Need-edition-tag-requires
-edition-tag-requires c κs = search rules
+edition_tag-requires : tie.Need-edition_tag-requires
+edition_tag-requires c κs = search rules
 
 numbered-requires : tie.Need-numbered-requires
 numbered-requires c κs = search rules
 
-enum_told : tie.Need-enum-told
-enum_told c = search rules
+enum_told-1 : tie.Need-enum_told-1
+enum_told-1 c = search rules
 
-numbered-requires-2 : tie.Need-numbered-requires-2
-numbered-requires-2 c κs = search rules
+numbered-requires-in-FileCount : tie.Need-numbered-requires-in-FileCount
+numbered-requires-in-FileCount c κs = search rules
 
-enum-known-field-2 : tie.Need-enum-known-field-2
-enum-known-field-2 c = search rules
+enum_known-field-in-Flags-1 : tie.Need-enum_known-field-in-Flags-1
+enum_known-field-in-Flags-1 c = search rules
 
-numbered-requires-3 : tie.Need-numbered-requires-3
-numbered-requires-3 c κs = search rules
+numbered-requires-in-Flags : tie.Need-numbered-requires-in-Flags
+numbered-requires-in-Flags c κs = search rules
 
-enum-known-field-3 : tie.Need-enum-known-field-3
-enum-known-field-3 c = search rules
+enum_known-field-in-BlockCount-1 : tie.Need-enum_known-field-in-BlockCount-1
+enum_known-field-in-BlockCount-1 c = search rules
 
 either-requires : tie.Need-either-requires
 either-requires c κs = search rules
 
-numbered-requires-4 : tie.Need-numbered-requires-4
-numbered-requires-4 c κs = search rules
+numbered-requires-in-BlockCount : tie.Need-numbered-requires-in-BlockCount
+numbered-requires-in-BlockCount c κs = search rules
 
-enum-known-field-4 : tie.Need-enum-known-field-4
-enum-known-field-4 c = search rules
+enum_known-field-in-Block-1 : tie.Need-enum_known-field-in-Block-1
+enum_known-field-in-Block-1 c = search rules
 
-numbered-requires-5 : tie.Need-numbered-requires-5
-numbered-requires-5 c κs = search rules
+numbered-requires-in-Block : tie.Need-numbered-requires-in-Block
+numbered-requires-in-Block c κs = search rules
 
-enum-known-field-5 : tie.Need-enum-known-field-5
-enum-known-field-5 c = search rules
+enum_known-field-in-HashLength-1 : tie.Need-enum_known-field-in-HashLength-1
+enum_known-field-in-HashLength-1 c = search rules
 
-numbered-requires-6 : tie.Need-numbered-requires-6
-numbered-requires-6 c κs = search rules
+numbered-requires-in-HashLength : tie.Need-numbered-requires-in-HashLength
+numbered-requires-in-HashLength c κs = search rules
 
-enum-told-2 : tie.Need-enum-told-2
-enum-told-2 c = search rules
+enum_told-in-OptionCount : tie.Need-enum_told-in-OptionCount
+enum_told-in-OptionCount c = search rules
 
-numbered-requires-7 : tie.Need-numbered-requires-7
-numbered-requires-7 c κs = search rules
+numbered-requires-in-OptionCount : tie.Need-numbered-requires-in-OptionCount
+numbered-requires-in-OptionCount c κs = search rules
 
-returns : tie.Need-returns
-returns c = simp (c.numbered.ensures, c.before.edition-tag.ensures, c.before.before.before.field.given.1)
+returns-in-Start : tie.Need-returns-in-Start
+returns-in-Start c = simp (c.numbered.ensures, c.before.edition_tag.ensures, c.before.before.in-Start.is)
 
-returns-2 : tie.Need-returns-2
-returns-2 c = simp (c.numbered2.ensures, c.before.enum_told.given.1)
+returns-in-FileCount : tie.Need-returns-in-FileCount
+returns-in-FileCount c = simp (c.numbered-in-FileCount.ensures, c.before.in-FileCount.is)
 
-returns-3 : tie.Need-returns-3
-returns-3 c = simp (c.numbered3.ensures, c.before.before.field2.given.1)
+returns-in-Flags : tie.Need-returns-in-Flags
+returns-in-Flags c = simp (c.numbered-in-Flags.ensures, c.before.in-Flags.is)
 
-returns-4 : tie.Need-returns-4
-returns-4 c = simp (c.numbered4.ensures, c.before.either.ensures, c.before.before.before.field3.given.1)
+returns-in-BlockCount : tie.Need-returns-in-BlockCount
+returns-in-BlockCount c = simp (c.numbered-in-BlockCount.ensures, c.before.either.ensures, c.before.before.in-BlockCount.is)
 
-returns-5 : tie.Need-returns-5
-returns-5 c = simp (c.numbered5.ensures, c.before.before.field4.given.1)
+returns-in-Block : tie.Need-returns-in-Block
+returns-in-Block c = simp (c.numbered-in-Block.ensures, c.before.in-Block.is)
 
-returns-6 : tie.Need-returns-6
-returns-6 c = simp (c.numbered6.ensures, c.before.before.field5.given.1)
+returns-in-HashLength : tie.Need-returns-in-HashLength
+returns-in-HashLength c = simp (c.numbered-in-HashLength.ensures, c.before.in-HashLength.is)
 
-returns-7 : tie.Need-returns-7
-returns-7 c = simp (c.numbered7.ensures, c.before.enum-told2.given.1)
+returns-in-OptionCount : tie.Need-returns-in-OptionCount
+returns-in-OptionCount c = simp (c.numbered-in-OptionCount.ensures, c.before.in-OptionCount.is)
 
 pub word_tagged_spec : {M : Type 1} → statement M
 word_tagged_spec =
     tie.close
     (tie.spec
-    enum-known-field
-    edition-tag-requires
+    enum_known-field
+    edition_tag-requires
     numbered-requires
-    enum_told
-    numbered-requires-2
-    enum-known-field-2
-    numbered-requires-3
-    enum-known-field-3
+    enum_told-1
+    numbered-requires-in-FileCount
+    enum_known-field-in-Flags-1
+    numbered-requires-in-Flags
+    enum_known-field-in-BlockCount-1
     either-requires
-    numbered-requires-4
-    enum-known-field-4
-    numbered-requires-5
-    enum-known-field-5
-    numbered-requires-6
-    enum-told-2
-    numbered-requires-7
-    returns
-    returns-2
-    returns-3
-    returns-4
-    returns-5
-    returns-6
-    returns-7)
+    numbered-requires-in-BlockCount
+    enum_known-field-in-Block-1
+    numbered-requires-in-Block
+    enum_known-field-in-HashLength-1
+    numbered-requires-in-HashLength
+    enum_told-in-OptionCount
+    numbered-requires-in-OptionCount
+    returns-in-Start
+    returns-in-FileCount
+    returns-in-Flags
+    returns-in-BlockCount
+    returns-in-Block
+    returns-in-HashLength
+    returns-in-OptionCount)

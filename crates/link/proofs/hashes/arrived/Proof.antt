@@ -4,11 +4,11 @@ use borrow.Author.Rules.{rules}
 use Rattle.link.proofs.hashes.arrived.Statement.{statement}
 use Rattle.link.proofs.hashes.arrived.Tie as tie
 
-returns : tie.Need-returns
-returns c = simp (sym c.before.is-content.ensures ∙ c.if1.true)
+returns-then-is_content : tie.Need-returns-then-is_content
+returns-then-is_content c = simp (sym c.before.is_content.ensures ∙ c.if-is_content.true)
 
-returns-2 : tie.Need-returns-2
-returns-2 c = simp (sym c.before.is-content.ensures ∙ c.if1.false)
+returns-else-is_content : tie.Need-returns-else-is_content
+returns-else-is_content c = simp (sym c.before.is_content.ensures ∙ c.if-is_content.false)
 
 pub arrived_spec : {M : Type 1} → statement M
-arrived_spec = tie.close (tie.spec (λ c κs. search rules) returns returns-2)
+arrived_spec = tie.close (tie.spec (λ c κs. search rules) returns-then-is_content returns-else-is_content)

@@ -15,8 +15,8 @@ unfolding is_content
 returns c =
     let a = c.before.before.before.before.before.before.before.args in
     c.same_hash.ensures
-    ∙ ap (λ (l : List ℕ). is_equal (compare_lists c.before.before.before.digest.result l)) c.before.part.ensures
-    ∙ ap (λ (l : List ℕ). is_equal (compare_lists l (take 32 a.hashes.now))) (c.before.before.before.digest.ensures ∙ ap digest c.before.before.before.before.spanned.ensures)
+    ∙ ap (λ (l : List ℕ). is_equal (compare_lists c.before.before.before.digest-digest.result l)) c.before.part.ensures
+    ∙ ap (λ (l : List ℕ). is_equal (compare_lists l (take 32 a.hashes.now))) (c.before.before.before.digest-digest.ensures ∙ ap digest c.before.before.before.before.spanned.ensures)
 
 pub is_content_spec : {M : Type 1} → statement M
 is_content_spec =

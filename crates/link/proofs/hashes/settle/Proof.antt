@@ -5,28 +5,28 @@ use Rattle.link.specs.Hashes.{arrival_of, hashes_released}
 use Rattle.link.proofs.hashes.settle.Statement.{statement}
 use Rattle.link.proofs.hashes.settle.Tie as tie
 
-returns : tie.Need-returns
-returns c =
-    let a = c.before.before.before.before.before.before.before.before.before.before.before.args in
-    let e = sym c.before.before.before.before.before.before.before.release.given.1 in
-    (c.before.before.before.before.arrived.ensures ∙ ap (arrival_of a.hashes.now a.message.now) e, c.before.before.shift.ensures ∙ ap (hashes_released a.hashes.now) e)
+returns-in-Data : tie.Need-returns-in-Data
+returns-in-Data c =
+    let a = c.before.before.before.before.before.before.before.before.args in
+    let e = sym c.before.before.before.before.before.in-Data.is in
+    (c.before.before.before.before.arrived-arrival.ensures ∙ ap (arrival_of a.hashes.now a.message.now) e, c.before.before.shift.ensures ∙ ap (hashes_released a.hashes.now) e)
 
-returns-2 : tie.Need-returns-2
-returns-2 c =
-    let a = c.before.before.before.before.before.before.before.before.before.args in
-    let e = sym c.before.before.before.before.before.release2.given.1 in
-    (ap (arrival_of a.hashes.now a.message.now) e, c.before.before.shift2.ensures ∙ ap (hashes_released a.hashes.now) e)
+returns-in-NotAvailable : tie.Need-returns-in-NotAvailable
+returns-in-NotAvailable c =
+    let a = c.before.before.before.before.before.before.before.args in
+    let e = sym c.before.before.before.before.in-NotAvailable.is in
+    (ap (arrival_of a.hashes.now a.message.now) e, c.before.before.shift-in-NotAvailable.ensures ∙ ap (hashes_released a.hashes.now) e)
 
-returns-3 : tie.Need-returns-3
-returns-3 c =
-    let a = c.before.before.before.before.before.before.before.before.before.args in
-    let e = sym c.before.before.before.before.before.release3.given.1 in
-    (ap (arrival_of a.hashes.now a.message.now) e, c.before.before.shift3.ensures ∙ ap (hashes_released a.hashes.now) e)
+returns-in-WrongSize : tie.Need-returns-in-WrongSize
+returns-in-WrongSize c =
+    let a = c.before.before.before.before.before.before.before.args in
+    let e = sym c.before.before.before.before.in-WrongSize.is in
+    (ap (arrival_of a.hashes.now a.message.now) e, c.before.before.shift-in-WrongSize.ensures ∙ ap (hashes_released a.hashes.now) e)
 
-returns-4 : tie.Need-returns-4
-returns-4 c =
-    let a = c.before.before.before.before.before.args in
-    let e = sym c.before.release4.given.1 in
+returns-in-Refused : tie.Need-returns-in-Refused
+returns-in-Refused c =
+    let a = c.before.before.before.args in
+    let e = sym c.in-Refused.is in
     (ap (arrival_of a.hashes.now a.message.now) e, ap (hashes_released a.hashes.now) e)
 
 pub settle_spec : {M : Type 1} → statement M
@@ -42,9 +42,9 @@ settle_spec =
     (λ c κs. search rules)
     (λ c. search rules)
     (λ c. search rules)
-    returns
+    returns-in-Data
     (λ c. search rules)
-    returns-2
+    returns-in-NotAvailable
     (λ c. search rules)
-    returns-3
-    returns-4)
+    returns-in-WrongSize
+    returns-in-Refused)

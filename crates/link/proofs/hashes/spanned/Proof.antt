@@ -5,14 +5,14 @@ use borrow.Author.Rules.{rules}
 use Rattle.link.proofs.hashes.spanned.Statement.{statement}
 use Rattle.link.proofs.hashes.spanned.Tie as tie
 
+returns-then-len-start : tie.Need-returns-then-len-start
+returns-then-len-start c = let a = c.before.before.args in span_beyond a.message.now a.«data».start a.«data».length (omega arith)
+
+returns-then-len-start-2 : tie.Need-returns-then-len-start-2
+returns-then-len-start-2 c = let a = c.before.before.before.before.args in span_cut a.message.now a.«data».start a.«data».length (omega arith) (omega arith)
+
 returns : tie.Need-returns
-returns c = let a = c.before.before.args in span_beyond a.message.now a.«data».start a.«data».length (omega arith)
-
-returns-2 : tie.Need-returns-2
-returns-2 c = let a = c.before.before.before.before.args in span_cut a.message.now a.«data».start a.«data».length (omega arith) (omega arith)
-
-returns-3 : tie.Need-returns-3
-returns-3 c = let a = c.before.before.before.before.before.args in span_whole a.message.now a.«data».start a.«data».length _ (omega arith)
+returns c = let a = c.before.before.before.before.before.args in span_whole a.message.now a.«data».start a.«data».length _ (omega arith)
 
 pub spanned_spec : {M : Type 1} → statement M
 spanned_spec =
@@ -21,12 +21,12 @@ spanned_spec =
     (λ c. search rules)
     (λ c. search rules)
     (λ c. search rules)
-    returns
+    returns-then-len-start
     (λ c. search rules)
     (λ c. search rules)
-    returns-2
+    returns-then-len-start-2
     (λ c. search rules)
     (λ c. search rules)
     (λ c. search rules)
     (λ c. search rules)
-    returns-3)
+    returns)

@@ -13,19 +13,19 @@ use Rattle.link.proofs.list.barred.Tie as tie
 kept : (k : ℕ) (r : Refusal) → (r.number ≡ 14 → ⊥) → F.Refused r ≡ barred_answer k (F.Refused r)
 kept k r h = rw (ne_eqb r.number 14 h) refl
 
-returns : tie.Need-returns
-returns c = c.refused.ensures ∙ ap (barred_answer c.before.before.before.args.fault) (sym c.before.enum_told.given.1)
+returns-in_default : tie.Need-returns-in_default
+returns-in_default c = c.refused.ensures ∙ ap (barred_answer c.before.before.args.fault) (sym c.before.in_default.is)
 
-returns-2 : tie.Need-returns-2
-returns-2 c =
-    let a = c.before.before.before.before in
-    c.refused2.ensures ∙ rw (a.answer.given.1, eq-eqb _ _ c.before.if1.true) refl
-
-returns-3 : tie.Need-returns-3
-returns-3 c =
+returns-then-r-eq14 : tie.Need-returns-then-r-eq14
+returns-then-r-eq14 c =
     let a = c.before.before.before in
-    kept a.before.before.args.fault _ c.if1.false ∙ ap (barred_answer a.before.before.args.fault) (sym a.answer.given.1)
+    c.refused-then-r-eq14.ensures ∙ rw (a.in-Refused.is, eq-eqb _ _ c.before.if-r-eq14.true) refl
+
+returns : tie.Need-returns
+returns c =
+    let a = c.before.before in
+    kept a.before.args.fault _ c.if-r-eq14.false ∙ ap (barred_answer a.before.args.fault) (sym a.in-Refused.is)
 
 pub barred_spec : {M : Type 1} → statement M
 barred_spec =
-    tie.close (tie.spec (λ c. search rules) (λ c. search rules) (λ c κs. search rules) returns (λ c κs. search rules) returns-2 returns-3)
+    tie.close (tie.spec (λ c. search rules) (λ c. search rules) (λ c κs. search rules) returns-in_default (λ c κs. search rules) returns-then-r-eq14 returns)

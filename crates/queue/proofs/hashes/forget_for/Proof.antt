@@ -12,26 +12,26 @@ use borrow.Author.Rules.{rules}
 use Rattle.queue.proofs.hashes.forget_for.Statement.{statement}
 use Rattle.queue.proofs.hashes.forget_for.Tie as tie
 
-is : (c : tie.After-forget-in-arg) → is_peer c.before.before.before.args.peer ≡ true
-is c = sym c.before.before.is-peer.ensures ∙ not-false _ c.before.if1.false
+is : (c : tie.After-forget_in-arg-1) → is_peer c.before.before.before.args.peer ≡ true
+is c = sym c.before.before.is_peer.ensures ∙ c.before.if-not-is_peer.false
 
-long : (c : tie.After-forget-in-arg) → length c.before.before.before.args.hashes.now ≡ 2048
+long : (c : tie.After-forget_in-arg-1) → length c.before.before.before.args.hashes.now ≡ 2048
 long c = search rules
 
-requires-forget-in : tie.Need-forget-in-requires
+requires-forget-in : tie.Need-forget_in-requires
 requires-forget-in c κs = let f = peer_facts c.before.before.before.args.peer (is c) in (f.0, omega (arith, f.1, long c))
+
+returns-then-not-is_peer : tie.Need-returns-then-not-is_peer
+returns-then-not-is_peer c =
+    let a = c.before.before.args in
+    let hs = a.hashes.now in
+    sym (at_23 a.peer (with_share hash_bytes hs a.peer no_hashes) hs (sym c.before.is_peer.ensures ∙ c.if-not-is_peer.true))
 
 returns : tie.Need-returns
 returns c =
-    let a = c.before.before.args in
-    let hs = a.hashes.now in
-    sym (at_23 a.peer (with_share hash_bytes hs a.peer no_hashes) hs (sym c.before.is-peer.ensures ∙ not-true _ c.if1.true))
-
-returns-2 : tie.Need-returns-2
-returns-2 c =
     let a = c.before.before.before.before.args in
     let hs = a.hashes.now in
-    c.forget-in.ensures ∙ sym (past_23 a.peer (with_share hash_bytes hs a.peer no_hashes) hs (is c.before))
+    c.forget_in.ensures ∙ sym (past_23 a.peer (with_share hash_bytes hs a.peer no_hashes) hs (is c.before))
 
 pub forget_for_spec : {M : Type 1} → statement M
-forget_for_spec = tie.close (tie.spec (λ c κs. search rules) returns requires-forget-in returns-2)
+forget_for_spec = tie.close (tie.spec (λ c κs. search rules) returns-then-not-is_peer requires-forget-in returns)

@@ -19,7 +19,7 @@ returns c =
     let hs : List ℕ = a.hashes.now in
     let at : ℕ = (a.peer - 1) * 512 in
     let same : at ≡ hash_bytes * (a.peer - 1) = omega arith in
-    c.before.before.put-raw.ensures.1
+    c.before.before.put_raw.ensures.1
     ∙ ap (λ (t : Bool). cond t (over hs at no_hashes) hs) (le-leb (at + 512) (length hs) (omega arith))
     ∙ ap (λ (k : ℕ). over hs k no_hashes) same
 

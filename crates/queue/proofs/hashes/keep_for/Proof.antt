@@ -12,26 +12,26 @@ use borrow.Author.Rules.{rules}
 use Rattle.queue.proofs.hashes.keep_for.Statement.{statement}
 use Rattle.queue.proofs.hashes.keep_for.Tie as tie
 
-is : (c : tie.After-keep-in-arg) → is_peer c.before.before.before.before.args.peer ≡ true
-is c = sym c.before.before.is-peer.ensures ∙ not-false _ c.before.if1.false
+is : (c : tie.After-keep_in-arg-1) → is_peer c.before.before.before.before.args.peer ≡ true
+is c = sym c.before.before.is_peer.ensures ∙ c.before.if-not-is_peer.false
 
-long : (c : tie.After-keep-in-arg) → length c.before.before.before.before.args.hashes.now ≡ 2048
+long : (c : tie.After-keep_in-arg-1) → length c.before.before.before.before.args.hashes.now ≡ 2048
 long c = search rules
 
-requires-keep-in : tie.Need-keep-in-requires
+requires-keep-in : tie.Need-keep_in-requires
 requires-keep-in c κs = let f = peer_facts c.before.before.before.before.args.peer (is c) in (f.0, omega (arith, f.1, long c))
+
+returns-then-not-is_peer : tie.Need-returns-then-not-is_peer
+returns-then-not-is_peer c =
+    let a = c.before.before.before.args in
+    let hs = a.hashes.now in
+    sym (at_23 a.peer (with_share hash_bytes hs a.peer (hashes_filled (share_of hash_bytes hs a.peer) a.slot a.hash.now a.filling)) hs (sym c.before.is_peer.ensures ∙ c.if-not-is_peer.true))
 
 returns : tie.Need-returns
 returns c =
-    let a = c.before.before.before.args in
-    let hs = a.hashes.now in
-    sym (at_23 a.peer (with_share hash_bytes hs a.peer (hashes_filled (share_of hash_bytes hs a.peer) a.slot a.hash.now a.filling)) hs (sym c.before.is-peer.ensures ∙ not-true _ c.if1.true))
-
-returns-2 : tie.Need-returns-2
-returns-2 c =
     let a = c.before.before.before.before.before.args in
     let hs = a.hashes.now in
-    c.keep-in.ensures ∙ sym (past_23 a.peer (with_share hash_bytes hs a.peer (hashes_filled (share_of hash_bytes hs a.peer) a.slot a.hash.now a.filling)) hs (is c.before))
+    c.keep_in.ensures ∙ sym (past_23 a.peer (with_share hash_bytes hs a.peer (hashes_filled (share_of hash_bytes hs a.peer) a.slot a.hash.now a.filling)) hs (is c.before))
 
 pub keep_for_spec : {M : Type 1} → statement M
-keep_for_spec = tie.close (tie.spec (λ c κs. search rules) returns requires-keep-in returns-2)
+keep_for_spec = tie.close (tie.spec (λ c κs. search rules) returns-then-not-is_peer requires-keep-in returns)

@@ -3,11 +3,11 @@ use borrow.Author.Tests.{le-leb, lt-leb}
 use Rattle.queue.proofs.queue.is_peer.Statement.{statement}
 use Rattle.queue.proofs.queue.is_peer.Tie as tie
 
-returns : tie.Need-returns
-returns c = simp (lt-leb _ _ c.if1.true)
+returns-then-peer-lt1 : tie.Need-returns-then-peer-lt1
+returns-then-peer-lt1 c = simp (lt-leb _ _ c.if-peer-lt1.true)
 
-returns-2 : tie.Need-returns-2
-returns-2 c = simp (le-leb _ _ c.if1.false)
+returns : tie.Need-returns
+returns c = simp (le-leb _ _ c.if-peer-lt1.false)
 
 pub is_peer_spec : {M : Type 1} → statement M
-is_peer_spec = tie.close (tie.spec returns returns-2)
+is_peer_spec = tie.close (tie.spec returns-then-peer-lt1 returns)

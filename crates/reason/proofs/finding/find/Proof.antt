@@ -12,30 +12,30 @@ use borrow.Author.Rules.{rules}
 use Rattle.reason.proofs.finding.find.Statement.{statement}
 use Rattle.reason.proofs.finding.find.Tie as tie
 
-abbrev invariant-loop : tie.invariant-loop
+abbrev invariant-loop : tie.invariant-loop-f
 invariant-loop table name at₀ at = Seeking table name at
 
-abbrev decreases-loop : tie.decreases-loop
+abbrev decreases-loop : tie.decreases-loop-f
 decreases-loop table name at₀ at = length table - at
 
-loop-holds : tie.Need-loop-init invariant-loop decreases-loop
-loop-holds c = seek_starts c.before.before.args.table.now c.before.before.args.name.now (λ i. (c.before.shared-slice-known.given i).fits) c.before.before.requires
+loop-holds : tie.Need-loop-f-init invariant-loop decreases-loop
+loop-holds c = seek_starts c.before.before.args.table.now c.before.before.args.name.now (λ i. (c.before.shared_slice_known-1.given i).fits) c.before.before.requires
 
-returns : tie.Need-returns invariant-loop decreases-loop
-returns c = seek_ends c.before.before.before.loop.invariant c.before.before.outline-at.ensures c.enum_told.given.1
+returns-in_default : tie.Need-returns-in_default invariant-loop decreases-loop
+returns-in_default c = seek_ends c.before.before.loop-f.invariant c.before.outline_at.ensures c.in_default.is
 
-returns-2 : tie.Need-returns-2 invariant-loop decreases-loop
-returns-2 c =
-    seek_found c.before.before.before.before.before.before.before.before.loop.invariant c.before.before.before.before.before.before.before.outline-at.ensures c.before.before.before.before.before.f.given.1
-    (ap (λ (l : List ℕ). is_equal (compare_lists l c.before.before.before.before.before.before.before.before.before.before.before.args.name.now)) (sym c.before.before.before.part.ensures) ∙ ap is_equal (sym c.before.before.compare-bytes.ensures) ∙ sym c.before.is_equal.ensures ∙ c.if1.true)
+returns-then-is_equal : tie.Need-returns-then-is_equal invariant-loop decreases-loop
+returns-then-is_equal c =
+    seek_found c.before.before.before.before.before.before.loop-f.invariant c.before.before.before.before.before.outline_at.ensures c.before.before.before.before.in-Whole.is
+    (ap (λ (l : List ℕ). is_equal (compare_lists l c.before.before.before.before.before.before.before.before.before.args.name.now)) (sym c.before.before.before.part.ensures) ∙ ap is_equal (sym c.before.before.compare_bytes.ensures) ∙ sym c.before.is_equal.ensures ∙ c.if-is_equal.true)
 
-loop-less : tie.Need-loop-smaller invariant-loop decreases-loop
-loop-less c = let g = seek_grows c.before.before.before.before.before.before.before.before.loop.invariant c.before.before.before.before.before.before.before.outline-at.ensures c.before.before.before.before.before.f.given.1 in omega (arith, g.0, g.1)
+loop-less : tie.Need-loop-f-smaller invariant-loop decreases-loop
+loop-less c = let g = seek_grows c.before.before.before.before.before.before.loop-f.invariant c.before.before.before.before.before.outline_at.ensures c.before.before.before.before.in-Whole.is in omega (arith, g.0, g.1)
 
-loop-again : tie.Need-loop-preserved invariant-loop decreases-loop
+loop-again : tie.Need-loop-f-preserved invariant-loop decreases-loop
 loop-again c =
-    seek_on c.before.before.before.before.before.before.before.before.loop.invariant c.before.before.before.before.before.before.before.outline-at.ensures c.before.before.before.before.before.f.given.1
-    (ap (λ (l : List ℕ). is_equal (compare_lists l c.before.before.before.before.before.before.before.before.before.before.before.args.name.now)) (sym c.before.before.before.part.ensures) ∙ ap is_equal (sym c.before.before.compare-bytes.ensures) ∙ sym c.before.is_equal.ensures ∙ c.if1.false)
+    seek_on c.before.before.before.before.before.before.loop-f.invariant c.before.before.before.before.before.outline_at.ensures c.before.before.before.before.in-Whole.is
+    (ap (λ (l : List ℕ). is_equal (compare_lists l c.before.before.before.before.before.before.before.before.before.args.name.now)) (sym c.before.before.before.part.ensures) ∙ ap is_equal (sym c.before.before.compare_bytes.ensures) ∙ sym c.before.is_equal.ensures ∙ c.if-is_equal.false)
 
 pub find_spec : {M : Type 1} → statement M
 find_spec =
@@ -47,10 +47,10 @@ find_spec =
     (λ c κs. search rules)
     (λ c. search rules)
     (λ c. search rules)
-    returns
+    returns-in_default
     (λ c κs. search rules)
     (λ c κs. search rules)
     (λ c κs. search rules)
-    returns-2
+    returns-then-is_equal
     loop-less
     loop-again)

@@ -15,44 +15,44 @@ use borrow.Author.Rules.{rules}
 use Rattle.reason.proofs.peers.lowest.Statement.{statement}
 use Rattle.reason.proofs.peers.lowest.Tie as tie
 
-abbrev invariant-loop : tie.invariant-loop
+abbrev invariant-loop : tie.invariant-loop-k
 invariant-loop t1 name offset size hash tables k₀ k = (1 ≤ k) × (peers_from (name) offset (block_with size hash) (map (λ x. x.now) t1) 1 ≡ peers_from (name) offset (block_with size hash) (map (λ x. x.now) t1) k)
 
-abbrev decreases-loop : tie.decreases-loop
+abbrev decreases-loop : tie.decreases-loop-k
 decreases-loop t1 name offset size hash tables k₀ k = 5 - k
 
-loop-holds : tie.Need-loop-init invariant-loop decreases-loop
+loop-holds : tie.Need-loop-k-init invariant-loop decreases-loop
 loop-holds c = (omega arith, refl)
 
 find-requires : tie.Need-find-requires invariant-loop decreases-loop
-find-requires c κs = ap is_good (element (λ x. x.now) c.before.before.before.before.before.args.t1 c.before.before.loop.k _ refl) ∙ c.before.before.before.before.before.requires.good c.before.before.loop.k c.before.loop-test.true
+find-requires c κs = ap is_good (element (λ x. x.now) c.before.before.before.before.before.args.tables c.before.before.loop-k.k _ refl) ∙ c.before.before.before.before.before.requires.good c.before.before.loop-k.k c.before.loop-k-test.true
 
 -- whether the peer lists it
-asked : (c : tie.After-lists-at invariant-loop decreases-loop) → c.lists_at.result ≡ lists_there (records (table_at (map (λ x. x.now) c.before.before.before.before.before.before.before.args.t1) c.before.before.before.before.loop.k)) c.before.before.before.before.before.before.before.args.name.now c.before.before.before.before.before.before.before.args.offset (block_with c.before.before.before.before.before.before.before.args.size c.before.before.before.before.before.before.before.args.hash.now)
+asked : (c : tie.After-lists_at invariant-loop decreases-loop) → c.lists_at.result ≡ lists_there (records (table_at (map (λ x. x.now) c.before.before.before.before.before.before.before.args.tables) c.before.before.before.before.loop-k.k)) c.before.before.before.before.before.before.before.args.name.now c.before.before.before.before.before.before.before.args.offset (block_with c.before.before.before.before.before.before.before.args.size c.before.before.before.before.before.before.before.args.hash.now)
 asked c =
     let a = c.before.before.before.before.before.before.before.args in
-    let k = c.before.before.before.before.loop.k in
+    let k = c.before.before.before.before.loop-k.k in
     let b = block_with a.size a.hash.now in
-    let there : At (table_at (map (λ x. x.now) a.t1) k) c.before.find.result (named_from a.name.now (records (table_at (map (λ x. x.now) a.t1) k))) =
-    subst (λ (t : List ℕ). At t c.before.find.result (named_from a.name.now (records t))) (element (λ x. x.now) a.t1 k _ refl) c.before.find.ensures in
+    let there : At (table_at (map (λ x. x.now) a.tables) k) c.before.find.result (named_from a.name.now (records (table_at (map (λ x. x.now) a.tables) k))) =
+    subst (λ (t : List ℕ). At t c.before.find.result (named_from a.name.now (records t))) (element (λ x. x.now) a.tables k _ refl) c.before.find.ensures in
     c.lists_at.ensures
-    ∙ ap (λ (t : List ℕ). lists_at t c.before.find.result a.name.now a.offset b) (element (λ x. x.now) a.t1 k _ refl)
+    ∙ ap (λ (t : List ℕ). lists_at t c.before.find.result a.name.now a.offset b) (element (λ x. x.now) a.tables k _ refl)
     ∙ lists_found a.name.now a.offset b there
+
+returns-then-lists_at : tie.Need-returns-then-lists_at invariant-loop decreases-loop
+returns-then-lists_at c =
+    let a = c.before.before.before.before.before.before.before.before.args in
+    sym (c.before.before.before.before.before.loop-k.invariant.1 ∙ peer_found a.name.now a.offset (block_with a.size a.hash.now) c.before.before.before.before.before.before.before.before.requires c.before.before.before.before.before.loop-k.k c.before.before.before.before.loop-k-test.true (sym (asked c.before) ∙ c.if-lists_at.true))
+
+loop-again : tie.Need-loop-k-preserved invariant-loop decreases-loop
+loop-again c =
+    let a = c.before.before.before.before.before.before.before.before.args in
+    (omega arith, c.before.before.before.before.before.loop-k.invariant.1 ∙ peer_on a.name.now a.offset (block_with a.size a.hash.now) c.before.before.before.before.before.before.before.before.requires c.before.before.before.before.before.loop-k.k c.before.before.before.before.loop-k-test.true (sym (asked c.before) ∙ c.if-lists_at.false))
 
 returns : tie.Need-returns invariant-loop decreases-loop
 returns c =
-    let a = c.before.before.before.before.before.before.before.before.args in
-    sym (c.before.before.before.before.before.loop.invariant.1 ∙ peer_found a.name.now a.offset (block_with a.size a.hash.now) c.before.before.before.before.before.before.before.before.requires c.before.before.before.before.before.loop.k c.before.before.before.before.loop-test.true (sym (asked c.before) ∙ c.if1.true))
-
-loop-again : tie.Need-loop-preserved invariant-loop decreases-loop
-loop-again c =
-    let a = c.before.before.before.before.before.before.before.before.args in
-    (omega arith, c.before.before.before.before.before.loop.invariant.1 ∙ peer_on a.name.now a.offset (block_with a.size a.hash.now) c.before.before.before.before.before.before.before.before.requires c.before.before.before.before.before.loop.k c.before.before.before.before.loop-test.true (sym (asked c.before) ∙ c.if1.false))
-
-returns-2 : tie.Need-returns-2 invariant-loop decreases-loop
-returns-2 c =
     let a = c.before.before.before.before.args in
-    sym (c.before.loop.invariant.1 ∙ peer_none a.name.now a.offset (block_with a.size a.hash.now) c.before.before.before.before.requires c.before.loop.k c.loop-test.false)
+    sym (c.before.loop-k.invariant.1 ∙ peer_none a.name.now a.offset (block_with a.size a.hash.now) c.before.before.before.before.requires c.before.loop-k.k c.loop-k-test.false)
 
 pub lowest_spec : {M : Type 1} → statement M
 lowest_spec =
@@ -61,13 +61,13 @@ lowest_spec =
     invariant-loop
     decreases-loop
     loop-holds
-    (λ c. omega (arith, c.loop-test.true))
-    (λ c. omega (arith, c.loop-test.true))
+    (λ c. omega (arith, c.loop-k-test.true))
+    (λ c. omega (arith, c.loop-k-test.true))
     find-requires
     (λ c κs. search rules)
-    (λ c. omega (arith, c.before.before.before.before.loop-test.true))
-    returns
-    (λ c. omega (arith, c.before.before.before.before.loop-test.true))
-    (λ c. omega (arith, c.before.before.before.before.loop-test.true))
+    (λ c. omega (arith, c.before.before.before.before.loop-k-test.true))
+    returns-then-lists_at
+    (λ c. omega (arith, c.before.before.before.before.loop-k-test.true))
+    (λ c. omega (arith, c.before.before.before.before.loop-k-test.true))
     loop-again
-    returns-2)
+    returns)

@@ -19,24 +19,24 @@ use Rattle.reason.proofs.reasons.by_block.Statement.{statement}
 use Rattle.reason.proofs.reasons.by_block.Tie as tie
 
 -- what the search found
-found : (c : tie.After-find-local) → c.find-local.result ≡ found_from 0 (records (table_at (map (λ x. x.now) c.before.before.before.before.args.t1) 0)) (block_with c.before.before.before.before.args.size c.before.before.before.before.args.hash.now)
+found : (c : tie.After-find_local-found) → c.find_local-found.result ≡ found_from 0 (records (table_at (map (λ x. x.now) c.before.before.before.before.args.tables) 0)) (block_with c.before.before.before.before.args.size c.before.before.before.before.args.hash.now)
 found c =
     let a = c.before.before.before.before.args in
     let b = block_with a.size a.hash.now in
-    c.find-local.ensures ∙ ap (λ (t : List ℕ). found_in t b) (element (λ x. x.now) a.t1 0 _ refl) ∙ found_good (table_at (map (λ x. x.now) a.t1) 0) b (c.before.before.before.before.requires.good 0 (omega arith))
+    c.find_local-found.ensures ∙ ap (λ (t : List ℕ). found_in t b) (element (λ x. x.now) a.tables 0 _ refl) ∙ found_good (table_at (map (λ x. x.now) a.tables) 0) b (c.before.before.before.before.requires.good 0 (omega arith))
 
 -- whom to ask
-abbrev peer : (c : tie.After-find-local) → ℕ
-peer c = let a = c.before.before.before.before.args in peer_from 1 (map records (drop 1 (map (λ x. x.now) a.t1))) a.name.now a.offset (block_with a.size a.hash.now)
+abbrev peer : (c : tie.After-find_local-found) → ℕ
+peer c = let a = c.before.before.before.before.args in peer_from 1 (map records (drop 1 (map (λ x. x.now) a.tables))) a.name.now a.offset (block_with a.size a.hash.now)
 
-returns : tie.Need-returns
-returns c = ap (λ (x : Found). held_or x (peer c.before.before.before)) (sym c.before.found.given.1 ∙ found c.before.before.before)
+returns-in-At : tie.Need-returns-in-At
+returns-in-At c = ap (λ (x : Found). held_or x (peer c.before)) (sym c.in-At.is ∙ found c.before)
 
-returns-2 : tie.Need-returns-2
-returns-2 c = ap R.Wanted c.lowest.ensures ∙ ap (λ (x : Found). held_or x (peer c.before.before.before)) (sym c.before.enum_told.given.1 ∙ found c.before.before.before)
+returns-in-Nothing : tie.Need-returns-in-Nothing
+returns-in-Nothing c = ap R.Wanted c.lowest.ensures ∙ ap (λ (x : Found). held_or x (peer c.before.before)) (sym c.before.in-Nothing.is ∙ found c.before.before)
 
-returns-3 : tie.Need-returns-3
-returns-3 c = ap (λ (x : Found). held_or x (peer c.before.before.before)) (sym c.before.found2.given.1 ∙ found c.before.before.before)
+returns-in-Refused : tie.Need-returns-in-Refused
+returns-in-Refused c = ap (λ (x : Found). held_or x (peer c.before)) (sym c.in-Refused.is ∙ found c.before)
 
 pub by_block_spec : {M : Type 1} → statement M
 by_block_spec =
@@ -48,6 +48,6 @@ by_block_spec =
     (λ c. search rules)
     (λ c κs. search rules)
     (λ c. search rules)
-    returns
-    returns-2
-    returns-3)
+    returns-in-At
+    returns-in-Nothing
+    returns-in-Refused)

@@ -10,26 +10,26 @@ use borrow.Author.Rules.{rules}
 use Rattle.reason.proofs.reasons.by_record.Statement.{statement}
 use Rattle.reason.proofs.reasons.by_record.Tie as tie
 
+returns-then-deleted : tie.Need-returns-then-deleted
+returns-then-deleted c at g gs w e m = record_deleted (records (table_at (map (λ x. x.now) c.before.before.before.before.before.args.tables) 0)) (map records (drop 1 (map (λ x. x.now) c.before.before.before.before.before.args.tables))) c.before.before.before.before.before.args.block w e (sym c.before.before.is_deleted-deleted.ensures ∙ c.if-deleted.true)
+
+returns-then-invalid : tie.Need-returns-then-invalid
+returns-then-invalid c at g gs w e m = record_invalid (records (table_at (map (λ x. x.now) c.before.before.before.before.before.before.args.tables) 0)) (map records (drop 1 (map (λ x. x.now) c.before.before.before.before.before.before.args.tables))) c.before.before.before.before.before.before.args.block w e (sym c.before.before.before.is_deleted-deleted.ensures ∙ c.before.if-deleted.false) (sym c.before.before.is_invalid-invalid.ensures ∙ c.if-invalid.true)
+
+returns-then-f-block : tie.Need-returns-then-f-block
+returns-then-f-block c at g gs w e m = record_beyond (records (table_at (map (λ x. x.now) c.before.before.before.before.before.before.before.before.args.tables) 0)) (map records (drop 1 (map (λ x. x.now) c.before.before.before.before.before.before.before.before.args.tables))) c.before.before.before.before.before.before.before.before.args.block w e (sym c.before.before.before.before.before.is_deleted-deleted.ensures ∙ c.before.before.before.if-deleted.false) (sym c.before.before.before.before.is_invalid-invalid.ensures ∙ c.before.before.if-invalid.false) c.if-f-block.true
+
+returns-in_default : tie.Need-returns-in_default
+returns-in_default c at g gs w e m = record_short (records (table_at (map (λ x. x.now) c.before.before.before.before.before.before.before.before.before.before.args.tables) 0)) (map records (drop 1 (map (λ x. x.now) c.before.before.before.before.before.before.before.before.before.before.args.tables))) c.before.before.before.before.before.before.before.before.before.before.args.block w e (sym c.before.before.before.before.before.before.before.is_deleted-deleted.ensures ∙ c.before.before.before.before.before.if-deleted.false) (sym c.before.before.before.before.before.before.is_invalid-invalid.ensures ∙ c.before.before.before.before.if-invalid.false) c.before.before.if-f-block.false (sym c.before.block_at.ensures ∙ c.in_default.is)
+
+overflow_add-hash : tie.Need-overflow_add-hash
+overflow_add-hash c = omega (arith, block_inside c.before.before.before.before.before.before.before.before.before.before.before.args.t.now c.before.before.before.before.before.before.before.before.before.before.before.args.f.first c.before.before.before.before.before.before.before.before.before.before.before.args.block (sym c.before.before.block_at.ensures ∙ c.before.in-Whole.is))
+
 returns : tie.Need-returns
-returns c at g gs w e m = record_deleted (records (table_at (map (λ x. x.now) c.before.before.before.before.before.args.tables) 0)) (map records (drop 1 (map (λ x. x.now) c.before.before.before.before.before.args.tables))) c.before.before.before.before.before.args.block w e (sym c.before.before.is-deleted.ensures ∙ c.if1.true)
-
-returns-2 : tie.Need-returns-2
-returns-2 c at g gs w e m = record_invalid (records (table_at (map (λ x. x.now) c.before.before.before.before.before.before.args.tables) 0)) (map records (drop 1 (map (λ x. x.now) c.before.before.before.before.before.before.args.tables))) c.before.before.before.before.before.before.args.block w e (sym c.before.before.before.is-deleted.ensures ∙ c.before.if1.false) (sym c.before.before.is-invalid.ensures ∙ c.if2.true)
-
-returns-3 : tie.Need-returns-3
-returns-3 c at g gs w e m = record_beyond (records (table_at (map (λ x. x.now) c.before.before.before.before.before.before.before.before.args.tables) 0)) (map records (drop 1 (map (λ x. x.now) c.before.before.before.before.before.before.before.before.args.tables))) c.before.before.before.before.before.before.before.before.args.block w e (sym c.before.before.before.before.before.is-deleted.ensures ∙ c.before.before.before.if1.false) (sym c.before.before.before.before.is-invalid.ensures ∙ c.before.before.if2.false) c.if3.true
-
-returns-4 : tie.Need-returns-4
-returns-4 c at g gs w e m = record_short (records (table_at (map (λ x. x.now) c.before.before.before.before.before.before.before.before.before.before.before.args.tables) 0)) (map records (drop 1 (map (λ x. x.now) c.before.before.before.before.before.before.before.before.before.before.before.args.tables))) c.before.before.before.before.before.before.before.before.before.before.before.args.block w e (sym c.before.before.before.before.before.before.before.before.is-deleted.ensures ∙ c.before.before.before.before.before.before.if1.false) (sym c.before.before.before.before.before.before.before.is-invalid.ensures ∙ c.before.before.before.before.before.if2.false) c.before.before.before.if3.false (sym c.before.before.block_at.ensures ∙ c.enum_told.given.1)
-
-add-part : tie.Need-overflow-add-part
-add-part c = omega (arith, block_inside c.before.before.before.before.before.before.before.before.before.before.before.before.before.args.t.now c.before.before.before.before.before.before.before.before.before.before.before.before.before.args.f.first c.before.before.before.before.before.before.before.before.before.before.before.before.before.args.block (sym c.before.before.before.before.block_at.ensures ∙ c.before.before.size.given.1))
-
-returns-5 : tie.Need-returns-5
-returns-5 c at g gs w e m =
+returns c at g gs w e m =
     c.by_block.ensures
-    ∙ record_block (records (table_at (map (λ x. x.now) c.before.before.before.before.before.before.before.before.before.before.before.before.before.before.before.args.tables) 0)) (map records (drop 1 (map (λ x. x.now) c.before.before.before.before.before.before.before.before.before.before.before.before.before.before.before.args.tables))) c.before.before.before.before.before.before.before.before.before.before.before.before.before.before.before.args.block w e (sym c.before.before.before.before.before.before.before.before.before.before.before.before.is-deleted.ensures ∙ c.before.before.before.before.before.before.before.before.before.before.if1.false) (sym c.before.before.before.before.before.before.before.before.before.before.before.is-invalid.ensures ∙ c.before.before.before.before.before.before.before.before.before.if2.false) c.before.before.before.before.before.before.before.if3.false
-    (sym c.before.before.before.before.before.before.block_at.ensures ∙ c.before.before.before.before.size.given.1) m c.before.before.offset-of.ensures c.before.part.ensures
+    ∙ record_block (records (table_at (map (λ x. x.now) c.before.before.before.before.before.before.before.before.before.before.before.before.before.args.tables) 0)) (map records (drop 1 (map (λ x. x.now) c.before.before.before.before.before.before.before.before.before.before.before.before.before.args.tables))) c.before.before.before.before.before.before.before.before.before.before.before.before.before.args.block w e (sym c.before.before.before.before.before.before.before.before.before.before.is_deleted-deleted.ensures ∙ c.before.before.before.before.before.before.before.before.if-deleted.false) (sym c.before.before.before.before.before.before.before.before.before.is_invalid-invalid.ensures ∙ c.before.before.before.before.before.before.before.if-invalid.false) c.before.before.before.before.before.if-f-block.false
+    (sym c.before.before.before.before.block_at.ensures ∙ c.before.before.before.in-Whole.is) m c.before.before.offset_of-offset.ensures c.before.part.ensures
 
 pub by_record_spec : {M : Type 1} → statement M
 by_record_spec =
@@ -37,15 +37,15 @@ by_record_spec =
     (tie.spec
     (λ c κs. search rules)
     (λ c κs. search rules)
-    returns
-    returns-2
-    returns-3
+    returns-then-deleted
+    returns-then-invalid
+    returns-then-f-block
     (λ c κs. search rules)
     (λ c. search rules)
     (λ c. search rules)
-    returns-4
+    returns-in_default
     (λ c κs. search rules)
-    add-part
+    overflow_add-hash
     (λ c κs. search rules)
     (λ c κs. search rules)
-    returns-5)
+    returns)

@@ -29,59 +29,59 @@ abbrev tables : tie.Start → List (List ℕ)
 tables c = c.args.local.now ∷ peers c
 
 -- where they are good
-abbrev start : tie.Else1 → tie.Start
+abbrev start : tie.Else-not-all_good → tie.Start
 start c = c.before.before.before.before.before.before.before.before
 
-five : (c : tie.Else1) → Five (tables (start c))
+five : (c : tie.Else-not-all_good) → Five (tables (start c))
 five c =
     let s = (start c).args in
     five_good s.local.now s.peer1.now s.peer2.now s.peer3.now s.peer4.now
-    (λ i. (c.before.before.before.before.before.before.before.shared-slice-known.given i).fits) (λ i. (c.before.before.before.before.before.before.shared-slice-known2.given i).fits) (λ i. (c.before.before.before.before.before.shared-slice-known3.given i).fits)
-    (λ i. (c.before.before.before.before.shared-slice-known4.given i).fits) (λ i. (c.before.before.before.shared-slice-known5.given i).fits)
-    c.before.all_good.ensures (not-false _ c.if1.false)
+    (λ i. (c.before.before.before.before.before.before.before.shared_slice_known-1.given i).fits) (λ i. (c.before.before.before.before.before.before.shared_slice_known-2-1.given i).fits) (λ i. (c.before.before.before.before.before.shared_slice_known-3-1.given i).fits)
+    (λ i. (c.before.before.before.before.shared_slice_known-4-1.given i).fits) (λ i. (c.before.before.before.shared_slice_known-5-1.given i).fits)
+    c.before.all_good.ensures (c.if-not-all_good.false)
 
 -- the records of all, and the reason of each
 abbrev merged : tie.Start → List File
 merged c = merged_of (map records (tables c))
 
-good : (c : tie.Else1) → let s = start c in why_of s.args.local.now (peers s) s.args.name.now s.args.block
+good : (c : tie.Else-not-all_good) → let s = start c in why_of s.args.local.now (peers s) s.args.name.now s.args.block
     ≡ why_named (why_record (records s.args.local.now) (map records (peers s)) s.args.block) s.args.name.now (merged s)
-good c = let s = start c in why_good s.args.local.now (peers s) s.args.name.now s.args.block c.before.all_good.ensures (not-false _ c.if1.false)
+good c = let s = start c in why_good s.args.local.now (peers s) s.args.name.now s.args.block c.before.all_good.ensures (c.if-not-all_good.false)
+
+returns-then-not-all_good : tie.Need-returns-then-not-all_good
+returns-then-not-all_good c =
+    let s = c.before.before.before.before.before.before.before.before.before in
+    ap R.Refused c.at_start.ensures ∙ why_bad s.args.local.now (peers s) s.args.name.now s.args.block c.before.before.all_good.ensures (c.before.if-not-all_good.true)
+
+highest-best-requires : tie.Need-highest-best-requires
+highest-best-requires c κs = five c
+
+returns-then-k-ge5 : tie.Need-returns-then-k-ge5
+returns-then-k-ge5 c = let g = c.before.before in sym (good g ∙ why_none _ _ (merged (start g)) (c.before.highest-best.ensures.none c.if-k-ge5.true))
+
+returns-in_default : tie.Need-returns-in_default
+returns-in_default c =
+    let g = c.before.before.before.before.before in
+    let a = (start g).args in
+    let refs = a.local ∷ a.peer1 ∷ a.peer2 ∷ a.peer3 ∷ a.peer4 ∷ [] in
+    let k = c.before.before.before.before.highest-best.result.table in
+    sym (good g ∙ why_none _ _ (merged (start g)) (best_short c.before.before.before.before.highest-best.ensures c.before.before.before.if-k-ge5.false
+    (c.before.outline_at.ensures ∙ ap (λ (t : List ℕ). outline_of t c.before.before.before.before.highest-best.result.at) (element (λ x. x.now) refs k _ refl)) c.in_default.is))
+
+by_record-requires : tie.Need-by_record-requires
+by_record-requires c κs = five c.before.before.before.before.before
 
 returns : tie.Need-returns
 returns c =
-    let s = c.before.before.before.before.before.before.before.before.before in
-    ap R.Refused c.at_start.ensures ∙ why_bad s.args.local.now (peers s) s.args.name.now s.args.block c.before.before.all_good.ensures (not-true _ c.before.if1.true)
-
-highest-requires : tie.Need-highest-requires
-highest-requires c κs = five c
-
-returns-2 : tie.Need-returns-2
-returns-2 c = let g = c.before.before in sym (good g ∙ why_none _ _ (merged (start g)) (c.before.highest.ensures.none c.if2.true))
-
-returns-3 : tie.Need-returns-3
-returns-3 c =
     let g = c.before.before.before.before.before.before in
     let a = (start g).args in
     let refs = a.local ∷ a.peer1 ∷ a.peer2 ∷ a.peer3 ∷ a.peer4 ∷ [] in
-    let k = c.before.before.before.before.before.highest.result.table in
-    sym (good g ∙ why_none _ _ (merged (start g)) (best_short c.before.before.before.before.before.highest.ensures c.before.before.before.before.if2.false
-    (c.before.before.outline-at.ensures ∙ ap (λ (t : List ℕ). outline_of t c.before.before.before.before.before.highest.result.at) (element (λ x. x.now) refs k _ refl)) c.enum_told.given.1))
-
-by-record-requires : tie.Need-by-record-requires
-by-record-requires c κs = five c.before.before.before.before.before.before.before
-
-returns-4 : tie.Need-returns-4
-returns-4 c =
-    let g = c.before.before.before.before.before.before.before.before in
-    let a = (start g).args in
-    let refs = a.local ∷ a.peer1 ∷ a.peer2 ∷ a.peer3 ∷ a.peer4 ∷ [] in
-    let k = c.before.before.before.before.before.before.before.highest.result.table in
-    let r = c.before.before.before.before.before.before.before.highest.ensures in
-    let e = c.before.before.before.before.outline-at.ensures ∙ ap (λ (t : List ℕ). outline_of t c.before.before.before.before.before.before.before.highest.result.at) (element (λ x. x.now) refs k _ refl) in
-    let h = best_headed r c.before.before.before.before.before.before.if2.false e c.before.before.f.given.1 in
-    let is = best_whole r c.before.before.before.before.before.before.if2.false e c.before.before.f.given.1 in
-    c.by-record.ensures _ h.head h.tail (subst (λ (t : List ℕ). At t c.before.before.before.before.before.before.before.highest.result.at (h.head ∷ h.tail)) (sym (element (λ x. x.now) refs k _ refl)) h.stands) h.fields (lookup_name _ (merged (start g)) is)
+    let k = c.before.before.before.before.before.highest-best.result.table in
+    let r = c.before.before.before.before.before.highest-best.ensures in
+    let e = c.before.before.outline_at.ensures ∙ ap (λ (t : List ℕ). outline_of t c.before.before.before.before.before.highest-best.result.at) (element (λ x. x.now) refs k _ refl) in
+    let h = best_headed r c.before.before.before.before.if-k-ge5.false e c.before.in-Whole.is in
+    let is = best_whole r c.before.before.before.before.if-k-ge5.false e c.before.in-Whole.is in
+    c.by_record.ensures _ h.head h.tail (subst (λ (t : List ℕ). At t c.before.before.before.before.before.highest-best.result.at (h.head ∷ h.tail)) (sym (element (λ x. x.now) refs k _ refl)) h.stands) h.fields (lookup_name _ (merged (start g)) is)
     ∙ sym (good g ∙ why_some _ _ (merged (start g)) is)
 
 pub why_spec : {M : Type 1} → statement M
@@ -90,14 +90,14 @@ why_spec =
     (tie.spec
     (λ c κs. search rules)
     (λ c κs. search rules)
-    returns
-    highest-requires
-    returns-2
+    returns-then-not-all_good
+    highest-best-requires
+    returns-then-k-ge5
     (λ c. search rules)
     (λ c. search rules)
     (λ c κs. search rules)
     (λ c. search rules)
     (λ c. search rules)
-    returns-3
-    by-record-requires
-    returns-4)
+    returns-in_default
+    by_record-requires
+    returns)

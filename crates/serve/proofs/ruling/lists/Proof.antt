@@ -7,26 +7,26 @@ use borrow.Author.Rules.{rules}
 use Rattle.serve.proofs.ruling.lists.Statement.{statement}
 use Rattle.serve.proofs.ruling.lists.Tie as tie
 
-abbrev invariant-loop : tie.invariant-loop
+abbrev invariant-loop : tie.invariant-loop-f
 invariant-loop table name offset size hash at₀ at = Looking table name at
 
-abbrev decreases-loop : tie.decreases-loop
+abbrev decreases-loop : tie.decreases-loop-f
 decreases-loop table name offset size hash at₀ at = length table - at
 
-loop-holds : tie.Need-loop-init invariant-loop decreases-loop
-loop-holds c = let s = c.before.before.before in look_starts s.args.table.now s.args.name.now (λ i. (c.before.before.shared-slice-known.given i).fits) s.requires
+loop-holds : tie.Need-loop-f-init invariant-loop decreases-loop
+loop-holds c = let s = c.before.before.before in look_starts s.args.table.now s.args.name.now (λ i. (c.before.before.shared_slice_known-1.given i).fits) s.requires
 
-returns : tie.Need-returns invariant-loop decreases-loop
-returns c = let s = c.before.before.before.before.before.before.before.args in look_ends c.before.before.before.loop.invariant c.before.before.outline-at.ensures s.offset (block_with s.size s.hash.now) c.enum_told.given.1
+returns-in_default : tie.Need-returns-in_default invariant-loop decreases-loop
+returns-in_default c = let s = c.before.before.before.before.before.before.args in look_ends c.before.before.loop-f.invariant c.before.outline_at.ensures s.offset (block_with s.size s.hash.now) c.in_default.is
 
-returns-2 : tie.Need-returns-2 invariant-loop decreases-loop
-returns-2 c = let s = c.before.before.before.before.before.before.before.before.before.before.before.before.before.args in look_found c.before.before.before.before.before.before.before.before.before.loop.invariant c.before.before.before.before.before.before.before.before.outline-at.ensures c.before.before.before.before.before.before.f.given.1 c.before.before.before.before.part.ensures c.before.before.before.compare-bytes.ensures c.before.before.is_equal.ensures s.offset (block_with s.size s.hash.now) c.before.if1.true c.lists_at.ensures
+returns-then-is_equal : tie.Need-returns-then-is_equal invariant-loop decreases-loop
+returns-then-is_equal c = let s = c.before.before.before.before.before.before.before.before.before.before.before.args in look_found c.before.before.before.before.before.before.before.loop-f.invariant c.before.before.before.before.before.before.outline_at.ensures c.before.before.before.before.before.in-Whole.is c.before.before.before.before.part.ensures c.before.before.before.compare_bytes.ensures c.before.before.is_equal.ensures s.offset (block_with s.size s.hash.now) c.before.if-is_equal.true c.lists_at.ensures
 
-loop-less : tie.Need-loop-smaller invariant-loop decreases-loop
-loop-less c = look_less c.before.before.before.before.before.before.before.before.loop.invariant c.before.before.before.before.before.before.before.outline-at.ensures c.before.before.before.before.before.f.given.1
+loop-less : tie.Need-loop-f-smaller invariant-loop decreases-loop
+loop-less c = look_less c.before.before.before.before.before.before.loop-f.invariant c.before.before.before.before.before.outline_at.ensures c.before.before.before.before.in-Whole.is
 
-loop-again : tie.Need-loop-preserved invariant-loop decreases-loop
-loop-again c = look_on c.before.before.before.before.before.before.before.before.loop.invariant c.before.before.before.before.before.before.before.outline-at.ensures c.before.before.before.before.before.f.given.1 c.before.before.before.part.ensures c.before.before.compare-bytes.ensures c.before.is_equal.ensures c.if1.false
+loop-again : tie.Need-loop-f-preserved invariant-loop decreases-loop
+loop-again c = look_on c.before.before.before.before.before.before.loop-f.invariant c.before.before.before.before.before.outline_at.ensures c.before.before.before.before.in-Whole.is c.before.before.before.part.ensures c.before.before.compare_bytes.ensures c.before.is_equal.ensures c.if-is_equal.false
 
 pub lists_spec : {M : Type 1} → statement M
 lists_spec =
@@ -38,11 +38,11 @@ lists_spec =
     (λ c κs. search rules)
     (λ c. search rules)
     (λ c. search rules)
-    returns
+    returns-in_default
     (λ c κs. search rules)
     (λ c κs. search rules)
     (λ c κs. search rules)
     (λ c κs. search rules)
-    returns-2
+    returns-then-is_equal
     loop-less
     loop-again)

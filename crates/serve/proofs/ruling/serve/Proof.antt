@@ -10,45 +10,45 @@ use Rattle.serve.proofs.ruling.serve.Statement.{statement}
 use Rattle.serve.proofs.ruling.serve.Tie as tie
 
 -- a Request was read, and the table is good
-asked : (c : tie.After-known-told2)
-    → let s = c.before.before.before.before.before.before.before.before.before.before.before.args in
-    ruling_of s.table.now s.repository.now s.message.now ≡ ruling_on s.table.now s.repository.now s.message.now (Q.Taken c.before.id.given.0.0 c.before.id.given.0.1.0)
+asked : (c : tie.In-Taken)
+    → let s = c.before.before.before.before.before.before.before.before.before.args in
+    ruling_of s.table.now s.repository.now s.message.now ≡ ruling_on s.table.now s.repository.now s.message.now (Q.Taken c.in-Taken.id c.in-Taken.x)
 asked c =
-    let s = c.before.before.before.before.before.before.before.before.before.before.before.args in
-    table_good s.table.now s.repository.now s.message.now s.out.now (sym c.before.before.before.before.before.before.is-good.ensures ∙ not-false _ c.before.before.before.before.before.if1.false)
-    c.before.before.before.before.read.ensures c.before.before.before.request_in.ensures c.before.id.given.1
+    let s = c.before.before.before.before.before.before.before.before.before.args in
+    table_good s.table.now s.repository.now s.message.now s.out.now (sym c.before.before.before.before.is_good.ensures ∙ c.before.before.before.if-not-is_good.false)
+    c.before.before.read.ensures c.before.request_in.ensures c.in-Taken.is
 
-returns : tie.Need-returns
-returns c =
+returns-then-not-is_good : tie.Need-returns-then-not-is_good
+returns-then-not-is_good c =
     let s = c.before.before.before.before.before.before.before.args in
     ruled s.table.now s.repository.now s.message.now s.out.now
-    (table_bad s.table.now s.repository.now s.message.now s.out.now (sym c.before.before.is-good.ensures ∙ not-true _ c.before.if1.true))
+    (table_bad s.table.now s.repository.now s.message.now s.out.now (sym c.before.before.is_good.ensures ∙ c.before.if-not-is_good.true))
     (filled_in (fills_refused s.out.now refl c.refused.ensures))
 
-is-ours-requires : tie.Need-is-ours-requires
-is-ours-requires c κs = sym c.before.before.before.before.before.before.is-good.ensures ∙ not-false _ c.before.before.before.before.before.if1.false
+is_ours-requires : tie.Need-is_ours-requires
+is_ours-requires c κs = sym c.before.before.before.before.is_good.ensures ∙ c.before.before.before.if-not-is_good.false
 
-returns-2 : tie.Need-returns-2
-returns-2 c =
-    let s = c.before.before.before.before.before.before.before.before.before.before.before.before.before.before.args in
+returns-then-is_ours : tie.Need-returns-then-is_ours
+returns-then-is_ours c =
+    let s = c.before.before.before.before.before.before.before.before.before.before.before.before.args in
     ruled s.table.now s.repository.now s.message.now s.out.now
-    (asked c.before.before.before ∙ ours_served s.table.now s.repository.now s.message.now s.out.now c.before.before.before.before.id.given.0.0 c.before.before.before.before.id.given.0.1.0 c.before.before.is_ours.ensures c.before.if2.true)
+    (asked c.before.before.before ∙ ours_served s.table.now s.repository.now s.message.now s.out.now c.before.before.before.in-Taken.id c.before.before.before.in-Taken.x c.before.before.is_ours.ensures c.before.if-is_ours.true)
     (served_so s.out.now _ _ _)
 
-returns-3 : tie.Need-returns-3
-returns-3 c =
-    let s = c.before.before.before.before.before.before.before.before.before.before.before.args in
+returns-in-Refused : tie.Need-returns-in-Refused
+returns-in-Refused c =
+    let s = c.before.before.before.before.before.before.before.before.before.args in
     ruled s.table.now s.repository.now s.message.now s.out.now
-    (table_good s.table.now s.repository.now s.message.now s.out.now (sym c.before.before.before.before.before.before.is-good.ensures ∙ not-false _ c.before.before.before.before.before.if1.false)
-    c.before.before.before.before.read.ensures c.before.before.before.request_in.ensures c.before.r.given.1)
+    (table_good s.table.now s.repository.now s.message.now s.out.now (sym c.before.before.before.before.is_good.ensures ∙ c.before.before.before.if-not-is_good.false)
+    c.before.before.read.ensures c.before.request_in.ensures c.in-Refused.is)
     (filled_in (fills_refused s.out.now refl refl))
 
-returns-4 : tie.Need-returns-4
-returns-4 c =
-    let s = c.before.before.before.before.before.before.before.before.before.before.before.before.before.before.before.before.before.before.args in
+returns-else-is_ours : tie.Need-returns-else-is_ours
+returns-else-is_ours c =
+    let s = c.before.before.before.before.before.before.before.before.before.before.before.before.before.before.before.before.args in
     ruled s.table.now s.repository.now s.message.now s.out.now
-    (asked c.before.before.before.before.before.before.before ∙ ours_not s.table.now s.repository.now s.message.now s.out.now c.before.before.before.before.before.before.before.before.id.given.0.0 c.before.before.before.before.before.before.before.before.id.given.0.1.0 c.before.before.before.before.before.before.is_ours.ensures c.before.before.before.before.before.if2.false)
-    (filled_in c.before.before.write-response.ensures)
+    (asked c.before.before.before.before.before.before.before ∙ ours_not s.table.now s.repository.now s.message.now s.out.now c.before.before.before.before.before.before.before.in-Taken.id c.before.before.before.before.before.before.before.in-Taken.x c.before.before.before.before.before.before.is_ours.ensures c.before.before.before.before.before.if-is_ours.false)
+    (filled_in c.before.before.write_response.ensures)
 
 pub serve_spec : {M : Type 1} → statement M
 serve_spec =
@@ -56,17 +56,17 @@ serve_spec =
     (tie.spec
     (λ c κs. search rules)
     (λ c κs. search rules)
-    returns
+    returns-then-not-is_good
     (λ c κs. search rules)
     (λ c κs. search rules)
     (λ c. search rules)
     (λ c. search rules)
-    is-ours-requires
-    returns-2
+    is_ours-requires
+    returns-then-is_ours
     (λ c. search rules)
     (λ c. search rules)
     (λ c. search rules)
     (λ c κs. search rules)
-    returns-3
+    returns-in-Refused
     (λ c. search rules)
-    returns-4)
+    returns-else-is_ours)

@@ -52,7 +52,7 @@ loop2-less : tie.Need-loop-j-smaller invariant-loop2 decreases-loop2 invariant-l
 loop2-less c = omega (arith, c.before.before.before.before.before.before.loop-j-test.true)
 
 loop2-again : tie.Need-loop-j-preserved invariant-loop2 decreases-loop2 invariant-loop decreases-loop
-loop2-again c = add_turn c.before.before.before.before.before.before.before.loop-j.invariant c.before.before.before.before.before.before.loop-j-test.true c.before.before.before.before.before.place.ensures c.before.before.before.insert.ensures.value (c.if-not-insert.false) c.before.before.before.insert.ensures.index_after
+loop2-again c = add_turn c.before.before.before.before.before.before.before.loop-j.invariant c.before.before.before.before.before.before.loop-j-test.true c.before.before.before.before.before.place.ensures c.before.before.before.insert.ensures.0 (c.if-not-insert.false) c.before.before.before.insert.ensures.1
 
 loop-less : tie.Need-loop-f-smaller invariant-loop2 decreases-loop2 invariant-loop decreases-loop
 loop-less c = let w = c.before.loop-j.invariant in omega (arith, grows w, inside w)

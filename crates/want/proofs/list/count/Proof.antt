@@ -20,7 +20,7 @@ abbrev decreases-loop : tie.decreases-loop-tables
 decreases-loop t1 index tables places₀ n₀ places n = 327680 - total places
 
 loop-holds : tie.Need-loop-tables-init invariant-loop decreases-loop
-loop-holds c = let s = c.before.before in counted_starts (begun_done (map (λ x. x.now) s.args.t1) s.requires.0 s.args.start.file s.args.start.places s.requires.1.1)
+loop-holds c = let s = c.before.before in counted_starts (begun_done (map (λ x. x.now) s.args.tables) s.requires.0 s.args.start.file s.args.start.places s.requires.1.1)
 
 next_head-head-requires : tie.Need-next_head-head-requires invariant-loop decreases-loop
 next_head-head-requires c κs = done_stand c.loop-tables.invariant.so_far
@@ -39,14 +39,14 @@ count_blocks-n-requires c κs =
     let s = c.before.before.before.before.before.before.before.before in
     let h = c.before.before.before.before.next_head-head.ensures in
     let g = turn_goes c.before.before.before.before.next_head-head.result.best c.before.before.before.before.next_head-head.result.fields c.before.before.before.turn_of-turn.ensures c.before.before.if-turn.false in
-    (local_good (λ x. x.now) s.args.t1 _ refl s.requires.0, (serves_first (λ x. x.now) s.args.t1 _ refl s.requires.1.0, within_lent (λ x. x.now) s.args.t1 _ _ refl (omega (arith, g.first_is, g.count_is, blocks_within c.before.before.before.before.before.loop-tables.invariant.so_far s.requires.0 (headed_lowest h) h.fields_are g.is))))
+    (local_good (λ x. x.now) s.args.tables _ refl s.requires.0, (serves_first (λ x. x.now) s.args.tables _ refl s.requires.1.0, within_lent (λ x. x.now) s.args.tables _ _ refl (omega (arith, g.first_is, g.count_is, blocks_within c.before.before.before.before.before.loop-tables.invariant.so_far s.requires.0 (headed_lowest h) h.fields_are g.is))))
 
 overflow_add-n : tie.Need-overflow_add-n invariant-loop decreases-loop
 overflow_add-n c =
     let s = c.before.before.before.before.before.before.before.before.before in
     let h = c.before.before.before.before.before.next_head-head.ensures in
     let g = turn_goes c.before.before.before.before.before.next_head-head.result.best c.before.before.before.before.before.next_head-head.result.fields c.before.before.before.before.turn_of-turn.ensures c.before.before.before.if-turn.false in
-    omega (arith, counted_small s.requires.0 (counted_more s.requires.0 c.before.before.before.before.before.before.loop-tables.invariant h g.is (element (λ x. x.now) s.args.t1 0 _ refl) (element (λ x. x.now) s.args.t1 _ _ refl) g.first_is g.count_is c.count_blocks-n.ensures))
+    omega (arith, counted_small s.requires.0 (counted_more s.requires.0 c.before.before.before.before.before.before.loop-tables.invariant h g.is (element (λ x. x.now) s.args.tables 0 _ refl) (element (λ x. x.now) s.args.tables _ _ refl) g.first_is g.count_is c.count_blocks-n.ensures))
 
 loop-less : tie.Need-loop-tables-smaller invariant-loop decreases-loop
 loop-less c =
@@ -59,7 +59,7 @@ loop-again c =
     let s = c.before.before.before.before.before.before.before.before.before.before in
     let h = c.before.before.before.before.before.before.next_head-head.ensures in
     let g = turn_goes c.before.before.before.before.before.before.next_head-head.result.best c.before.before.before.before.before.before.next_head-head.result.fields c.before.before.before.before.before.turn_of-turn.ensures c.before.before.before.before.if-turn.false in
-    counted_more s.requires.0 c.before.before.before.before.before.before.before.loop-tables.invariant h g.is (element (λ x. x.now) s.args.t1 0 _ refl) (element (λ x. x.now) s.args.t1 _ _ refl) g.first_is g.count_is c.before.count_blocks-n.ensures
+    counted_more s.requires.0 c.before.before.before.before.before.before.before.loop-tables.invariant h g.is (element (λ x. x.now) s.args.tables 0 _ refl) (element (λ x. x.now) s.args.tables _ _ refl) g.first_is g.count_is c.before.count_blocks-n.ensures
 
 pub count_spec : {M : Type 1} → statement M
 count_spec =

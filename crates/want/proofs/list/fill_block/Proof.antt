@@ -11,28 +11,28 @@ use Rattle.want.proofs.list.fill_block.Statement.{statement}
 use Rattle.want.proofs.list.fill_block.Tie as tie
 
 holds-requires : tie.Need-holds-requires
-holds-requires c κs = let s = c.before.before.before.before.before.before in (good_first (λ x. x.now) s.args.t1 _ refl s.requires.0, (serves_first (λ x. x.now) s.args.t1 _ refl s.requires.1.0, s.requires.1.1.1.0))
+holds-requires c κs = let s = c.before.before.before.before.before.before in (good_first (λ x. x.now) s.args.tables _ refl s.requires.0, (serves_first (λ x. x.now) s.args.tables _ refl s.requires.1.0, s.requires.1.1.1.0))
 
 returns-then-holds : tie.Need-returns-then-holds
 returns-then-holds c =
     let s = c.before.before.before.before.before.before.before.before.args in
     let b = block_here s.t.now s.p in
-    let w = block_held (records (table_at (map (λ x. x.now) s.t1) 0)) (peer_in (map (λ x. x.now) s.t1) s.runs) s.file s.block s.offset b s.out.now s.at (held_first (λ x. x.now) s.t1 _ refl b c.before.holds.ensures) c.if-holds.true in
+    let w = block_held (records (table_at (map (λ x. x.now) s.tables) 0)) (peer_in (map (λ x. x.now) s.tables) s.runs) s.file s.block s.offset b s.out.now s.at (held_first (λ x. x.now) s.tables _ refl b c.before.holds.ensures) c.if-holds.true in
     (w.0, (w.1, c.before.before.before.before.before.before.before.before.requires.1.1.0))
 
 put_wanted-requires : tie.Need-put_wanted-requires
 put_wanted-requires c κs =
     let s = c.before.before.before.before.before.before.before.before.before.before.before.before.before.before.before.before.before.before.args in
     let b = block_here s.t.now s.p in
-    room_wanted (records (table_at (map (λ x. x.now) s.t1) 0)) (peer_in (map (λ x. x.now) s.t1) s.runs) s.file s.block s.offset b s.out.now s.at (held_first (λ x. x.now) s.t1 _ refl b c.before.before.before.before.before.before.before.before.before.before.before.holds.ensures) c.before.before.before.before.before.before.before.before.before.before.if-holds.false c.before.before.before.before.before.before.before.before.before.before.before.before.before.before.before.before.before.before.requires.1.1.1.1
+    room_wanted (records (table_at (map (λ x. x.now) s.tables) 0)) (peer_in (map (λ x. x.now) s.tables) s.runs) s.file s.block s.offset b s.out.now s.at (held_first (λ x. x.now) s.tables _ refl b c.before.before.before.before.before.before.before.before.before.before.before.holds.ensures) c.before.before.before.before.before.before.before.before.before.before.if-holds.false c.before.before.before.before.before.before.before.before.before.before.before.before.before.before.before.before.before.before.requires.1.1.1.1
 
 returns : tie.Need-returns
 returns c =
     let s = c.before.before.before.before.before.before.before.before.before.before.before.before.before.before.before.before.before.before.before.before.before.args in
     let b = block_here s.t.now s.p in
-    let w = block_wanted (records (table_at (map (λ x. x.now) s.t1) 0)) (peer_in (map (λ x. x.now) s.t1) s.runs) s.file s.block s.offset b s.out.now s.at _ (held_first (λ x. x.now) s.t1 _ refl b c.before.before.before.before.before.before.before.before.before.before.before.before.before.before.holds.ensures) c.before.before.before.before.before.before.before.before.before.before.before.before.before.if-holds.false
-    (wanted_same s.t.now s.p c.before.before.before.before.before.before.before.before.before.before.before.before.size_at-size.ensures c.before.before.before.before.before.before.before.before.before.hash_at.ensures s.file s.block s.offset (peer_in (map (λ x. x.now) s.t1) s.runs) c.before.before.before.before.before.before.before.before.ask-peer.ensures.value) c.before.before.put_wanted.ensures in
-    (w.0, (w.1, c.before.before.before.before.before.before.before.before.ask-peer.ensures.along))
+    let w = block_wanted (records (table_at (map (λ x. x.now) s.tables) 0)) (peer_in (map (λ x. x.now) s.tables) s.runs) s.file s.block s.offset b s.out.now s.at _ (held_first (λ x. x.now) s.tables _ refl b c.before.before.before.before.before.before.before.before.before.before.before.before.before.before.holds.ensures) c.before.before.before.before.before.before.before.before.before.before.before.before.before.if-holds.false
+    (wanted_same s.t.now s.p c.before.before.before.before.before.before.before.before.before.before.before.before.size_at-size.ensures c.before.before.before.before.before.before.before.before.before.hash_at.ensures s.file s.block s.offset (peer_in (map (λ x. x.now) s.tables) s.runs) c.before.before.before.before.before.before.before.before.ask-peer.ensures.0) c.before.before.put_wanted.ensures in
+    (w.0, (w.1, c.before.before.before.before.before.before.before.before.ask-peer.ensures.1))
 
 pub fill_block_spec : {M : Type 1} → statement M
 fill_block_spec =

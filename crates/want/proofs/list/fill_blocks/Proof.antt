@@ -37,7 +37,7 @@ overflow_add-next : tie.Need-overflow_add-next invariant-loop decreases-loop
 overflow_add-next c =
     let s = c.before.before.before.before.before.before.before.before.before.before.before.before.before.before in
     let l = c.before.before.before.before.before.before.before.before.before.before.loop-j.invariant.0 in
-    omega (arith, s.well_formed, c.before.before.before.before.fill_block-next.ensures.value, enter_fits l s.requires.1.1.1.1 c.before.before.before.before.before.before.before.before.before.loop-j-test.true c.before.before.before.before.before.before.before.before.place-p.ensures, enter_length l s.requires.1.1.1.1)
+    omega (arith, s.well_formed, c.before.before.before.before.fill_block-next.ensures.0, enter_fits l s.requires.1.1.1.1 c.before.before.before.before.before.before.before.before.before.loop-j-test.true c.before.before.before.before.before.before.before.before.place-p.ensures, enter_length l s.requires.1.1.1.1)
 
 size_at-requires : tie.Need-size_at-requires invariant-loop decreases-loop
 size_at-requires c κs = omega (arith, c.before.before.before.before.before.before.before.before.before.loop-j-test.true, c.before.before.before.before.before.before.before.before.place-p.ensures, c.before.before.before.before.before.before.before.before.before.before.before.before.before.before.requires.1.1.1.0)
@@ -54,7 +54,7 @@ loop-less c = omega (arith, c.before.before.before.before.before.before.before.b
 loop-again : tie.Need-loop-j-preserved invariant-loop decreases-loop
 loop-again c =
     let f = c.before.before.before.before.before.fill_block-next.ensures in
-    (enter_turn c.before.before.before.before.before.before.before.before.before.before.before.loop-j.invariant.0 c.before.before.before.before.before.before.before.before.before.before.before.before.before.before.before.requires.1.1.1.1 c.before.before.before.before.before.before.before.before.before.before.loop-j-test.true c.before.before.before.before.before.before.before.before.before.place-p.ensures f.0 f.1.0 c.size_at.ensures c.size_at.type-inv, along_later f.1.1 (omega arith))
+    (enter_turn c.before.before.before.before.before.before.before.before.before.before.before.loop-j.invariant.0 c.before.before.before.before.before.before.before.before.before.before.before.before.before.before.before.requires.1.1.1.1 c.before.before.before.before.before.before.before.before.before.before.loop-j-test.true c.before.before.before.before.before.before.before.before.before.place-p.ensures f.0 f.1.0 c.size_at.ensures c.size_at.type_inv, along_later f.1.1 (omega arith))
 
 shape_of-out : tie.Need-shape_of-out invariant-loop decreases-loop
 shape_of-out c = enter_length c.before.loop-j.invariant.0 c.before.before.before.before.before.requires.1.1.1.1

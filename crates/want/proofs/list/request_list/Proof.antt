@@ -61,16 +61,16 @@ fits-requires : tie.Need-fits-requires
 fits-requires c κs = (five c.before.before.before.before.before.before.before, (serves c, c.before.before.before.before.before.before.seek-start.ensures.0))
 
 returns-then-not-fits : tie.Need-returns-then-not-fits
-returns-then-not-fits c = let s = c.before.before.before.before.before.before.before.before.before.before.before.before.before.before.before.before.before.before in fills_short s.args.out.now (good c.before.before.before.before.before.before.before.before.before.before) (leb-false (length (list_bytes (list_of (tables s)))) (length s.args.out.now) (sym c.before.before.fits2.ensures ∙ c.before.if-not-fits.true)) c.refused-then-not-fits.ensures
+returns-then-not-fits c = let s = c.before.before.before.before.before.before.before.before.before.before.before.before.before.before.before.before.before.before in fills_short s.args.out.now (good c.before.before.before.before.before.before.before.before.before.before) (leb-false (length (list_bytes (list_of (tables s)))) (length s.args.out.now) (sym c.before.before.fits.ensures ∙ c.before.if-not-fits.true)) c.refused-then-not-fits.ensures
 
 fill-requires : tie.Need-fill-requires
-fill-requires c κs = (five c.before.before.before.before.before.before.before.before.before.before, (serves c.before.before.before, (c.before.before.before.before.before.before.before.before.before.seek-start.ensures.0, leb-true _ _ (sym c.before.before.fits2.ensures ∙ c.before.if-not-fits.false))))
+fill-requires c κs = (five c.before.before.before.before.before.before.before.before.before.before, (serves c.before.before.before, (c.before.before.before.before.before.before.before.before.before.seek-start.ensures.0, leb-true _ _ (sym c.before.before.fits.ensures ∙ c.before.if-not-fits.false))))
 
 returns : tie.Need-returns
 returns c =
     let s = c.before.before.before.before.before.before.before.before.before.before.before.before.before.before.before.before.before.before.before.before.before in
     let f = c.before.before.fill.ensures in
-    fills_given s.args.out.now (good c.before.before.before.before.before.before.before.before.before.before.before.before.before) (leb-true _ _ (sym c.before.before.before.before.before.fits2.ensures ∙ c.before.before.before.before.if-not-fits.false)) f.0 f.1
+    fills_given s.args.out.now (good c.before.before.before.before.before.before.before.before.before.before.before.before.before) (leb-true _ _ (sym c.before.before.before.before.before.fits.ensures ∙ c.before.before.before.before.if-not-fits.false)) f.0 f.1
 
 pub request_list_spec : {M : Type 1} → statement M
 request_list_spec =

@@ -13,6 +13,7 @@ use Rattle.want.proofs.PassLaws.{Named, named_starts, named_turn, named_ends, or
 use borrow.Author.Rules.{rules}
 use Rattle.want.proofs.pass.next_places.Statement.{statement}
 use Rattle.want.proofs.pass.next_places.Tie as tie
+use Rattle.want.proofs.pass.next_places.Lts.{in-Less, in-Equal, in-Greater}
 
 abbrev invariant-loop : tie.invariant-loop-k
 invariant-loop t1 tables places best₀ past₀ k₀ best past k = Named (map (λ x. x.now) t1) places k best past × (length places ≡ 5) × (k ≤ 5)
@@ -21,13 +22,13 @@ abbrev decreases-loop : tie.decreases-loop-k
 decreases-loop t1 tables places best₀ past₀ k₀ best past k = 5 - k
 
 record_at-requires : tie.Need-record_at-requires invariant-loop decreases-loop
-record_at-requires c κs = let s = c.before in stands_in (place_at s.args.t2 0) (s.requires 0 (omega arith)) (element (λ x. x.now) s.args.t1 0 _ refl)
+record_at-requires c κs = let s = c.before in stands_in (place_at s.args.places 0) (s.requires 0 (omega arith)) (element (λ x. x.now) s.args.tables 0 _ refl)
 
 loop-holds : tie.Need-loop-k-init invariant-loop decreases-loop
 loop-holds c =
     let s = c.before.before.before.args in
-    let long : length s.t2 ≡ 5 = search rules in
-    (named_starts (map (λ x. x.now) s.t1) s.t2 (past_in (place_at s.t2 0) c.past_of.ensures (outline_in (place_at s.t2 0) c.before.record_at.ensures (element (λ x. x.now) s.t1 0 _ refl))) long, long, omega arith)
+    let long : length s.places ≡ 5 = search rules in
+    (named_starts (map (λ x. x.now) s.tables) s.places (past_in (place_at s.places 0) c.past_of.ensures (outline_in (place_at s.places 0) c.before.record_at.ensures (element (λ x. x.now) s.tables 0 _ refl))) long, long, omega arith)
 
 offset_bounds-tables-k : tie.Need-offset_bounds-tables-k invariant-loop decreases-loop
 offset_bounds-tables-k c = omega (arith, c.loop-k-test.true)
@@ -57,15 +58,15 @@ compare_at-requires : tie.Need-compare_at-requires invariant-loop decreases-loop
 compare_at-requires c κs =
     let v = c.before.before.before.loop-k in
     let s = c.before.before.before.before.before.before.before in (
-      stands_in (place_at s.args.t2 v.best) (s.requires v.best v.invariant.0.small) (element (λ x. x.now) s.args.t1 v.best _ refl),
-      stands_in (place_at s.args.t2 v.k) (s.requires v.k c.before.before.loop-k-test.true) (element (λ x. x.now) s.args.t1 v.k _ refl),
+      stands_in (place_at s.args.places v.best) (s.requires v.best v.invariant.0.small) (element (λ x. x.now) s.args.tables v.best _ refl),
+      stands_in (place_at s.args.places v.k) (s.requires v.k c.before.before.loop-k-test.true) (element (λ x. x.now) s.args.tables v.k _ refl),
     )
 
 record_at-requires-in-Equal : tie.Need-record_at-requires-in-Equal invariant-loop decreases-loop
 record_at-requires-in-Equal c κs =
     let v = c.before.before.before.before.before.loop-k in
     let s = c.before.before.before.before.before.before.before.before.before in
-    stands_in (place_at s.args.t2 v.k) (s.requires v.k c.before.before.before.before.loop-k-test.true) (element (λ x. x.now) s.args.t1 v.k _ refl)
+    stands_in (place_at s.args.places v.k) (s.requires v.k c.before.before.before.before.loop-k-test.true) (element (λ x. x.now) s.args.tables v.k _ refl)
 
 offset_bounds-past-k : tie.Need-offset_bounds-past-k invariant-loop decreases-loop
 offset_bounds-past-k c = omega (arith, c.before.before.before.before.before.before.loop-k-test.true)
@@ -77,7 +78,7 @@ record_at-requires-in-Greater : tie.Need-record_at-requires-in-Greater invariant
 record_at-requires-in-Greater c κs =
     let v = c.before.before.before.before.before.loop-k in
     let s = c.before.before.before.before.before.before.before.before.before in
-    stands_in (place_at s.args.t2 v.k) (s.requires v.k c.before.before.before.before.loop-k-test.true) (element (λ x. x.now) s.args.t1 v.k _ refl)
+    stands_in (place_at s.args.places v.k) (s.requires v.k c.before.before.before.before.loop-k-test.true) (element (λ x. x.now) s.args.tables v.k _ refl)
 
 offset_bounds-past-k-in-Greater : tie.Need-offset_bounds-past-k-in-Greater invariant-loop decreases-loop
 offset_bounds-past-k-in-Greater c = omega (arith, c.before.before.before.before.before.before.loop-k-test.true)
@@ -96,15 +97,13 @@ loop-again c =
     let s = c.before.before.before.before.before.before.before.before.before.args in
     let v = c.before.before.before.before.before.loop-k in
     let h = c.before.before.before.before.loop-k-test.true in
-    let at = place_at s.t2 v.k in
-    let t = element (λ x. x.now) s.t1 v.k _ refl in
-    let q = order_as (place_at s.t2 v.best) at c.before.compare_at.ensures (element (λ x. x.now) s.t1 v.best _ refl) t in (
-      ⊎_elim
-          (λ p. named_as (named_turn v.invariant.0 h v.invariant.1 refl q p.1.given.1) p.2 p.3)
-          (⊎_elim
-          (λ p. named_as (named_turn v.invariant.0 h v.invariant.1 (past_in at p.3.ensures (outline_in at p.2.ensures t)) q p.1.given.1) p.4 p.5)
-          (λ p. named_as (named_turn v.invariant.0 h v.invariant.1 (past_in at p.3.ensures (outline_in at p.2.ensures t)) q p.1.given.1) p.4 p.5))
-          c.match-compare_at.branch,
+    let at = place_at s.places v.k in
+    let t = element (λ x. x.now) s.tables v.k _ refl in
+    let q = order_as (place_at s.places v.best) at c.before.compare_at.ensures (element (λ x. x.now) s.tables v.best _ refl) t in (
+      elim c.match-compare_at.branch [
+            in-Less p ↦ named_as (named_turn v.invariant.0 h v.invariant.1 refl q p.in-Less.is) p.best-is p.past-is
+          | in-Equal p ↦ named_as (named_turn v.invariant.0 h v.invariant.1 (past_in at p.past_of-in-Equal.ensures (outline_in at p.record_at-in-Equal.ensures t)) q p.in-Equal.is) p.best-is p.past-is
+          | in-Greater p ↦ named_as (named_turn v.invariant.0 h v.invariant.1 (past_in at p.past_of-in-Greater.ensures (outline_in at p.record_at-in-Greater.ensures t)) q p.in-Greater.is) p.best-is p.past-is ],
       v.invariant.1,
       omega (arith, h),
     )
@@ -125,7 +124,7 @@ returns : tie.Need-returns invariant-loop decreases-loop
 returns c =
     let s = c.before.before.before.before.before in
     let v = c.before.loop-k in
-    named_ends v.invariant.0 v.invariant.2 c.loop-k-test.false (s.requires v.best v.invariant.0.small) (element (λ x. x.now) s.args.t1 v.best _ refl)
+    named_ends v.invariant.0 v.invariant.2 c.loop-k-test.false (s.requires v.best v.invariant.0.small) (element (λ x. x.now) s.args.tables v.best _ refl)
 
 pub next_places_spec : {M : Type 1} → statement M
 next_places_spec =

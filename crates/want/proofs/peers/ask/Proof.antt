@@ -47,7 +47,7 @@ bounds-tables-k : tie.Need-bounds-tables-k invariant-loop decreases-loop
 bounds-tables-k c = omega (arith, c.before.before.before.loop-k-test.true)
 
 forward-next-requires : tie.Need-forward-next-requires invariant-loop decreases-loop
-forward-next-requires c κs = mark_here c.before.before.before.before.before.loop-k.invariant.1 c.before.before.before.before.loop-k-test.true (element (λ x. x.now) c.before.before.before.before.before.before.before.before.before.args.t1 _ _ refl)
+forward-next-requires c κs = mark_here c.before.before.before.before.before.loop-k.invariant.1 c.before.before.before.before.loop-k-test.true (element (λ x. x.now) c.before.before.before.before.before.before.before.before.before.args.tables _ _ refl)
 
 offset_bounds-js-k-in-loop-k : tie.Need-offset_bounds-js-k-in-loop-k invariant-loop decreases-loop
 offset_bounds-js-k-in-loop-k c = omega (arith, c.before.before.before.before.before.loop-k-test.true)
@@ -84,7 +84,7 @@ returns-then-has_there c =
     let l = c.before.before.before.before.before.before.before.before.before in
     let s = c.before.before.before.before.before.before.before.before.before.before.before.before.before.args in
     let h = c.before.before.before.before.before.before.before.before.loop-k-test.true in
-    let e = element (λ x. x.now) s.t1 l.loop-k.k _ refl in
+    let e = element (λ x. x.now) s.tables l.loop-k.k _ refl in
     let m = c.before.before.before.forward-next.ensures in
     (asking_found l.loop-k.invariant.0 h (told_here l.loop-k.invariant.1 h e m (block_with s.size s.hash.now) c.before.has_there.ensures c.if-has_there.true), along_turn l.loop-k.invariant.1 h e m)
 
@@ -99,7 +99,7 @@ loop-again c =
     let l = c.before.before.before.before.before.before.before.before.before in
     let s = c.before.before.before.before.before.before.before.before.before.before.before.before.before.args in
     let h = c.before.before.before.before.before.before.before.before.loop-k-test.true in
-    let e = element (λ x. x.now) s.t1 l.loop-k.k _ refl in
+    let e = element (λ x. x.now) s.tables l.loop-k.k _ refl in
     let m = c.before.before.before.forward-next.ensures in
     (asking_goes_on l.loop-k.invariant.0 h (told_here l.loop-k.invariant.1 h e m (block_with s.size s.hash.now) c.before.has_there.ensures c.if-has_there.false), along_turn l.loop-k.invariant.1 h e m)
 

@@ -13,7 +13,7 @@ returns-in_default : tie.Need-returns-in_default
 returns-in_default c = let s = c.before.before.before.before.args in run_by_lem s.t.now s.at s.past c.before.before.if-at-past.false c.before.outline_at.ensures c.in_default.is
 
 returns : tie.Need-returns
-returns c = let s = c.before.before.before.before.before.args in let f = c.before.before.f in ap (run_of f.given.0.0.first) c.listed-count.ensures ∙ run_by_lem s.t.now s.at s.past c.before.before.before.if-at-past.false c.before.before.outline_at.ensures f.given.1
+returns c = let s = c.before.before.before.before.before.args in let f = c.before.in-Whole in ap (run_of f.f.first) c.listed-count.ensures ∙ run_by_lem s.t.now s.at s.past c.before.before.before.if-at-past.false c.before.before.outline_at.ensures f.is
 
 pub run_at_spec : {M : Type 1} → statement M
 run_at_spec =

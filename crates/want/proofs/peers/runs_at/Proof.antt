@@ -10,10 +10,10 @@ returns c =
     let s = c.before.before.before.before.before.before.before.before.args in
     five_runs
     refl
-    (run_in (λ x. x.now) s.t1 _ refl s.t2 s.t3 1 c.before.before.before.before.before.before.run_at-a.ensures)
-    (run_in (λ x. x.now) s.t1 _ refl s.t2 s.t3 2 c.before.before.before.before.run_at-b.ensures)
-    (run_in (λ x. x.now) s.t1 _ refl s.t2 s.t3 3 c.before.before.run_at-c.ensures)
-    (run_in (λ x. x.now) s.t1 _ refl s.t2 s.t3 4 c.run_at-d.ensures)
+    (run_in (λ x. x.now) s.tables _ refl s.places s.past 1 c.before.before.before.before.before.before.run_at-a.ensures)
+    (run_in (λ x. x.now) s.tables _ refl s.places s.past 2 c.before.before.before.before.run_at-b.ensures)
+    (run_in (λ x. x.now) s.tables _ refl s.places s.past 3 c.before.before.run_at-c.ensures)
+    (run_in (λ x. x.now) s.tables _ refl s.places s.past 4 c.run_at-d.ensures)
 
 pub runs_at_spec : {M : Type 1} → statement M
 runs_at_spec =

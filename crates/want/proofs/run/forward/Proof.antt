@@ -26,7 +26,7 @@ size_at-requires : tie.Need-size_at-requires invariant-loop decreases-loop
 size_at-requires c κs = omega (arith, c.place.ensures, mark_there c.before.before.before.loop-j.invariant.within c.before.before.loop-j-test.true)
 
 overflow_add-from : tie.Need-overflow_add-from invariant-loop decreases-loop
-overflow_add-from c = let l = c.before.before.before.before in omega (arith, l.loop-j.invariant.within.small, l.loop-j.invariant.within.few, c.size_at.type-inv)
+overflow_add-from c = let l = c.before.before.before.before in omega (arith, l.loop-j.invariant.within.small, l.loop-j.invariant.within.few, c.size_at.type_inv)
 
 overflow_add-j : tie.Need-overflow_add-j invariant-loop decreases-loop
 overflow_add-j c = omega (arith, c.before.before.before.loop-j-test.true)
@@ -35,7 +35,7 @@ loop-less : tie.Need-loop-j-smaller invariant-loop decreases-loop
 loop-less c = omega (arith, c.before.before.before.loop-j-test.true)
 
 loop-again : tie.Need-loop-j-preserved invariant-loop decreases-loop
-loop-again c = marked_turn c.before.before.before.before.loop-j.invariant c.before.before.before.loop-j-test.true c.before.before.if-offset-from.false c.before.place.ensures c.size_at.ensures c.size_at.type-inv
+loop-again c = marked_turn c.before.before.before.before.loop-j.invariant c.before.before.before.loop-j-test.true c.before.before.if-offset-from.false c.before.place.ensures c.size_at.ensures c.size_at.type_inv
 
 returns : tie.Need-returns invariant-loop decreases-loop
 returns c = marked_out c.before.loop-j.invariant

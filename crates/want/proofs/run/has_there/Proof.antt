@@ -33,7 +33,7 @@ size_at-requires : tie.Need-size_at-requires invariant-loop decreases-loop
 size_at-requires c κs = omega (arith, c.before.before.place-p.ensures, mark_there c.before.before.before.before.before.loop-j.invariant.marks c.before.before.before.before.loop-j-test.true)
 
 overflow_add-from : tie.Need-overflow_add-from invariant-loop decreases-loop
-overflow_add-from c = let l = c.before.before.before.before.before.before in omega (arith, l.loop-j.invariant.marks.small, l.loop-j.invariant.marks.few, c.size_at.type-inv)
+overflow_add-from c = let l = c.before.before.before.before.before.before in omega (arith, l.loop-j.invariant.marks.small, l.loop-j.invariant.marks.few, c.size_at.type_inv)
 
 overflow_add-j : tie.Need-overflow_add-j invariant-loop decreases-loop
 overflow_add-j c = omega (arith, c.before.before.before.before.before.loop-j-test.true)
@@ -42,7 +42,7 @@ loop-less : tie.Need-loop-j-smaller invariant-loop decreases-loop
 loop-less c = omega (arith, c.before.before.before.before.before.loop-j-test.true)
 
 loop-again : tie.Need-loop-j-preserved invariant-loop decreases-loop
-loop-again c = look_goes_on c.before.before.before.before.before.before.loop-j.invariant c.before.before.before.before.before.loop-j-test.true c.before.before.before.place-p.ensures c.before.before.is_there.ensures c.before.if-is_there.false c.size_at.ensures c.size_at.type-inv
+loop-again c = look_goes_on c.before.before.before.before.before.before.loop-j.invariant c.before.before.before.before.before.loop-j-test.true c.before.before.before.place-p.ensures c.before.before.is_there.ensures c.before.if-is_there.false c.size_at.ensures c.size_at.type_inv
 
 returns : tie.Need-returns invariant-loop decreases-loop
 returns c = look_ends c.before.loop-j.invariant c.loop-j-test.false

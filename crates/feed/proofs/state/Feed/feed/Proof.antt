@@ -24,4 +24,4 @@ feed_spec =
     (λ c κs. search rules)
     returns-then-not-is_sound
     feed_rest-requires
-    (λ c. c.feed-rest.ensures))
+    (λ c. c.feed_rest.ensures))

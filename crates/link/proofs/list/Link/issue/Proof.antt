@@ -12,24 +12,24 @@ use Rattle.link.proofs.list.Link.issue.Tie as tie
 abbrev body : tie.Start → List ℕ
 body c = let a = c.args in request_bytes E.New a.repository.now a.name.now a.offset a.size a.hash.now
 
-returns : tie.Need-returns
-returns c =
+returns-then-fault-ne0 : tie.Need-returns-then-fault-ne0
+returns-then-fault-ne0 c =
     let start = c.before.before.before.before.before.before.before.before.before.before in
     let a = start.args in
-    issue_barred a.held a.limit a.self (body start) a.size a.out.now _ c.before.before.before.before.before.fault-within.ensures c.before.before.before.before.if1.true _
-    c.before.before.write-request.ensures.answered c.barred.ensures
+    issue_barred a.held a.limit a.self (body start) a.size a.out.now _ c.before.before.before.before.before.fault_within-fault.ensures c.before.before.before.before.if-fault-ne0.true _
+    c.before.before.write_request-answer.ensures.answered c.barred.ensures
 
 issued-requires : tie.Need-issued-requires
 issued-requires c κs =
     let a = c.before.before.before.before.before.before.before.before.before.before.args in
-    (unfull a.held a.limit a.self a.size (sym c.before.before.before.before.if1.false ∙ c.before.before.before.before.before.fault-within.ensures)).1
+    (unfull a.held a.limit a.self a.size (sym c.before.before.before.before.if-fault-ne0.false ∙ c.before.before.before.before.before.fault_within-fault.ensures)).1
 
-returns-2 : tie.Need-returns-2
-returns-2 c =
+returns : tie.Need-returns
+returns c =
     let start = c.before.before.before.before.before.before.before.before.before.before.before in
     let a = start.args in
-    issue_written a.held a.limit a.self (body start) a.size a.out.now (sym c.before.before.before.before.before.if1.false ∙ c.before.before.before.before.before.before.fault-within.ensures)
-    c.before.before.before.write-request2.ensures c.issued.ensures
+    issue_written a.held a.limit a.self (body start) a.size a.out.now (sym c.before.before.before.before.before.if-fault-ne0.false ∙ c.before.before.before.before.before.before.fault_within-fault.ensures)
+    c.before.before.before.write_request-filling.ensures c.issued.ensures
 
 pub issue_spec : {M : Type 1} → statement M
 issue_spec =
@@ -39,8 +39,8 @@ issue_spec =
     (λ c. search rules)
     (λ c κs. search rules)
     (λ c κs. search rules)
-    returns
+    returns-then-fault-ne0
     (λ c κs. search rules)
     issued-requires
     (λ c. search rules)
-    returns-2)
+    returns)

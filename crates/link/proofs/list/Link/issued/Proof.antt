@@ -3,11 +3,11 @@ use borrow.Author.Rules.{rules}
 use Rattle.link.proofs.list.Link.issued.Statement.{statement}
 use Rattle.link.proofs.list.Link.issued.Tie as tie
 
-returns : tie.Need-returns
-returns c = simp c.enum-told2.given.1
+returns-in_default : tie.Need-returns-in_default
+returns-in_default c = simp c.in_default.is
 
-returns-2 : tie.Need-returns-2
-returns-2 c = simp (c.following.ensures, c.before.before.before.enum_told.given.1)
+returns : tie.Need-returns
+returns c = simp (c.following.ensures, c.before.before.before.in-Filled.is)
 
 pub issued_spec : {M : Type 1} → statement M
 issued_spec =
@@ -15,10 +15,10 @@ issued_spec =
     (tie.spec
     (λ c. search rules)
     (λ c. search rules)
-    returns
+    returns-in_default
     (λ c. search rules)
     (λ c. search rules)
     (λ c. search rules)
     (λ c. search rules)
     (λ c κs. search rules)
-    returns-2)
+    returns)

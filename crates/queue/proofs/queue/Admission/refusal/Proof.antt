@@ -5,25 +5,25 @@ use Rattle.queue.specs.Steps.{refusal_of}
 use Rattle.queue.proofs.queue.Admission.refusal.Statement.{statement}
 use Rattle.queue.proofs.queue.Admission.refusal.Tie as tie
 
-enum_told : tie.Need-enum-told
-enum_told c = search rules
+enum_told-1 : tie.Need-enum_told-1
+enum_told-1 c = search rules
 
-at-start-requires : tie.Need-at-start-requires
-at-start-requires c κs = search rules
+at_start-requires : tie.Need-at_start-requires
+at_start-requires c κs = search rules
 
-enum-known-self : tie.Need-enum-known-self
-enum-known-self c = search rules
+enum_known-self : tie.Need-enum_known-self
+enum_known-self c = search rules
 
-at-start-requires-2 : tie.Need-at-start-requires-2
-at-start-requires-2 c κs = search rules
+at_start-requires-in-Refused : tie.Need-at_start-requires-in-Refused
+at_start-requires-in-Refused c κs = search rules
 
-returns : tie.Need-returns
-returns c = c.at_start.ensures ∙ ap refusal_of (sym c.before.enum_told.given.1)
+returns-in-Held : tie.Need-returns-in-Held
+returns-in-Held c = c.at_start.ensures ∙ ap refusal_of (sym c.before.in-Held.is)
 
-returns-2 : tie.Need-returns-2
-returns-2 c = c.at-start2.ensures ∙ ap refusal_of (sym c.before.before.self.given.1)
+returns-in-Refused : tie.Need-returns-in-Refused
+returns-in-Refused c = c.at_start-in-Refused.ensures ∙ ap refusal_of (sym c.before.in-Refused.is)
 
 pub refusal_spec : {M : Type 1} → statement M
 refusal_spec =
     tie.close
-    (tie.spec enum_told at-start-requires enum-known-self at-start-requires-2 returns returns-2)
+    (tie.spec enum_told-1 at_start-requires enum_known-self at_start-requires-in-Refused returns-in-Held returns-in-Refused)

@@ -8,30 +8,30 @@ use borrow.Author.Rules.{rules}
 use Rattle.queue.proofs.queue.RequestQueue.answer.Statement.{statement}
 use Rattle.queue.proofs.queue.RequestQueue.answer.Tie as tie
 
-may : (c : tie.After-enum-told) → Admitted c.before.before.before.before.args.t1 c.before.before.before.before.args.peer
-may c = (held_tells c.before.before.before.before.args.t1 c.before.before.before.before.args.peer _ (sym c.enum_told.given.1 ∙ c.before.before.admission.ensures)).may
+may : (c : tie.In-Held) → Admitted c.before.before.before.args.self c.before.before.before.args.peer
+may c = (held_tells c.before.before.before.args.self c.before.before.before.args.peer _ (sym c.in-Held.is ∙ c.before.admission-a.ensures)).may
 
-facts : (c : tie.After-enum-told) → (1 ≤ c.before.before.before.before.args.peer) × (c.before.before.before.before.args.peer ≤ 4)
-facts c = peer_facts c.before.before.before.before.args.peer (may c).peer
+facts : (c : tie.In-Held) → (1 ≤ c.before.before.before.args.peer) × (c.before.before.before.args.peer ≤ 4)
+facts c = peer_facts c.before.before.before.args.peer (may c).peer
+
+returns-in_default : tie.Need-returns-in_default
+returns-in_default c =
+    let a = c.before.before.before.before.args in
+    answer_stopped a.self a.peer a.message.now c.before.in_default.is c.before.before.admission-a.ensures c.refusal.ensures
+
+overflow_sub-at : tie.Need-overflow_sub-at
+overflow_sub-at c = omega (arith, (facts c).0)
+
+bounds-self-at : tie.Need-bounds-self-at
+bounds-self-at c = omega (arith, (facts c).0, (facts c).1)
+
+bounds-queue-at : tie.Need-bounds-queue-at
+bounds-queue-at c = omega (arith, (facts c.before.before.before.before.before.before).0, (facts c.before.before.before.before.before.before).1)
 
 returns : tie.Need-returns
 returns c =
-    let a = c.before.before.before.before.before.args in
-    answer_stopped a.t1 a.peer a.message.now c.before.enum-told2.given.1 c.before.before.before.admission.ensures c.refusal.ensures
-
-sub_at : tie.Need-overflow-sub-at
-sub_at c = omega (arith, (facts c).0)
-
-element-copy-out-waiting : tie.Need-element-copy-out-waiting
-element-copy-out-waiting c = omega (arith, (facts c).0, (facts c).1)
-
-element-set-from-link : tie.Need-element-set-from-link
-element-set-from-link c = omega (arith, (facts c.before.before.before.before.before.before).0, (facts c.before.before.before.before.before.before).1)
-
-returns-2 : tie.Need-returns-2
-returns-2 c =
-    let a = c.before.before.before.before.before.before.before.before.before.before.args in
-    answer_done a.t1 a.peer a.message.now (may c.before.before.before.before.before.before) c.before.before.before.before.answer.ensures c.settle-for.ensures
+    let a = c.before.before.before.before.before.before.before.before.before.args in
+    answer_done a.self a.peer a.message.now (may c.before.before.before.before.before.before) c.before.before.before.before.answer-x.ensures c.settle_for-arrival.ensures
 
 pub answer_spec : {M : Type 1} → statement M
 answer_spec =
@@ -41,13 +41,13 @@ answer_spec =
     (λ c. search rules)
     (λ c. search rules)
     (λ c κs. search rules)
-    returns
-    sub_at
+    returns-in_default
+    overflow_sub-at
     (λ c. search rules)
     (λ c. search rules)
-    element-copy-out-waiting
+    bounds-self-at
     (λ c κs. search rules)
     (λ c κs. search rules)
     (λ c. search rules)
-    element-set-from-link
-    returns-2)
+    bounds-queue-at
+    returns)

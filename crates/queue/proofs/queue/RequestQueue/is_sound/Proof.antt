@@ -6,11 +6,11 @@ use borrow.Author.Rules.{rules}
 use Rattle.queue.proofs.queue.RequestQueue.is_sound.Statement.{statement}
 use Rattle.queue.proofs.queue.RequestQueue.is_sound.Tie as tie
 
-returns : tie.Need-returns
-returns c = let q = c.before.before.before.args.self in sym (unsound_of (is_sound q) (common q.links) (sym c.enum_told.given.1 ∙ c.before.before.sound-bytes.ensures))
+returns-in-Unsound : tie.Need-returns-in-Unsound
+returns-in-Unsound c = let q = c.before.before.args.self in sym (unsound_of (is_sound q) (common q.links) (sym c.in-Unsound.is ∙ c.before.sound_bytes.ensures))
 
-returns-2 : tie.Need-returns-2
-returns-2 c = let q = c.before.before.before.args.self in sym (bytes_of (is_sound q) (common q.links) c.enum-told2.given.0.0 (sym c.enum-told2.given.1 ∙ c.before.before.sound-bytes.ensures)).0
+returns-in-Bytes : tie.Need-returns-in-Bytes
+returns-in-Bytes c = let q = c.before.before.args.self in sym (bytes_of (is_sound q) (common q.links) c.in-Bytes.field-0 (sym c.in-Bytes.is ∙ c.before.sound_bytes.ensures)).0
 
 pub is_sound_spec : {M : Type 1} → statement M
-is_sound_spec = tie.close (tie.spec (λ c κs. search rules) (λ c. search rules) (λ c. search rules) returns returns-2)
+is_sound_spec = tie.close (tie.spec (λ c κs. search rules) (λ c. search rules) (λ c. search rules) returns-in-Unsound returns-in-Bytes)

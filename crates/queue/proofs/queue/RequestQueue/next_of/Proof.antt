@@ -10,36 +10,36 @@ use borrow.Author.Rules.{rules}
 use Rattle.queue.proofs.queue.RequestQueue.next_of.Statement.{statement}
 use Rattle.queue.proofs.queue.RequestQueue.next_of.Tie as tie
 
-returns : tie.Need-returns
-returns c =
+returns-then-not-is_peer : tie.Need-returns-then-not-is_peer
+returns-then-not-is_peer c =
     let a = c.before.before.args in
-    sym (ap (λ (t : Bool). cond t (link_of a.t1 a.peer).next 0) (sym c.before.is-peer.ensures ∙ not-true _ c.if1.true))
+    sym (ap (λ (t : Bool). cond t (link_of a.self a.peer).next 0) (sym c.before.is_peer.ensures ∙ c.if-not-is_peer.true))
 
-is_one : (c : tie.Else1) → is_peer c.before.before.args.peer ≡ true
-is_one c = sym c.before.is-peer.ensures ∙ not-false _ c.if1.false
+is_one : (c : tie.Else-not-is_peer) → is_peer c.before.before.args.peer ≡ true
+is_one c = sym c.before.is_peer.ensures ∙ c.if-not-is_peer.false
 
-facts : (c : tie.Else1) → (1 ≤ c.before.before.args.peer) × (c.before.before.args.peer ≤ 4)
+facts : (c : tie.Else-not-is_peer) → (1 ≤ c.before.before.args.peer) × (c.before.before.args.peer ≤ 4)
 facts c = peer_facts c.before.before.args.peer (is_one c)
 
-sub_at : tie.Need-overflow-sub-at
-sub_at c = omega (arith, (facts c).0)
+overflow_sub-at : tie.Need-overflow_sub-at
+overflow_sub-at c = omega (arith, (facts c).0)
 
-element-copy-out-l : tie.Need-element-copy-out-l
-element-copy-out-l c = omega (arith, (facts c).0, (facts c).1)
+bounds-self-at : tie.Need-bounds-self-at
+bounds-self-at c = omega (arith, (facts c).0, (facts c).1)
 
-returns-2 : tie.Need-returns-2
-returns-2 c =
+returns : tie.Need-returns
+returns c =
     let a = c.before.before.before.args in
-    sym (ap (λ (t : Bool). cond t (link_of a.t1 a.peer).next 0) (is_one c.before))
+    sym (ap (λ (t : Bool). cond t (link_of a.self a.peer).next 0) (is_one c.before))
 
 pub next_of_spec : {M : Type 1} → statement M
 next_of_spec =
     tie.close
     (tie.spec
     (λ c κs. search rules)
-    returns
-    sub_at
+    returns-then-not-is_peer
+    overflow_sub-at
     (λ c. search rules)
     (λ c. search rules)
-    element-copy-out-l
-    returns-2)
+    bounds-self-at
+    returns)

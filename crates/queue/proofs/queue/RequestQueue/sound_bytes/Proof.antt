@@ -10,70 +10,70 @@ use Rattle.queue.proofs.QueueLaws.{Passed, passed_none, passed_more, passed_not,
 use Rattle.queue.proofs.queue.RequestQueue.sound_bytes.Statement.{statement}
 use Rattle.queue.proofs.queue.RequestQueue.sound_bytes.Tie as tie
 
-abbrev invariant-loop : tie.invariant-loop
+abbrev invariant-loop : tie.invariant-loop-i
 invariant-loop self sum₀ i₀ sum i = (i ≤ 4) × ((length self.links ≡ 4) × ((sum + 2097152 * i ≤ 8388608) × Passed (drop i self.links) sum))
 
-abbrev decreases-loop : tie.decreases-loop
+abbrev decreases-loop : tie.decreases-loop-i
 decreases-loop self sum₀ i₀ sum i = i
 
-loop-holds : tie.Need-loop-init invariant-loop decreases-loop
+loop-holds : tie.Need-loop-i-init invariant-loop decreases-loop
 loop-holds c =
-    let l : length c.args.t1.links ≡ 4 = search (rules, unmapped) in
-    (omega arith, (l, (omega arith, passed_none c.args.t1.links 4 (omega arith))))
+    let l : length c.args.self.links ≡ 4 = search (rules, unmapped) in
+    (omega arith, (l, (omega arith, passed_none c.args.self.links 4 (omega arith))))
 
-sub-i : tie.Need-overflow-sub-i invariant-loop decreases-loop
-sub-i c = omega arith
+overflow_sub-i : tie.Need-overflow_sub-i invariant-loop decreases-loop
+overflow_sub-i c = omega arith
 
-mul-l : tie.Need-overflow-mul-l invariant-loop decreases-loop
-mul-l c = omega arith
+offset_bounds-self-i : tie.Need-offset_bounds-self-i invariant-loop decreases-loop
+offset_bounds-self-i c = omega arith
 
-element-copy-out-l : tie.Need-element-copy-out-l invariant-loop decreases-loop
-element-copy-out-l c = omega arith
+bounds-self-i : tie.Need-bounds-self-i invariant-loop decreases-loop
+bounds-self-i c = omega arith
 
-orderly-bytes-requires : tie.Need-orderly-bytes-requires invariant-loop decreases-loop
-orderly-bytes-requires c κs = search rules
+orderly_bytes-requires : tie.Need-orderly_bytes-requires invariant-loop decreases-loop
+orderly_bytes-requires c κs = search rules
 
-enum-known-n : tie.Need-enum-known-n invariant-loop decreases-loop
-enum-known-n c = search rules
+enum_known-n : tie.Need-enum_known-n invariant-loop decreases-loop
+enum_known-n c = search rules
 
-enum_told : tie.Need-enum-told invariant-loop decreases-loop
-enum_told c = search rules
+enum_told-1 : tie.Need-enum_told-1 invariant-loop decreases-loop
+enum_told-1 c = search rules
 
-returns : tie.Need-returns invariant-loop decreases-loop
-returns c =
-    let h = c.before.before.before.before.before.loop in
-    let q = c.before.before.before.before.before.before.args.t1 in
-    unsound_order q (passed_not no_link q.links h.i h.sum (omega arith) (omega arith) (sym c.enum_told.given.1 ∙ c.before.before.orderly-bytes.ensures))
+returns-in_default : tie.Need-returns-in_default invariant-loop decreases-loop
+returns-in_default c =
+    let h = c.before.before.before.before.loop-i in
+    let q = c.before.before.before.before.before.args.self in
+    unsound_order q (passed_not no_link q.links h.i h.sum (omega arith) (omega arith) (sym c.in_default.is ∙ c.before.orderly_bytes.ensures))
 
-few : (c : tie.After-known-told invariant-loop decreases-loop) → c.before.n.given.0.0 ≤ 2097152
-few c = bytes_most _ _ (sym c.before.n.given.1 ∙ c.before.before.before.orderly-bytes.ensures)
+few : (c : tie.In-Bytes invariant-loop decreases-loop) → c.in-Bytes.n ≤ 2097152
+few c = bytes_most _ _ (sym c.in-Bytes.is ∙ c.before.orderly_bytes.ensures)
 
-add-sum : tie.Need-overflow-add-sum invariant-loop decreases-loop
-add-sum c = omega (arith, few c)
+overflow_add-sum : tie.Need-overflow_add-sum invariant-loop decreases-loop
+overflow_add-sum c = omega (arith, few c)
 
-loop-less : tie.Need-loop-smaller invariant-loop decreases-loop
+loop-less : tie.Need-loop-i-smaller invariant-loop decreases-loop
 loop-less c = omega arith
 
-loop-again : tie.Need-loop-preserved invariant-loop decreases-loop
+loop-again : tie.Need-loop-i-preserved invariant-loop decreases-loop
 loop-again c =
-    let h = c.before.before.before.before.before.before.loop in
-    let q = c.before.before.before.before.before.before.before.args.t1 in (
+    let h = c.before.before.before.before.loop-i in
+    let q = c.before.before.before.before.before.args.self in (
       omega arith,
       (
         h.invariant.1.0,
         (
           omega (arith, few c),
-          passed_more no_link q.links h.i h.sum (omega arith) (omega arith) c.before.n.given.0.0 h.invariant.1.1.1
-              (sym c.before.n.given.1 ∙ c.before.before.before.orderly-bytes.ensures),
+          passed_more no_link q.links h.i h.sum (omega arith) (omega arith) c.in-Bytes.n h.invariant.1.1.1
+              (sym c.in-Bytes.is ∙ c.before.orderly_bytes.ensures),
         ),
       ),
     )
 
-returns-2 : tie.Need-returns-2 invariant-loop decreases-loop
-returns-2 c = let h = c.before.before.loop in unsound_bytes c.before.before.before.args.t1 h.i h.sum c.before.loop-test.false h.invariant.1.1.1 c.if1.true
+returns-then-sum-gt-ALLOWANCE : tie.Need-returns-then-sum-gt-ALLOWANCE invariant-loop decreases-loop
+returns-then-sum-gt-ALLOWANCE c = let h = c.before.before.loop-i in unsound_bytes c.before.before.before.args.self h.i h.sum c.before.loop-i-test.false h.invariant.1.1.1 c.if-sum-gt-ALLOWANCE.true
 
-returns-3 : tie.Need-returns-3 invariant-loop decreases-loop
-returns-3 c = let h = c.before.before.loop in sound_told c.before.before.before.args.t1 h.i h.sum c.before.loop-test.false h.invariant.1.1.1 c.if1.false
+returns : tie.Need-returns invariant-loop decreases-loop
+returns c = let h = c.before.before.loop-i in sound_told c.before.before.before.args.self h.i h.sum c.before.loop-i-test.false h.invariant.1.1.1 c.if-sum-gt-ALLOWANCE.false
 
 pub sound_bytes_spec : {M : Type 1} → statement M
 sound_bytes_spec =
@@ -82,15 +82,15 @@ sound_bytes_spec =
     invariant-loop
     decreases-loop
     loop-holds
-    sub-i
-    mul-l
-    element-copy-out-l
-    orderly-bytes-requires
-    enum-known-n
-    enum_told
-    returns
-    add-sum
+    overflow_sub-i
+    offset_bounds-self-i
+    bounds-self-i
+    orderly_bytes-requires
+    enum_known-n
+    enum_told-1
+    returns-in_default
+    overflow_add-sum
     loop-less
     loop-again
-    returns-2
-    returns-3)
+    returns-then-sum-gt-ALLOWANCE
+    returns)
