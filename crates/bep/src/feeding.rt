@@ -51,8 +51,7 @@ fn give_header(header: Header, answer: &mut [u64; 2]) -> u32
 }
 
 // Opens a state for a message.
-#[unsafe(no_mangle)]
-pub extern "C" fn bep_feed_open(feed: &mut [u32; 16]) -> u32
+pub fn bep_feed_open(feed: &mut [u32; 16]) -> u32
     ensures { (result ≡ 0) × Lent (opened Edition.New) feed.new }
 {
     let state = Feed::open(Edition::New);
@@ -61,8 +60,7 @@ pub extern "C" fn bep_feed_open(feed: &mut [u32; 16]) -> u32
 }
 
 // Opens a state for a message of the old edition.
-#[unsafe(no_mangle)]
-pub extern "C" fn bep_feed_open_old(feed: &mut [u32; 16]) -> u32
+pub fn bep_feed_open_old(feed: &mut [u32; 16]) -> u32
     ensures { (result ≡ 0) × Lent (opened Edition.Old) feed.new }
 {
     let state = Feed::open(Edition::Old);
@@ -72,8 +70,7 @@ pub extern "C" fn bep_feed_open_old(feed: &mut [u32; 16]) -> u32
 
 // Feeds a run: the answer is how many bytes are surely still missing (1), the length of the message (0) or the place; and how many bytes of
 // the run were taken.
-#[unsafe(no_mangle)]
-pub extern "C" fn bep_feed(feed: &mut [u32; 16], run: &[u8], answer: &mut [u64; 2]) -> u32
+pub fn bep_feed(feed: &mut [u32; 16], run: &[u8], answer: &mut [u64; 2]) -> u32
     ensures { Feeds feed.old run.now result answer.new feed.new }
 {
     let said = feed_words(feed, run);
@@ -81,8 +78,7 @@ pub extern "C" fn bep_feed(feed: &mut [u32; 16], run: &[u8], answer: &mut [u64; 
 }
 
 // The type and the ID of the message, once its four first bytes have come: before that 1 and zeros. Any words have an answer.
-#[unsafe(no_mangle)]
-pub extern "C" fn bep_feed_header(feed: &[u32; 16], answer: &mut [u64; 2]) -> u32
+pub fn bep_feed_header(feed: &[u32; 16], answer: &mut [u64; 2]) -> u32
     ensures { (result ≡ header_number (header_in (feed_of feed.now).front))
         × (answer.new ≡ header_words (header_in (feed_of feed.now).front)) }
 {

@@ -48,8 +48,7 @@ fn laid_out(hasher: Hasher) -> [u32; 10]
 }
 
 // The digest of a message.
-#[unsafe(no_mangle)]
-pub extern "C" fn bep_sha256(message: &[u8], digest: &mut [u8; 32]) -> u32
+pub fn bep_sha256(message: &[u8], digest: &mut [u8; 32]) -> u32
     ensures { (result ≡ 0) × (digest.new ≡ fips.digest message.now) }
 {
     *digest = sha256::digest(message);
@@ -57,8 +56,7 @@ pub extern "C" fn bep_sha256(message: &[u8], digest: &mut [u8; 32]) -> u32
 }
 
 // No bytes yet.
-#[unsafe(no_mangle)]
-pub extern "C" fn bep_sha256_begin(words: &mut [u32; 10], tail: &mut [u8; 64]) -> u32
+pub fn bep_sha256_begin(words: &mut [u32; 10], tail: &mut [u8; 64]) -> u32
     ensures { Keeps begun result words.new tail.new }
 {
     let hasher = Hasher::begin();
@@ -69,8 +67,7 @@ pub extern "C" fn bep_sha256_begin(words: &mut [u32; 10], tail: &mut [u8; 64]) -
 }
 
 // Further bytes.
-#[unsafe(no_mangle)]
-pub extern "C" fn bep_sha256_update(words: &mut [u32; 10], tail: &mut [u8; 64], bytes: &[u8]) -> u32
+pub fn bep_sha256_update(words: &mut [u32; 10], tail: &mut [u8; 64], bytes: &[u8]) -> u32
     ensures { Keeps (continued (hasher_of words.old tail.old) bytes.now)
         result words.new tail.new }
 {
@@ -83,8 +80,7 @@ pub extern "C" fn bep_sha256_update(words: &mut [u32; 10], tail: &mut [u8; 64], 
 }
 
 // The digest of all bytes.
-#[unsafe(no_mangle)]
-pub extern "C" fn bep_sha256_finish(
+pub fn bep_sha256_finish(
     words: &[u32; 10],
     tail: &[u8; 64],
     digest: &mut [u8; 32],

@@ -41,8 +41,7 @@ fn key_words(f: OptionFields) -> [u64; 5]
 }
 
 // The file at a place.
-#[unsafe(no_mangle)]
-pub extern "C" fn bep_file(files: &[u8], at: usize, answer: &mut [u64; 8]) -> u32
+pub fn bep_file(files: &[u8], at: usize, answer: &mut [u64; 8]) -> u32
     ensures { (result ≡ file_number (outline_of files.now at))
         × (answer.new ≡ file_words (missing_of files.now at) (outline_of files.now at)) }
 {
@@ -56,8 +55,7 @@ pub extern "C" fn bep_file(files: &[u8], at: usize, answer: &mut [u64; 8]) -> u3
 }
 
 // The option at a place.
-#[unsafe(no_mangle)]
-pub extern "C" fn bep_option(options: &[u8], at: usize, answer: &mut [u64; 5]) -> u32
+pub fn bep_option(options: &[u8], at: usize, answer: &mut [u64; 5]) -> u32
     ensures { (result ≡ option_number (option_of options.now at))
         × (answer.new ≡ option_words (missing_option options.now at) (option_of options.now at)) }
 {
@@ -71,8 +69,7 @@ pub extern "C" fn bep_option(options: &[u8], at: usize, answer: &mut [u64; 5]) -
 }
 
 // A walk's step: the record at a place of a table, in the words of `bep_file`; or the end, with zeros.
-#[unsafe(no_mangle)]
-pub extern "C" fn bep_step(table: &[u8], at: usize, answer: &mut [u64; 8]) -> u32
+pub fn bep_step(table: &[u8], at: usize, answer: &mut [u64; 8]) -> u32
     ensures { (result ≡ step_number (step_at table.now at)) × (answer.new ≡ step_words (step_at table.now at)) }
 {
     let step = walker::step_at(table, at);

@@ -93,8 +93,7 @@ fn give_arrival(o: Arrival, answer: &mut [u64; 5]) -> u32
 
 // Opens an empty queue with a window for each peer, where its bit in `stated` is set (1 for peer 1, then 2, 4 and 8), and the default for the
 // others. If one is not 1 to 16, all are refused (22): four empty lists of window 0 are left, which every call but the totals refuses.
-#[unsafe(no_mangle)]
-pub extern "C" fn bep_queue_open(
+pub fn bep_queue_open(
     queue: &mut [u32; 140],
     hashes: &mut [u8; 2048],
     windows: &[u32; 4],
@@ -107,8 +106,7 @@ pub extern "C" fn bep_queue_open(
 }
 
 // Issues a Request for a peer with its next ID: the answer is the number of bytes written and the ID, or the place and 0.
-#[unsafe(no_mangle)]
-pub extern "C" fn bep_queue_issue(
+pub fn bep_queue_issue(
     out: &mut [u8],
     queue: &mut [u32; 140],
     hashes: &mut [u8; 2048],
@@ -133,8 +131,7 @@ pub extern "C" fn bep_queue_issue(
 
 // Releases the oldest request of a peer by the Response to it: the answer is 0 where it brought the data, 1 where they are not available, 2 where
 // their size is wrong and 3 where their hash is not the one asked for; the request's ID and Length; and the data's start and length in the message.
-#[unsafe(no_mangle)]
-pub extern "C" fn bep_queue_answer(
+pub fn bep_queue_answer(
     queue: &mut [u32; 140],
     hashes: &mut [u8; 2048],
     peer: u32,
@@ -149,16 +146,14 @@ pub extern "C" fn bep_queue_answer(
 }
 
 // Releases everything of a peer, and nothing of the others: its link is gone.
-#[unsafe(no_mangle)]
-pub extern "C" fn bep_queue_drop(queue: &mut [u32; 140], hashes: &mut [u8; 2048], peer: u32) -> u32
+pub fn bep_queue_drop(queue: &mut [u32; 140], hashes: &mut [u8; 2048], peer: u32) -> u32
     ensures { Becomes (drop_of (queue_of queue.old hashes.old) peer) result queue.new hashes.new }
 {
     verdict_number(queue_lent::drop_link(queue, hashes, peer))
 }
 
 // How many requests are outstanding and their bytes, over all four peers and then of each. Any queue has them.
-#[unsafe(no_mangle)]
-pub extern "C" fn bep_queue_totals(queue: &[u32; 140], answer: &mut [u64; 10]) -> u32
+pub fn bep_queue_totals(queue: &[u32; 140], answer: &mut [u64; 10]) -> u32
     ensures { (result ≡ 0) × (answer.new ≡ totals_of (queue_of queue.now [])) }
 {
     *answer = queue_lent::all_totals(queue);

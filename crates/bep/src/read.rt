@@ -129,8 +129,7 @@ fn read_number(m: Message) -> u32
 }
 
 // Reads the message at the front of some bytes: whatever follows its end belongs to the next one.
-#[unsafe(no_mangle)]
-pub extern "C" fn bep_read(input: &[u8], answer: &mut [u64; 11]) -> u32
+pub fn bep_read(input: &[u8], answer: &mut [u64; 11]) -> u32
     ensures { (result ≡ read_number (message_in Edition.New input.now))
         × (answer.new ≡ read_words (message_in Edition.New input.now)) }
 {
@@ -140,8 +139,7 @@ pub extern "C" fn bep_read(input: &[u8], answer: &mut [u64; 11]) -> u32
 }
 
 // The same of the old edition. A message has no Repository there: its start is 4 and its length 0.
-#[unsafe(no_mangle)]
-pub extern "C" fn bep_read_old(input: &[u8], answer: &mut [u64; 11]) -> u32
+pub fn bep_read_old(input: &[u8], answer: &mut [u64; 11]) -> u32
     ensures { (result ≡ read_number (message_in Edition.Old input.now))
         × (answer.new ≡ read_words (message_in Edition.Old input.now)) }
 {

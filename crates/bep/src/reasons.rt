@@ -26,8 +26,7 @@ fn give_reason(why: Reason, answer: &mut [u64; 3]) -> u32
 }
 
 // Why block number `block` of a name isn't coming, by a local table and four peers' tables.
-#[unsafe(no_mangle)]
-pub extern "C" fn bep_why<'a>(
+pub fn bep_why<'a>(
     local: &'a [u8],
     peer1: &'a [u8],
     peer2: &'a [u8],

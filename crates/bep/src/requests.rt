@@ -12,8 +12,7 @@ use crate::filling::give;
 use want::{Details, Found};
 
 // The request list of a local table and four peers' tables.
-#[unsafe(no_mangle)]
-pub extern "C" fn bep_request_list<'a>(
+pub fn bep_request_list<'a>(
     out: &mut [u8],
     local: &'a [u8],
     peer1: &'a [u8],
@@ -65,8 +64,7 @@ fn give_details(details: Details, answer: &mut [u64; 6]) -> u32
 }
 
 // What a Request for a block says, by its file's number and its own in the request list of a local table and four peers' tables.
-#[unsafe(no_mangle)]
-pub extern "C" fn bep_details<'a>(
+pub fn bep_details<'a>(
     local: &'a [u8],
     peer1: &'a [u8],
     peer2: &'a [u8],
@@ -85,8 +83,7 @@ pub extern "C" fn bep_details<'a>(
 }
 
 // Where a table first lists a block with this length and hash.
-#[unsafe(no_mangle)]
-pub extern "C" fn bep_find(table: &[u8], size: u32, hash: &[u8], answer: &mut [u64; 3]) -> u32
+pub fn bep_find(table: &[u8], size: u32, hash: &[u8], answer: &mut [u64; 3]) -> u32
     ensures { Finds (found_in table.now (block_with size hash.now)) result answer.new }
 {
     match want::find_local(table, size, hash) {

@@ -43,8 +43,7 @@ fn give_serving(s: Serving, answer: &mut [u64; 5]) -> u32
 }
 
 // Serves a Request, or replies to it with no data.
-#[unsafe(no_mangle)]
-pub extern "C" fn bep_serve(
+pub fn bep_serve(
     out: &mut [u8],
     table: &[u8],
     repository: &[u8],

@@ -11,8 +11,7 @@ use order::Order;
 use record::Outline;
 
 // Whether bytes are a good table: 0, or 15.
-#[unsafe(no_mangle)]
-pub extern "C" fn bep_check_table(table: &[u8]) -> u32
+pub fn bep_check_table(table: &[u8]) -> u32
     ensures { result ≡ good_number (is_good table.now) }
 {
     if table::is_good(table) {
@@ -33,8 +32,7 @@ fn order_word(o: Order) -> u64
 }
 
 // Compares the record at a place of one table with that at a place of another, by which is the newer: names do not count.
-#[unsafe(no_mangle)]
-pub extern "C" fn bep_compare(a: &[u8], i: usize, b: &[u8], j: usize, answer: &mut [u64; 1]) -> u32
+pub fn bep_compare(a: &[u8], i: usize, b: &[u8], j: usize, answer: &mut [u64; 1]) -> u32
     ensures { Compares a.now i b.now j result answer.new }
 {
     let first = record::outline_at(a, i);
@@ -52,8 +50,7 @@ pub extern "C" fn bep_compare(a: &[u8], i: usize, b: &[u8], j: usize, answer: &m
 }
 
 // Merges two tables.
-#[unsafe(no_mangle)]
-pub extern "C" fn bep_merge(out: &mut [u8], a: &[u8], b: &[u8], answer: &mut [u64; 1]) -> u32
+pub fn bep_merge(out: &mut [u8], a: &[u8], b: &[u8], answer: &mut [u64; 1]) -> u32
     ensures { Gives (merge_outcome a.now b.now) out.old result answer.new out.new }
 {
     let f = merge::merge(a, b, out);
@@ -61,8 +58,7 @@ pub extern "C" fn bep_merge(out: &mut [u8], a: &[u8], b: &[u8], answer: &mut [u6
 }
 
 // The sender's new table, by an Index or an IndexUpdate.
-#[unsafe(no_mangle)]
-pub extern "C" fn bep_accept(
+pub fn bep_accept(
     out: &mut [u8],
     old: &[u8],
     message: &[u8],

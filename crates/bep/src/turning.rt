@@ -5,8 +5,7 @@ ghost use Rattle.bep.specs.Filling.{Gives};
 use crate::filling::give;
 
 // An old message becomes a new one, with the Repository that is given if a message of its type has one.
-#[unsafe(no_mangle)]
-pub extern "C" fn bep_upgrade(
+pub fn bep_upgrade(
     out: &mut [u8],
     message: &[u8],
     repository: &[u8],
@@ -21,8 +20,7 @@ pub extern "C" fn bep_upgrade(
 }
 
 // A new message becomes an old one, without its Repository.
-#[unsafe(no_mangle)]
-pub extern "C" fn bep_downgrade(out: &mut [u8], message: &[u8], answer: &mut [u64; 1]) -> u32
+pub fn bep_downgrade(out: &mut [u8], message: &[u8], answer: &mut [u64; 1]) -> u32
     ensures { Gives
         (downgrading message.now)
         out.old result answer.new out.new }

@@ -9,8 +9,7 @@ use crate::filling::give;
 use message::Edition;
 
 // An Index: its files are an encoded array, and bytes after the array's end do not count.
-#[unsafe(no_mangle)]
-pub extern "C" fn bep_write_index(
+pub fn bep_write_index(
     out: &mut [u8],
     id: u32,
     repository: &[u8],
@@ -26,8 +25,7 @@ pub extern "C" fn bep_write_index(
 }
 
 // An IndexUpdate, likewise.
-#[unsafe(no_mangle)]
-pub extern "C" fn bep_write_index_update(
+pub fn bep_write_index_update(
     out: &mut [u8],
     id: u32,
     repository: &[u8],
@@ -43,8 +41,7 @@ pub extern "C" fn bep_write_index_update(
 }
 
 // A Request.
-#[unsafe(no_mangle)]
-pub extern "C" fn bep_write_request(
+pub fn bep_write_request(
     out: &mut [u8],
     id: u32,
     repository: &[u8],
@@ -63,8 +60,7 @@ pub extern "C" fn bep_write_request(
 }
 
 // An Index of the old edition, which has no Repository.
-#[unsafe(no_mangle)]
-pub extern "C" fn bep_write_old_index(
+pub fn bep_write_old_index(
     out: &mut [u8],
     id: u32,
     files: &[u8],
@@ -79,8 +75,7 @@ pub extern "C" fn bep_write_old_index(
 }
 
 // An IndexUpdate of the old edition.
-#[unsafe(no_mangle)]
-pub extern "C" fn bep_write_old_index_update(
+pub fn bep_write_old_index_update(
     out: &mut [u8],
     id: u32,
     files: &[u8],
@@ -95,8 +90,7 @@ pub extern "C" fn bep_write_old_index_update(
 }
 
 // A Request of the old edition.
-#[unsafe(no_mangle)]
-pub extern "C" fn bep_write_old_request(
+pub fn bep_write_old_request(
     out: &mut [u8],
     id: u32,
     name: &[u8],
@@ -114,8 +108,7 @@ pub extern "C" fn bep_write_old_request(
 }
 
 // A Response: one without data says that the block is not available.
-#[unsafe(no_mangle)]
-pub extern "C" fn bep_write_response(
+pub fn bep_write_response(
     out: &mut [u8],
     id: u32,
     data: &[u8],
@@ -130,8 +123,7 @@ pub extern "C" fn bep_write_response(
 }
 
 // A Ping.
-#[unsafe(no_mangle)]
-pub extern "C" fn bep_write_ping(out: &mut [u8], id: u32, answer: &mut [u64; 1]) -> u32
+pub fn bep_write_ping(out: &mut [u8], id: u32, answer: &mut [u64; 1]) -> u32
     ensures { Gives
         (writing (message Edition.New) id 4 [])
         out.old result answer.new out.new }
@@ -141,8 +133,7 @@ pub extern "C" fn bep_write_ping(out: &mut [u8], id: u32, answer: &mut [u64; 1])
 }
 
 // A Pong.
-#[unsafe(no_mangle)]
-pub extern "C" fn bep_write_pong(out: &mut [u8], id: u32, answer: &mut [u64; 1]) -> u32
+pub fn bep_write_pong(out: &mut [u8], id: u32, answer: &mut [u64; 1]) -> u32
     ensures { Gives
         (writing (message Edition.New) id 5 [])
         out.old result answer.new out.new }
@@ -152,8 +143,7 @@ pub extern "C" fn bep_write_pong(out: &mut [u8], id: u32, answer: &mut [u64; 1])
 }
 
 // An Options message: its options are an encoded array, and bytes after the array's end do not count.
-#[unsafe(no_mangle)]
-pub extern "C" fn bep_write_options(
+pub fn bep_write_options(
     out: &mut [u8],
     id: u32,
     options: &[u8],

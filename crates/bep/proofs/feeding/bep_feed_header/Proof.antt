@@ -9,8 +9,8 @@ use Rattle.bep.proofs.feeding.bep_feed_header.Tie as tie
 
 returns : tie.Need-returns
 returns c =
-    let e = c.before.before.header.ensures ∙ ap (λ (x : Feed). header_in x.front) c.before.before.before.unpacked.ensures in
-    (c.give-header.ensures.0 ∙ ap header_number e, c.give-header.ensures.1 ∙ ap header_words e)
+    let e = c.before.before.header.ensures ∙ ap (λ (x : Feed). header_in x.front) c.before.before.before.unpacked-state.ensures in
+    (c.give_header.ensures.0 ∙ ap header_number e, c.give_header.ensures.1 ∙ ap header_words e)
 
 pub bep_feed_header_spec : {M : Type 1} → statement M
 bep_feed_header_spec = tie.close (tie.spec (λ c κs. search rules) (λ c κs. search rules) (λ c κs. search rules) returns)

@@ -7,7 +7,7 @@ use Rattle.bep.proofs.feeding.bep_feed_open.Statement.{statement}
 use Rattle.bep.proofs.feeding.bep_feed_open.Tie as tie
 
 returns : tie.Need-returns
-returns c = (refl, subst (λ (x : Feed). Lent x c.packed.result) c.before.«open».ensures c.packed.ensures)
+returns c = (refl, subst (λ (x : Feed). Lent x c.packed.result) c.before.open-state.ensures c.packed.ensures)
 
 pub bep_feed_open_spec : {M : Type 1} → statement M
 bep_feed_open_spec = tie.close (tie.spec (λ c κs. search rules) (λ c κs. search rules) returns)

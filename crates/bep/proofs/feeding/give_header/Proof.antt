@@ -5,8 +5,8 @@ use borrow.Author.Rules.{rules}
 use Rattle.bep.proofs.feeding.give_header.Statement.{statement}
 use Rattle.bep.proofs.feeding.give_header.Tie as tie
 
-returns : tie.Need-returns
-returns c = let e = sym c.before.before.header.given.1 in (ap header_number e, ap header_words e)
+returns-in-Known : tie.Need-returns-in-Known
+returns-in-Known c = let e = sym c.before.in-Known.is in (ap header_number e, ap header_words e)
 
 pub give_header_spec : {M : Type 1} → statement M
 give_header_spec =
@@ -16,5 +16,5 @@ give_header_spec =
     (λ c. search rules)
     (λ c. search rules)
     (λ c. search rules)
-    returns
+    returns-in-Known
     (λ c. search rules))

@@ -8,7 +8,7 @@ use Rattle.bep.proofs.hashing.bep_sha256_finish.Statement.{statement}
 use Rattle.bep.proofs.hashing.bep_sha256_finish.Tie as tie
 
 returns : tie.Need-returns
-returns c = (refl, c.finish.ensures ∙ ap (λ (x : Hasher). state_bytes (ended x)) c.before.taken_up.ensures)
+returns c = (refl, c.finish.ensures ∙ ap (λ (x : Hasher). state_bytes (ended x)) c.before.taken_up-hasher.ensures)
 
 pub bep_sha256_finish_spec : {M : Type 1} → statement M
 bep_sha256_finish_spec = tie.close (tie.spec (λ c κs. search rules) (λ c κs. search rules) returns)

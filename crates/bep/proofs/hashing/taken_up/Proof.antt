@@ -5,7 +5,7 @@ use Rattle.bep.proofs.hashing.taken_up.Statement.{statement}
 use Rattle.bep.proofs.hashing.taken_up.Tie as tie
 
 returns : tie.Need-returns
-returns c = let x = c.before.before.before.before.before.before.before.before.before.before.before.before.args in taken_up x.words.now x.tail.now c.joined.ensures
+returns c = let x = c.before.before.before.before.before.before.before.before.before.before.before.before.before.args in taken_up x.words.now x.tail.now c.joined.ensures
 
 pub taken_up_spec : {M : Type 1} → statement M
 taken_up_spec =

@@ -27,20 +27,20 @@ name_first s at f e =
     let g = fields_from s (at + 4) (at + 4 + word_at s at) (at + 4 + padded (word_at s at)) in
     rw (same-fields (leb g.past (length s)) f g e) (omega arith)
 
-returns : tie.Need-returns
-returns c =
-    let a = c.before.before.before.before.before.before.args in
-    let e = sym c.before.before.enum_told.given.1 ∙ c.before.before.before.before.outline-at.ensures in
+returns-in_default : tie.Need-returns-in_default
+returns-in_default c =
+    let a = c.before.before.before.before.before.args in
+    let e = sym c.before.before.in_default.is ∙ c.before.before.before.outline_at-outline.ensures in
     (ap file_number e, ap (λ (k : ℕ). k ∷ replicate 7 0) c.before.missing_at.ensures ∙ ap (file_words (missing_of a.files.now a.at)) e)
 
-field-words-requires : tie.Need-field-words-requires
-field-words-requires c κs = name_first _ _ _ (sym c.before.outline.given.1 ∙ c.before.before.before.outline-at.ensures)
+field_words-requires : tie.Need-field_words-requires
+field_words-requires c κs = name_first _ _ _ (sym c.in-Whole.is ∙ c.before.outline_at-outline.ensures)
 
-returns-2 : tie.Need-returns-2
-returns-2 c =
-    let a = c.before.before.before.before.before.before.args in
-    let e = sym c.before.before.outline.given.1 ∙ c.before.before.before.before.outline-at.ensures in
-    (ap file_number e, c.field-words.ensures ∙ ap (file_words (missing_of a.files.now a.at)) e)
+returns : tie.Need-returns
+returns c =
+    let a = c.before.before.before.before.args in
+    let e = sym c.before.in-Whole.is ∙ c.before.before.outline_at-outline.ensures in
+    (ap file_number e, c.field_words.ensures ∙ ap (file_words (missing_of a.files.now a.at)) e)
 
 pub bep_file_spec : {M : Type 1} → statement M
 bep_file_spec =
@@ -50,6 +50,6 @@ bep_file_spec =
     (λ c. search rules)
     (λ c. search rules)
     (λ c κs. search rules)
-    returns
-    field-words-requires
-    returns-2)
+    returns-in_default
+    field_words-requires
+    returns)

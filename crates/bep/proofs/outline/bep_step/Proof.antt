@@ -6,17 +6,17 @@ use borrow.Author.Rules.{rules}
 use Rattle.bep.proofs.outline.bep_step.Statement.{statement}
 use Rattle.bep.proofs.outline.bep_step.Tie as tie
 
-field-words-requires : tie.Need-field-words-requires
-field-words-requires c κs = subst NameFirst (sym (sym c.before.step.given.1 ∙ c.before.before.before.step-at.ensures)) (name_first _ _)
+field_words-requires : tie.Need-field_words-requires
+field_words-requires c κs = subst NameFirst (sym (sym c.in-Record.is ∙ c.before.step_at-step.ensures)) (name_first _ _)
 
-returns : tie.Need-returns
-returns c = let e = sym c.before.before.step.given.1 ∙ c.before.before.before.before.step-at.ensures in (ap step_number e, c.field-words.ensures ∙ ap step_words e)
+returns-in-Record : tie.Need-returns-in-Record
+returns-in-Record c = let e = sym c.before.in-Record.is ∙ c.before.before.step_at-step.ensures in (ap step_number e, c.field_words.ensures ∙ ap step_words e)
 
-returns-2 : tie.Need-returns-2
-returns-2 c = let e = sym c.before.enum_told.given.1 ∙ c.before.before.before.step-at.ensures in (ap step_number e, ap step_words e)
+returns-in-End : tie.Need-returns-in-End
+returns-in-End c = let e = sym c.before.in-End.is ∙ c.before.before.step_at-step.ensures in (ap step_number e, ap step_words e)
 
-returns-3 : tie.Need-returns-3
-returns-3 c = let e = sym c.before.before.step2.given.1 ∙ c.before.before.before.before.step-at.ensures in (ap step_number e, ap step_words e)
+returns-in-Refused : tie.Need-returns-in-Refused
+returns-in-Refused c = let e = sym c.before.in-Refused.is ∙ c.before.before.step_at-step.ensures in (ap step_number e, ap step_words e)
 
 pub bep_step_spec : {M : Type 1} → statement M
 bep_step_spec =
@@ -24,9 +24,9 @@ bep_step_spec =
     (tie.spec
     (λ c κs. search rules)
     (λ c. search rules)
-    field-words-requires
+    field_words-requires
     (λ c. search rules)
     (λ c. search rules)
-    returns
-    returns-2
-    returns-3)
+    returns-in-Record
+    returns-in-End
+    returns-in-Refused)

@@ -5,7 +5,7 @@ use Rattle.bep.proofs.outstanding.bep_queue_drop.Statement.{statement}
 use Rattle.bep.proofs.outstanding.bep_queue_drop.Tie as tie
 
 returns : tie.Need-returns
-returns c = becomes c.before.drop-link.ensures c.verdict-number.ensures
+returns c = becomes c.before.drop_link.ensures c.verdict_number.ensures
 
 pub bep_queue_drop_spec : {M : Type 1} → statement M
 bep_queue_drop_spec = tie.close (tie.spec (λ c κs. search rules) (λ c κs. search rules) returns)

@@ -5,20 +5,20 @@ use borrow.Author.Rules.{rules}
 use Rattle.bep.proofs.outstanding.give_arrival.Statement.{statement}
 use Rattle.bep.proofs.outstanding.give_arrival.Tie as tie
 
-returns : tie.Need-returns
-returns c = let e = sym c.before.before.o.given.1 in (ap arrival_number e, ap arrival_words e)
+returns-in-Data : tie.Need-returns-in-Data
+returns-in-Data c = let e = sym c.before.in-Data.is in (ap arrival_number e, ap arrival_words e)
 
-returns-2 : tie.Need-returns-2
-returns-2 c = let e = sym c.before.before.o2.given.1 in (ap arrival_number e, ap arrival_words e)
+returns-in-NotAvailable : tie.Need-returns-in-NotAvailable
+returns-in-NotAvailable c = let e = sym c.before.in-NotAvailable.is in (ap arrival_number e, ap arrival_words e)
 
-returns-3 : tie.Need-returns-3
-returns-3 c = let e = sym c.before.before.o3.given.1 in (ap arrival_number e, ap arrival_words e)
+returns-in-WrongSize : tie.Need-returns-in-WrongSize
+returns-in-WrongSize c = let e = sym c.before.in-WrongSize.is in (ap arrival_number e, ap arrival_words e)
 
-returns-4 : tie.Need-returns-4
-returns-4 c = let e = sym c.before.before.o4.given.1 in (ap arrival_number e, ap arrival_words e)
+returns-in-WrongContent : tie.Need-returns-in-WrongContent
+returns-in-WrongContent c = let e = sym c.before.in-WrongContent.is in (ap arrival_number e, ap arrival_words e)
 
-returns-5 : tie.Need-returns-5
-returns-5 c = let e = sym c.before.before.o5.given.1 in (ap arrival_number e, ap arrival_words e)
+returns-in-Refused : tie.Need-returns-in-Refused
+returns-in-Refused c = let e = sym c.before.in-Refused.is in (ap arrival_number e, ap arrival_words e)
 
 pub give_arrival_spec : {M : Type 1} → statement M
 give_arrival_spec =
@@ -37,8 +37,8 @@ give_arrival_spec =
     (λ c. search rules)
     (λ c. search rules)
     (λ c. search rules)
-    returns
-    returns-2
-    returns-3
-    returns-4
-    returns-5)
+    returns-in-Data
+    returns-in-NotAvailable
+    returns-in-WrongSize
+    returns-in-WrongContent
+    returns-in-Refused)

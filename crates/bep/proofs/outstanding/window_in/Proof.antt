@@ -3,11 +3,11 @@ use borrow.Author.Tests.{eq-eqb, ne_eqb}
 use Rattle.bep.proofs.outstanding.window_in.Statement.{statement}
 use Rattle.bep.proofs.outstanding.window_in.Tie as tie
 
-returns : tie.Need-returns
-returns c = simp (eq-eqb _ _ c.if1.true)
+returns-then-bit-eq1 : tie.Need-returns-then-bit-eq1
+returns-then-bit-eq1 c = simp (eq-eqb _ _ c.if-bit-eq1.true)
 
-returns-2 : tie.Need-returns-2
-returns-2 c = simp (ne_eqb _ _ c.if1.false)
+returns-else-bit-eq1 : tie.Need-returns-else-bit-eq1
+returns-else-bit-eq1 c = simp (ne_eqb _ _ c.if-bit-eq1.false)
 
 pub window_in_spec : {M : Type 1} → statement M
-window_in_spec = tie.close (tie.spec returns returns-2)
+window_in_spec = tie.close (tie.spec returns-then-bit-eq1 returns-else-bit-eq1)

@@ -5,7 +5,7 @@ use Rattle.bep.proofs.outstanding.windows_in.Statement.{statement}
 use Rattle.bep.proofs.outstanding.windows_in.Tie as tie
 
 returns : tie.Need-returns
-returns c = rw (c.before.before.before.before.before.before.window-in.ensures, c.before.before.before.before.window-in2.ensures, c.before.before.window-in3.ensures, c.window-in4.ensures) refl
+returns c = rw (c.before.before.before.before.before.before.window_in-a.ensures, c.before.before.before.before.window_in-b.ensures, c.before.before.window_in-c.ensures, c.window_in-d.ensures) refl
 
 pub windows_in_spec : {M : Type 1} → statement M
 windows_in_spec =

@@ -22,8 +22,8 @@ accepted (M.IndexUpdate id x) h = refl
 accepted (M.Options id x) h = refl
 accepted (M.Refused r) h = absurd (miss (0 ∷ 1 ∷ 2 ∷ 3 ∷ 4 ∷ 5 ∷ 6 ∷ []) 7 tt h)
 
-returns : tie.Need-returns
-returns c = accepted c.before.args.m c.match.keys2
+returns-in_default : tie.Need-returns-in_default
+returns-in_default c = accepted c.before.args.m c.in_default.in_default-own.keys2
 
 pub read_number_spec : {M : Type 1} → statement M
-read_number_spec = tie.close (tie.spec (λ c. search rules) returns (λ c. search rules))
+read_number_spec = tie.close (tie.spec (λ c. search rules) returns-in_default (λ c. search rules))

@@ -5,29 +5,29 @@ use borrow.Author.Rules.{rules}
 use Rattle.bep.proofs.read.read_words.Statement.{statement}
 use Rattle.bep.proofs.read.read_words.Tie as tie
 
-returns : tie.Need-returns
-returns c = c.index-words.ensures ∙ ap read_words (sym c.before.before.m.given.1)
+returns-in-Index : tie.Need-returns-in-Index
+returns-in-Index c = c.index_words.ensures ∙ ap read_words (sym c.before.in-Index.is)
 
-returns-2 : tie.Need-returns-2
-returns-2 c = c.request-words.ensures ∙ ap read_words (sym c.before.before.m2.given.1)
+returns-in-Request : tie.Need-returns-in-Request
+returns-in-Request c = c.request_words.ensures ∙ ap read_words (sym c.before.in-Request.is)
 
-returns-3 : tie.Need-returns-3
-returns-3 c = c.response-words.ensures ∙ ap read_words (sym c.before.before.m3.given.1)
+returns-in-Response : tie.Need-returns-in-Response
+returns-in-Response c = c.response_words.ensures ∙ ap read_words (sym c.before.in-Response.is)
 
-returns-4 : tie.Need-returns-4
-returns-4 c = c.ping-words.ensures ∙ ap read_words (sym c.before.before.m4.given.1)
+returns-in-Ping : tie.Need-returns-in-Ping
+returns-in-Ping c = c.ping_words.ensures ∙ ap read_words (sym c.before.in-Ping.is)
 
-returns-5 : tie.Need-returns-5
-returns-5 c = c.ping-words2.ensures ∙ ap read_words (sym c.before.before.m5.given.1)
+returns-in-Pong : tie.Need-returns-in-Pong
+returns-in-Pong c = c.ping_words-in-Pong.ensures ∙ ap read_words (sym c.before.in-Pong.is)
 
-returns-6 : tie.Need-returns-6
-returns-6 c = c.index-words2.ensures ∙ ap read_words (sym c.before.before.m6.given.1)
+returns-in-IndexUpdate : tie.Need-returns-in-IndexUpdate
+returns-in-IndexUpdate c = c.index_words-in-IndexUpdate.ensures ∙ ap read_words (sym c.before.in-IndexUpdate.is)
 
-returns-7 : tie.Need-returns-7
-returns-7 c = c.options-words.ensures ∙ ap read_words (sym c.before.before.m7.given.1)
+returns-in-Options : tie.Need-returns-in-Options
+returns-in-Options c = c.options_words.ensures ∙ ap read_words (sym c.before.in-Options.is)
 
-returns-8 : tie.Need-returns-8
-returns-8 c = c.place-words.ensures ∙ ap read_words (sym c.before.before.m8.given.1)
+returns-in-Refused : tie.Need-returns-in-Refused
+returns-in-Refused c = c.place_words.ensures ∙ ap read_words (sym c.before.in-Refused.is)
 
 pub read_words_spec : {M : Type 1} → statement M
 read_words_spec =
@@ -49,11 +49,11 @@ read_words_spec =
     (λ c κs. search rules)
     (λ c. search rules)
     (λ c κs. search rules)
-    returns
-    returns-2
-    returns-3
-    returns-4
-    returns-5
-    returns-6
-    returns-7
-    returns-8)
+    returns-in-Index
+    returns-in-Request
+    returns-in-Response
+    returns-in-Ping
+    returns-in-Pong
+    returns-in-IndexUpdate
+    returns-in-Options
+    returns-in-Refused)

@@ -5,11 +5,11 @@ use borrow.Author.Rules.{rules}
 use Rattle.bep.proofs.reasons.give_reason.Statement.{statement}
 use Rattle.bep.proofs.reasons.give_reason.Tie as tie
 
-returns-5 : tie.Need-returns-5
-returns-5 c = let e = sym c.before.why.given.1 in (ap reason_number e, ap reason_words e)
+returns-in-Held : tie.Need-returns-in-Held
+returns-in-Held c = let e = sym c.in-Held.is in (ap reason_number e, ap reason_words e)
 
-returns-6 : tie.Need-returns-6
-returns-6 c = let e = sym c.before.why2.given.1 in (ap reason_number e, ap reason_words e)
+returns-in-Wanted : tie.Need-returns-in-Wanted
+returns-in-Wanted c = let e = sym c.in-Wanted.is in (ap reason_number e, ap reason_words e)
 
 pub give_reason_spec : {M : Type 1} → statement M
 give_reason_spec =
@@ -29,6 +29,6 @@ give_reason_spec =
     (λ c. search rules)
     (λ c. search rules)
     (λ c. search rules)
-    returns-5
-    returns-6
+    returns-in-Held
+    returns-in-Wanted
     (λ c. search rules))

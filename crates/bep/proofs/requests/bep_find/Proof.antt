@@ -5,14 +5,14 @@ use borrow.Author.Rules.{rules}
 use Rattle.bep.proofs.requests.bep_find.Statement.{statement}
 use Rattle.bep.proofs.requests.bep_find.Tie as tie
 
-returns : tie.Need-returns
-returns c = let e = sym c.before.before.«record».given.1 ∙ c.before.before.before.before.find-local.ensures in (ap found_number e, ap found_words e)
+returns-in-At : tie.Need-returns-in-At
+returns-in-At c = let e = sym c.before.in-At.is ∙ c.before.before.find_local.ensures in (ap found_number e, ap found_words e)
 
-returns-2 : tie.Need-returns-2
-returns-2 c = let e = sym c.before.enum_told.given.1 ∙ c.before.before.before.find-local.ensures in (ap found_number e, ap found_words e)
+returns-in-Nothing : tie.Need-returns-in-Nothing
+returns-in-Nothing c = let e = sym c.before.in-Nothing.is ∙ c.before.before.find_local.ensures in (ap found_number e, ap found_words e)
 
-returns-3 : tie.Need-returns-3
-returns-3 c = let e = sym c.before.before.r.given.1 ∙ c.before.before.before.before.find-local.ensures in (ap found_number e, ap found_words e)
+returns-in-Refused : tie.Need-returns-in-Refused
+returns-in-Refused c = let e = sym c.before.in-Refused.is ∙ c.before.before.find_local.ensures in (ap found_number e, ap found_words e)
 
 pub bep_find_spec : {M : Type 1} → statement M
 bep_find_spec =
@@ -24,6 +24,6 @@ bep_find_spec =
     (λ c. search rules)
     (λ c. search rules)
     (λ c. search rules)
-    returns
-    returns-2
-    returns-3)
+    returns-in-At
+    returns-in-Nothing
+    returns-in-Refused)

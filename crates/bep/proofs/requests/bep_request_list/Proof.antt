@@ -5,7 +5,7 @@ use Rattle.bep.proofs.requests.bep_request_list.Statement.{statement}
 use Rattle.bep.proofs.requests.bep_request_list.Tie as tie
 
 returns : tie.Need-returns
-returns c = gives c.before.before.before.before.request-list.ensures c.give.ensures
+returns c = gives c.before.before.before.before.request_list-f.ensures c.give.ensures
 
 pub bep_request_list_spec : {M : Type 1} → statement M
 bep_request_list_spec =

@@ -5,21 +5,21 @@ use borrow.Author.Rules.{rules}
 use Rattle.bep.proofs.requests.give_details.Statement.{statement}
 use Rattle.bep.proofs.requests.give_details.Tie as tie
 
-sub-t14 : tie.Need-overflow-sub-t14
-sub-t14 c = subst StopsAfter c.before.details.given.1 c.before.before.before.requires
+overflow_sub-answer : tie.Need-overflow_sub-answer
+overflow_sub-answer c = subst StopsAfter c.in-Of.is c.before.requires
 
-returns : tie.Need-returns
-returns c = let e = sym c.before.details.given.1 in (ap details_number e, ap details_words e)
+returns-in-Of : tie.Need-returns-in-Of
+returns-in-Of c = let e = sym c.in-Of.is in (ap details_number e, ap details_words e)
 
 pub give_details_spec : {M : Type 1} → statement M
 give_details_spec =
     tie.close
     (tie.spec
     (λ c. search rules)
-    sub-t14
+    overflow_sub-answer
     (λ c. search rules)
     (λ c. search rules)
     (λ c. search rules)
-    returns
+    returns-in-Of
     (λ c. search rules)
     (λ c. search rules))

@@ -6,7 +6,7 @@ use Rattle.bep.proofs.ruling.bep_serve.Statement.{statement}
 use Rattle.bep.proofs.ruling.bep_serve.Tie as tie
 
 returns : tie.Need-returns
-returns c = let e = c.before.before.before.before.serve.ensures in let g = c.give-serving.ensures in record { number_is = g.0 ∙ ap serving_number e.answered; words_are = g.1 ∙ ap serving_words e.answered; buffer_is = e.buffer }
+returns c = let e = c.before.before.before.before.serve-s.ensures in let g = c.give_serving.ensures in record { number_is = g.0 ∙ ap serving_number e.answered; words_are = g.1 ∙ ap serving_words e.answered; buffer_is = e.buffer }
 
 pub bep_serve_spec : {M : Type 1} → statement M
 bep_serve_spec = tie.close (tie.spec (λ c κs. search rules) (λ c κs. search rules) (λ c. search rules) returns)

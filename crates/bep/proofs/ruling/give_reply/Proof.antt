@@ -6,11 +6,11 @@ use borrow.Author.Rules.{rules}
 use Rattle.bep.proofs.ruling.give_reply.Statement.{statement}
 use Rattle.bep.proofs.ruling.give_reply.Tie as tie
 
-returns : tie.Need-returns
-returns c = let e = sym c.before.before.w.given.1 in (ap filling_number e, ap reply_words e)
+returns-in-Filled : tie.Need-returns-in-Filled
+returns-in-Filled c = let e = sym c.before.in-Filled.is in (ap filling_number e, ap reply_words e)
 
-returns-2 : tie.Need-returns-2
-returns-2 c = let e = sym c.before.before.w2.given.1 in (ap filling_number e, ap reply_words e)
+returns-in-Refused : tie.Need-returns-in-Refused
+returns-in-Refused c = let e = sym c.before.in-Refused.is in (ap filling_number e, ap reply_words e)
 
 pub give_reply_spec : {M : Type 1} → statement M
-give_reply_spec = tie.close (tie.spec (λ c. search rules) (λ c. search rules) returns returns-2)
+give_reply_spec = tie.close (tie.spec (λ c. search rules) (λ c. search rules) returns-in-Filled returns-in-Refused)

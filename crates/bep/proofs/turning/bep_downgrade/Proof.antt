@@ -5,7 +5,7 @@ use Rattle.bep.proofs.turning.bep_downgrade.Statement.{statement}
 use Rattle.bep.proofs.turning.bep_downgrade.Tie as tie
 
 returns : tie.Need-returns
-returns c = gives c.before.before.before.before.downgrade.ensures c.give.ensures
+returns c = gives c.before.before.before.before.downgrade-w.ensures c.give.ensures
 
 pub bep_downgrade_spec : {M : Type 1} → statement M
 bep_downgrade_spec =

@@ -5,7 +5,7 @@ use Rattle.bep.proofs.turning.bep_upgrade.Statement.{statement}
 use Rattle.bep.proofs.turning.bep_upgrade.Tie as tie
 
 returns : tie.Need-returns
-returns c = gives c.before.before.before.before.upgrade.ensures c.give.ensures
+returns c = gives c.before.before.before.before.upgrade-w.ensures c.give.ensures
 
 pub bep_upgrade_spec : {M : Type 1} → statement M
 bep_upgrade_spec =

@@ -5,7 +5,7 @@ use Rattle.bep.proofs.write.bep_write_old_index_update.Statement.{statement}
 use Rattle.bep.proofs.write.bep_write_old_index_update.Tie as tie
 
 returns : tie.Need-returns
-returns c = gives c.before.before.before.before.write-old-index-update.ensures c.give.ensures
+returns c = gives c.before.before.before.before.write_old_index_update-w.ensures c.give.ensures
 
 pub bep_write_old_index_update_spec : {M : Type 1} → statement M
 bep_write_old_index_update_spec =

@@ -5,7 +5,7 @@ use Rattle.bep.proofs.write.bep_write_options.Statement.{statement}
 use Rattle.bep.proofs.write.bep_write_options.Tie as tie
 
 returns : tie.Need-returns
-returns c = gives c.before.before.before.before.write-options.ensures c.give.ensures
+returns c = gives c.before.before.before.before.write_options-w.ensures c.give.ensures
 
 pub bep_write_options_spec : {M : Type 1} → statement M
 bep_write_options_spec =

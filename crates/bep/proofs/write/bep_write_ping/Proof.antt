@@ -5,7 +5,7 @@ use Rattle.bep.proofs.write.bep_write_ping.Statement.{statement}
 use Rattle.bep.proofs.write.bep_write_ping.Tie as tie
 
 returns : tie.Need-returns
-returns c = gives c.before.before.before.before.write-ping.ensures c.give.ensures
+returns c = gives c.before.before.before.before.write_ping-w.ensures c.give.ensures
 
 pub bep_write_ping_spec : {M : Type 1} → statement M
 bep_write_ping_spec = tie.close (tie.spec (λ c κs. search rules) (λ c κs. search rules) (λ c. search rules) returns)

@@ -5,7 +5,7 @@ use Rattle.bep.proofs.write.bep_write_pong.Statement.{statement}
 use Rattle.bep.proofs.write.bep_write_pong.Tie as tie
 
 returns : tie.Need-returns
-returns c = gives c.before.before.before.before.write-pong.ensures c.give.ensures
+returns c = gives c.before.before.before.before.write_pong-w.ensures c.give.ensures
 
 pub bep_write_pong_spec : {M : Type 1} → statement M
 bep_write_pong_spec = tie.close (tie.spec (λ c κs. search rules) (λ c κs. search rules) (λ c. search rules) returns)

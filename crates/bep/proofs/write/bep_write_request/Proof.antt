@@ -5,7 +5,7 @@ use Rattle.bep.proofs.write.bep_write_request.Statement.{statement}
 use Rattle.bep.proofs.write.bep_write_request.Tie as tie
 
 returns : tie.Need-returns
-returns c = gives c.before.before.before.before.write-request.ensures c.give.ensures
+returns c = gives c.before.before.before.before.write_request-w.ensures c.give.ensures
 
 pub bep_write_request_spec : {M : Type 1} → statement M
 bep_write_request_spec =

@@ -5,7 +5,7 @@ use Rattle.bep.proofs.write.bep_write_response.Statement.{statement}
 use Rattle.bep.proofs.write.bep_write_response.Tie as tie
 
 returns : tie.Need-returns
-returns c = gives c.before.before.before.before.write-response.ensures c.give.ensures
+returns c = gives c.before.before.before.before.write_response-w.ensures c.give.ensures
 
 pub bep_write_response_spec : {M : Type 1} → statement M
 bep_write_response_spec =

@@ -7,16 +7,16 @@ use borrow.Author.Rules.{rules}
 use Rattle.queue_lent.proofs.calls.open.Statement.{statement}
 use Rattle.queue_lent.proofs.calls.open.Tie as tie
 
-four : (c : tie.After-hashes) → length c.before.before.before.before.before.before.args.windows ≡ 4
+four : (c : tie.After-hashes-1) → length c.before.before.before.before.before.before.args.windows ≡ 4
 four c = search (rules, unmapped)
 
-long : (c : tie.After-hashes) → length c.before.before.before.before.before.before.args.words.now ≡ 140
+long : (c : tie.After-hashes-1) → length c.before.before.before.before.before.before.args.words.now ≡ 140
 long c = search rules
 
 returns : tie.Need-returns
 returns c =
     let a = c.before.before.before.before.before.before.args in
-    opened a.windows (four c) a.words.now (long c) c.before.before.before.before.before.«open».ensures c.before.store_all.ensures
+    opened a.windows (four c) a.words.now (long c) c.before.before.before.before.before.open-d.ensures c.before.store_all.ensures
 
 pub open_spec : {M : Type 1} → statement M
 open_spec = tie.close (tie.spec (λ c κs. search rules) (λ c κs. search rules) returns)

@@ -8,27 +8,27 @@ use borrow.Author.Rules.{rules}
 use Rattle.queue_lent.proofs.shares.admission_in.Statement.{statement}
 use Rattle.queue_lent.proofs.shares.admission_in.Tie as tie
 
-returns : tie.Need-returns
-returns c = let a = c.before.before.before.args in admission_peer (queue_of a.words.now []) a.peer (sym c.before.is-peer.ensures ∙ not-true _ c.if1.true)
+returns-then-not-is_peer : tie.Need-returns-then-not-is_peer
+returns-then-not-is_peer c = let a = c.before.before.before.args in admission_peer (queue_of a.words.now []) a.peer (sym c.before.is_peer.ensures ∙ c.if-not-is_peer.true)
 
-returns-2 : tie.Need-returns-2
-returns-2 c =
-    let a = c.before.before.before.before.before.before.before.args in
-    admission_held (queue_of a.words.now []) a.peer _ (sym c.before.before.before.before.before.is-peer.ensures ∙ not-false _ c.before.before.before.before.if1.false) (sym c.before.held.given.1 ∙ c.before.before.before.sound-bytes.ensures)
+returns-in-Bytes : tie.Need-returns-in-Bytes
+returns-in-Bytes c =
+    let a = c.before.before.before.before.before.args in
+    admission_held (queue_of a.words.now []) a.peer _ (sym c.before.before.before.is_peer.ensures ∙ c.before.before.if-not-is_peer.false) (sym c.in-Bytes.is ∙ c.before.sound_bytes.ensures)
 
-returns-3 : tie.Need-returns-3
-returns-3 c =
-    let a = c.before.before.before.before.before.before.args in
-    admission_unsound (queue_of a.words.now []) a.peer (sym c.before.before.before.before.is-peer.ensures ∙ not-false _ c.before.before.before.if1.false) (sym c.enum_told.given.1 ∙ c.before.before.sound-bytes.ensures)
+returns-in-Unsound : tie.Need-returns-in-Unsound
+returns-in-Unsound c =
+    let a = c.before.before.before.before.before.args in
+    admission_unsound (queue_of a.words.now []) a.peer (sym c.before.before.before.is_peer.ensures ∙ c.before.before.if-not-is_peer.false) (sym c.in-Unsound.is ∙ c.before.sound_bytes.ensures)
 
 pub admission_in_spec : {M : Type 1} → statement M
 admission_in_spec =
     tie.close
     (tie.spec
     (λ c κs. search rules)
-    returns
+    returns-then-not-is_peer
     (λ c κs. search rules)
     (λ c. search rules)
     (λ c. search rules)
-    returns-2
-    returns-3)
+    returns-in-Bytes
+    returns-in-Unsound)

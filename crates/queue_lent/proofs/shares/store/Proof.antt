@@ -10,7 +10,7 @@ use Rattle.queue_lent.proofs.shares.store.Tie as tie
 returns : tie.Need-returns
 returns c =
     let a = c.before.before.before.before.before.args in
-    share_lent link_size a.words.now a.peer (λ (l : List ℕ). link_words a.link) c.before.before.lay-out.ensures
+    share_lent link_size a.words.now a.peer (λ (l : List ℕ). link_words a.link) c.before.before.lay_out.ensures
 
 pub store_spec : {M : Type 1} → statement M
 store_spec =

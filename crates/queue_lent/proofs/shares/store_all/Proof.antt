@@ -10,10 +10,10 @@ use Rattle.queue_lent.proofs.shares.store_all.Tie as tie
 
 returns : tie.Need-returns
 returns c =
-    let ls = c.before.before.before.before.before.before.before.before.before.before.before.before.before.before.before.before.before.before.before.before.before.args.t2 in
-    c.before.before.store4.ensures
-    ∙ ap (λ (r : List ℕ). stored_one r ls 4 3) (c.before.before.before.before.before.before.store3.ensures
-    ∙ ap (λ (r : List ℕ). stored_one r ls 3 2) (c.before.before.before.before.before.before.before.before.before.before.store2.ensures
+    let ls = c.before.before.before.before.before.before.before.before.before.before.before.before.before.before.before.before.before.before.before.before.before.args.links in
+    c.before.before.store-4.ensures
+    ∙ ap (λ (r : List ℕ). stored_one r ls 4 3) (c.before.before.before.before.before.before.store-3.ensures
+    ∙ ap (λ (r : List ℕ). stored_one r ls 3 2) (c.before.before.before.before.before.before.before.before.before.before.store-2.ensures
     ∙ ap (λ (r : List ℕ). stored_one r ls 2 1) c.before.before.before.before.before.before.before.before.before.before.before.before.before.before.store.ensures))
 
 pub store_all_spec : {M : Type 1} → statement M

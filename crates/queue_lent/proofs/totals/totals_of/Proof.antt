@@ -17,13 +17,13 @@ returns : tie.Need-returns
 returns c =
     let a = c.before.before.before.before.args in
     let ws = a.words.now in
-    let n : c.before.outstanding.result ≡ length (outstanding (link_in (share_of link_size ws a.peer))) = c.before.outstanding.ensures ∙ ap (λ (l : Link). length (outstanding l)) c.before.before.link-of.ensures in
-    let s : c.outstanding-bytes.result ≡ total (outstanding (link_in (share_of link_size ws a.peer))) = c.outstanding-bytes.ensures ∙ ap (λ (l : Link). total (outstanding l)) c.before.before.link-of.ensures in
+    let n : c.before.outstanding.result ≡ length (outstanding (link_in (share_of link_size ws a.peer))) = c.before.outstanding.ensures ∙ ap (λ (l : Link). length (outstanding l)) c.before.before.link_of-link.ensures in
+    let s : c.outstanding_bytes.result ≡ total (outstanding (link_in (share_of link_size ws a.peer))) = c.outstanding_bytes.ensures ∙ ap (λ (l : Link). total (outstanding l)) c.before.before.link_of-link.ensures in
     record {
       count_is = n;
       bytes_are = s;
       few = omega (arith, n, few_in (share_of link_size ws a.peer));
-      small = omega (arith, s, small_in ws link_size (link_size * (a.peer - 1)) (λ i. (c.before.before.before.shared-slice-known.given i).fits));
+      small = omega (arith, s, small_in ws link_size (link_size * (a.peer - 1)) (λ i. (c.before.before.before.shared_slice_known-1.given i).fits));
     }
 
 pub totals_of_spec : {M : Type 1} → statement M

@@ -7,11 +7,11 @@ use borrow.Author.Rules.{rules}
 use Rattle.queue_lent.proofs.words.lay_out.Statement.{statement}
 use Rattle.queue_lent.proofs.words.lay_out.Tie as tie
 
-long : (c : tie.After-slice-known2) → length c.before.before.before.before.before.before.args.link.entries ≡ 16
+long : (c : tie.After-slice_known-2-1) → length c.before.before.before.before.before.before.args.link.entries ≡ 16
 long c = search (rules, unmapped)
 
-same_length : tie.Need-same-length
-same_length c = c.before.before.put_entries.auto.0 ∙ simp length-set
+shape_of-words : tie.Need-shape_of-words
+shape_of-words c = c.before.before.put_entries.auto.words ∙ simp length-set
 
 returns : tie.Need-returns
 returns c =
@@ -26,5 +26,5 @@ lay_out_spec =
     (λ c. search rules)
     (λ c. search rules)
     (λ c κs. search rules)
-    same_length
+    shape_of-words
     returns)

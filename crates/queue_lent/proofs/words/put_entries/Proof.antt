@@ -11,38 +11,38 @@ use Rattle.queue_lent.proofs.WordLaws.{put_more}
 use Rattle.queue_lent.proofs.words.put_entries.Statement.{statement}
 use Rattle.queue_lent.proofs.words.put_entries.Tie as tie
 
-abbrev invariant-loop : tie.invariant-loop
+abbrev invariant-loop : tie.invariant-loop-i
 invariant-loop words₀ entries i₀ words i =
     (i ≤ 16) × ((length words₀ ≡ 35) × ((length words ≡ 35) × ((length entries ≡ 16) × (words ≡ paste words₀ 3 (pairs entries) (2 * i)))))
 
-abbrev decreases-loop : tie.decreases-loop
+abbrev decreases-loop : tie.decreases-loop-i
 decreases-loop words₀ entries i₀ words i = 16 - i
 
-loop-holds : tie.Need-loop-init invariant-loop decreases-loop
-loop-holds c = (omega arith, (c.requires, (c.requires, (search (rules, unmapped), paste-zero c.args.words.now 3 (pairs c.args.t2)))))
+loop-holds : tie.Need-loop-i-init invariant-loop decreases-loop
+loop-holds c = (omega arith, (c.requires, (c.requires, (search (rules, unmapped), paste-zero c.args.words.now 3 (pairs c.args.entries)))))
 
-slice-write-words-2 : tie.Need-slice-write-words-2 invariant-loop decreases-loop
-slice-write-words-2 c = simp length-set (omega (arith, c.before.before.loop.invariant.1.1.0))
+bounds-words-i-in-loop-i : tie.Need-bounds-words-i-in-loop-i invariant-loop decreases-loop
+bounds-words-i-in-loop-i c = simp length-set (omega (arith, c.before.before.loop-i.invariant.1.1.0))
 
-loop-again : tie.Need-loop-preserved invariant-loop decreases-loop
+loop-again : tie.Need-loop-i-preserved invariant-loop decreases-loop
 loop-again c =
-    let l = c.before.before.loop in
+    let l = c.before.before.loop-i in
     let s = c.before.before.before.args in (
       omega arith,
       (
         l.invariant.1.0,
         (
           search rules,
-          (l.invariant.1.1.1.0, rw l.invariant.1.1.1.1 (put_more s.words.now l.i s.t2 (omega (arith, l.invariant.1.0)) (omega (arith, l.invariant.1.1.1.0)))),
+          (l.invariant.1.1.1.0, rw l.invariant.1.1.1.1 (put_more s.words.now l.i s.entries (omega (arith, l.invariant.1.0)) (omega (arith, l.invariant.1.1.1.0)))),
         ),
       ),
     )
 
 returns : tie.Need-returns invariant-loop decreases-loop
 returns c =
-    let l = c.before.loop in
+    let l = c.before.loop-i in
     let e : 2 * l.i ≡ 32 = omega arith in
-    l.invariant.1.1.1.1 ∙ ap (paste c.before.before.args.words.now 3 (pairs c.before.before.args.t2)) e
+    l.invariant.1.1.1.1 ∙ ap (paste c.before.before.args.words.now 3 (pairs c.before.before.args.entries)) e
 
 pub put_entries_spec : {M : Type 1} → statement M
 put_entries_spec =
@@ -60,7 +60,7 @@ put_entries_spec =
     (λ c. search rules)
     (λ c. search rules)
     (λ c. search rules)
-    slice-write-words-2
+    bounds-words-i-in-loop-i
     (λ c. search rules)
     (λ c. search rules)
     loop-again

@@ -5,14 +5,14 @@ use borrow.Author.Rules.{rules}
 use Rattle.queue_lent.proofs.words.shape_fits.Statement.{statement}
 use Rattle.queue_lent.proofs.words.shape_fits.Tie as tie
 
+returns-then-not-window_fits : tie.Need-returns-then-not-window_fits
+returns-then-not-window_fits c = simp (sym c.before.window_fits.ensures ∙ c.if-not-window_fits.true)
+
+returns-then-window-count : tie.Need-returns-then-window-count
+returns-then-window-count c = simp (sym c.before.before.window_fits.ensures ∙ c.before.if-not-window_fits.false, lt-leb _ _ c.if-window-count.true)
+
 returns : tie.Need-returns
-returns c = simp (sym c.before.window-fits.ensures ∙ not-true _ c.if1.true)
-
-returns-2 : tie.Need-returns-2
-returns-2 c = simp (sym c.before.before.window-fits.ensures ∙ not-false _ c.before.if1.false, lt-leb _ _ c.if2.true)
-
-returns-3 : tie.Need-returns-3
-returns-3 c = simp (sym c.before.before.window-fits.ensures ∙ not-false _ c.before.if1.false, le-leb _ _ c.if2.false)
+returns c = simp (sym c.before.before.window_fits.ensures ∙ c.before.if-not-window_fits.false, le-leb _ _ c.if-window-count.false)
 
 pub shape_fits_spec : {M : Type 1} → statement M
-shape_fits_spec = tie.close (tie.spec (λ c κs. search rules) returns returns-2 returns-3)
+shape_fits_spec = tie.close (tie.spec (λ c κs. search rules) returns-then-not-window_fits returns-then-window-count returns)

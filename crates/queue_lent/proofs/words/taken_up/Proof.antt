@@ -11,24 +11,24 @@ use Rattle.queue_lent.proofs.WordLaws.{tabulated_more}
 use Rattle.queue_lent.proofs.words.taken_up.Statement.{statement}
 use Rattle.queue_lent.proofs.words.taken_up.Tie as tie
 
-abbrev invariant-loop : tie.invariant-loop
+abbrev invariant-loop : tie.invariant-loop-i
 invariant-loop words entries₀ i₀ entries i = (i ≤ 16) × ((length words ≡ 35) × (entries ≡ tabulated (entry_at words) i ++ replicate (16 - i) blank))
 
-abbrev decreases-loop : tie.decreases-loop
+abbrev decreases-loop : tie.decreases-loop-i
 decreases-loop words entries₀ i₀ entries i = 16 - i
 
-loop-holds : tie.Need-loop-init invariant-loop decreases-loop
+loop-holds : tie.Need-loop-i-init invariant-loop decreases-loop
 loop-holds c = (omega arith, (c.requires, refl))
 
-loop-again : tie.Need-loop-preserved invariant-loop decreases-loop
+loop-again : tie.Need-loop-i-preserved invariant-loop decreases-loop
 loop-again c =
-    let l = c.before.before.before.loop in
+    let l = c.before.before.before.loop-i in
     (omega arith, (l.invariant.1.0, rw l.invariant.1.1 (tabulated_more (entry_at c.before.before.before.before.args.words.now) blank 16 l.i (omega arith))))
 
 returns : tie.Need-returns invariant-loop decreases-loop
 unfolding link_in
 returns c =
-    let l = c.before.before.before.before.loop in
+    let l = c.before.before.before.before.loop-i in
     let e : l.i ≡ 16 = omega arith in
     rw (l.invariant.1.1, e)
 
