@@ -6,14 +6,16 @@ mod messages;
 mod names;
 mod records;
 
-fn main() {
-    leaves::words();
-    leaves::opaques();
-    leaves::texts();
-    leaves::puts();
-    records::run();
-    names::run();
-    messages::vectors();
-    messages::writers();
-    messages::names();
+use std::io;
+
+fn main(rt: HostRuntime) -> io::Result<()> {
+    leaves::words(&rt)?;
+    leaves::opaques(&rt)?;
+    leaves::texts(&rt)?;
+    leaves::puts(&rt)?;
+    records::run(&rt)?;
+    names::run(&rt)?;
+    messages::vectors(&rt)?;
+    messages::writers(&rt)?;
+    messages::names(&rt)
 }

@@ -5,12 +5,14 @@ mod reading;
 mod turning;
 mod writing;
 
-fn main() {
-    reading::vectors();
-    reading::types();
-    reading::bodies();
-    writing::run();
-    turning::up();
-    turning::down();
-    turning::back();
+use std::io;
+
+fn main(rt: HostRuntime) -> io::Result<()> {
+    reading::vectors(&rt)?;
+    reading::types(&rt)?;
+    reading::bodies(&rt)?;
+    writing::run(&rt)?;
+    turning::up(&rt)?;
+    turning::down(&rt)?;
+    turning::back(&rt)
 }

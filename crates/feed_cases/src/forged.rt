@@ -2,6 +2,7 @@
 use crate::line::{close, fed};
 use feed::Feed;
 use feed::state::{Cursor, Front, Gap, Goal, Scan, WordField};
+use std::io;
 
 // A state at a goal, of whose word so many bytes have come, in an Options message.
 fn at(goal: Goal, place: usize, have: u32) -> Feed {
@@ -32,14 +33,22 @@ fn at(goal: Goal, place: usize, have: u32) -> Feed {
 }
 
 // Two that aren't sound are refused and stay so. One that is sound is gone on with: the number of options at place 100.
-pub fn run() {
-    lines::text(b"forged, no bytes to pass over:");
-    let state = fed(at(Goal::Skip(0, Gap::Offset), 0, 0), b"\x00\x00\x04\x00");
-    close(fed(state, b"\x00"));
-    lines::text(b"forged, a word that is whole:");
-    let state = fed(at(Goal::Word(WordField::FileCount), 4, 4), b"\x00");
-    close(fed(state, b""));
-    lines::text(b"forged, the number of options:");
-    let state = fed(at(Goal::Word(WordField::OptionCount), 100, 0), b"\x00\x00");
-    close(fed(state, b"\x00\x00"));
+pub fn run(rt: &impl Print) -> io::Result<()> {
+    lines::text(rt, b"forged, no bytes to pass over:")?;
+    let state = fed(
+        rt,
+        at(Goal::Skip(0, Gap::Offset), 0, 0),
+        b"\x00\x00\x04\x00",
+    )?;
+    close(rt, fed(rt, state, b"\x00")?)?;
+    lines::text(rt, b"forged, a word that is whole:")?;
+    let state = fed(rt, at(Goal::Word(WordField::FileCount), 4, 4), b"\x00")?;
+    close(rt, fed(rt, state, b"")?)?;
+    lines::text(rt, b"forged, the number of options:")?;
+    let state = fed(
+        rt,
+        at(Goal::Word(WordField::OptionCount), 100, 0),
+        b"\x00\x00",
+    )?;
+    close(rt, fed(rt, state, b"\x00\x00")?)
 }

@@ -1,111 +1,127 @@
 // What a line is made of.
 use feed::{Answer, Feed, Header};
 use message::Edition;
+use std::io;
 
 // The edition and what the case is about, and a state for it.
-pub fn open(edition: Edition, label: &[u8]) -> Feed {
+pub fn open(rt: &impl Print, edition: Edition, label: &[u8]) -> io::Result<Feed> {
     match edition {
-        Edition::Old => lines::text(b"old, "),
-        Edition::New => lines::text(b"new, "),
+        Edition::Old => lines::text(rt, b"old, ")?,
+        Edition::New => lines::text(rt, b"new, ")?,
     }
-    lines::text(label);
-    lines::text(b":");
-    Feed::open(edition)
+    lines::text(rt, label)?;
+    lines::text(rt, b":")?;
+    Ok(Feed::open(edition))
 }
 
 // What was said, and while it waits how many bytes are missing.
-fn said(answer: Answer, missing: usize) {
+fn said(rt: &impl Print, answer: Answer, missing: usize) -> io::Result<()> {
     match answer {
         Answer::Waiting => {
-            lines::text(b"waiting for ");
-            lines::number(missing as u64);
+            lines::text(rt, b"waiting for ")?;
+            lines::number(rt, missing as u64)
         }
         Answer::Ended(end) => {
-            lines::text(b"ended at ");
-            lines::number(end as u64);
+            lines::text(rt, b"ended at ")?;
+            lines::number(rt, end as u64)
         }
         Answer::Refused(r) => {
-            lines::text(b"refused ");
-            lines::number(r.number as u64);
-            lines::text(b" at ");
-            lines::number(r.place as u64);
+            lines::text(rt, b"refused ")?;
+            lines::number(rt, r.number as u64)?;
+            lines::text(rt, b" at ")?;
+            lines::number(rt, r.place as u64)
         }
     }
 }
 
 // The bytes of a run, or how many a long one has.
-fn shown(run: &[u8]) {
-    lines::text(b" [");
+fn shown(rt: &impl Print, run: &[u8]) -> io::Result<()> {
+    lines::text(rt, b" [")?;
     if run.len() <= 64 {
-        lines::bytes(run);
+        lines::bytes(rt, run)?;
     } else {
-        lines::number(run.len() as u64);
-        lines::text(b" bytes");
+        lines::number(rt, run.len() as u64)?;
+        lines::text(rt, b" bytes")?;
     }
-    lines::text(b"] ");
+    lines::text(rt, b"] ")
 }
 
 // A run, fed to a state.
-pub fn fed(state: Feed, run: &[u8]) -> Feed {
-    shown(run);
+pub fn fed(rt: &impl Print, state: Feed, run: &[u8]) -> io::Result<Feed> {
+    shown(rt, run)?;
     let led = state.feed(run);
     let next = led.state;
     let answer = led.answer;
-    said(answer, next.missing());
-    lines::text(b", taken ");
-    lines::number(led.taken as u64);
-    lines::text(b";");
-    next
+    said(rt, answer, next.missing())?;
+    lines::text(rt, b", taken ")?;
+    lines::number(rt, led.taken as u64)?;
+    lines::text(rt, b";")?;
+    Ok(next)
 }
 
 // The header, and the end of the line.
-pub fn close(state: Feed) {
+pub fn close(rt: &impl Print, state: Feed) -> io::Result<()> {
     let header = state.header();
     match header {
         Header::Known(kind, id) => {
-            lines::text(b" type ");
-            lines::number(kind as u64);
-            lines::text(b", ID ");
-            lines::number(id as u64);
-            lines::text(b"\n");
+            lines::text(rt, b" type ")?;
+            lines::number(rt, kind as u64)?;
+            lines::text(rt, b", ID ")?;
+            lines::number(rt, id as u64)?;
+            lines::text(rt, b"\n")
         }
-        Header::Unknown => lines::text(b" no header yet\n"),
+        Header::Unknown => lines::text(rt, b" no header yet\n"),
     }
 }
 
 // A line of one run.
-pub fn one(edition: Edition, label: &[u8], a: &[u8]) {
-    close(fed(open(edition, label), a));
+pub fn one(rt: &impl Print, edition: Edition, label: &[u8], a: &[u8]) -> io::Result<()> {
+    close(rt, fed(rt, open(rt, edition, label)?, a)?)
 }
 
 // A line of two.
-pub fn two(edition: Edition, label: &[u8], a: &[u8], b: &[u8]) {
-    let state = fed(open(edition, label), a);
-    close(fed(state, b));
+pub fn two(rt: &impl Print, edition: Edition, label: &[u8], a: &[u8], b: &[u8]) -> io::Result<()> {
+    let state = fed(rt, open(rt, edition, label)?, a)?;
+    close(rt, fed(rt, state, b)?)
 }
 
 // A line of three.
-pub fn three(edition: Edition, label: &[u8], a: &[u8], b: &[u8], c: &[u8]) {
-    let state = fed(open(edition, label), a);
-    let state = fed(state, b);
-    close(fed(state, c));
+pub fn three(
+    rt: &impl Print,
+    edition: Edition,
+    label: &[u8],
+    a: &[u8],
+    b: &[u8],
+    c: &[u8],
+) -> io::Result<()> {
+    let state = fed(rt, open(rt, edition, label)?, a)?;
+    let state = fed(rt, state, b)?;
+    close(rt, fed(rt, state, c)?)
 }
 
 // A line of four.
-pub fn four(edition: Edition, label: &[u8], a: &[u8], b: &[u8], c: &[u8], d: &[u8]) {
-    let state = fed(open(edition, label), a);
-    let state = fed(state, b);
-    let state = fed(state, c);
-    close(fed(state, d));
+pub fn four(
+    rt: &impl Print,
+    edition: Edition,
+    label: &[u8],
+    a: &[u8],
+    b: &[u8],
+    c: &[u8],
+    d: &[u8],
+) -> io::Result<()> {
+    let state = fed(rt, open(rt, edition, label)?, a)?;
+    let state = fed(rt, state, b)?;
+    let state = fed(rt, state, c)?;
+    close(rt, fed(rt, state, d)?)
 }
 
 // A line of bytes that come one by one.
-pub fn each(edition: Edition, label: &[u8], bytes: &[u8]) {
-    let mut state = open(edition, label);
+pub fn each(rt: &impl Print, edition: Edition, label: &[u8], bytes: &[u8]) -> io::Result<()> {
+    let mut state = open(rt, edition, label)?;
     let mut i = 0;
     while i < bytes.len() {
-        state = fed(state, &bytes[i..i + 1]);
+        state = fed(rt, state, &bytes[i..i + 1])?;
         i += 1;
     }
-    close(state);
+    close(rt, state)
 }

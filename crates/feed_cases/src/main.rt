@@ -8,18 +8,20 @@ mod line;
 mod strings;
 mod whole;
 
-fn main() {
-    whole::vectors();
-    whole::bytewise();
-    whole::empty_runs();
-    ends::after_the_end();
-    ends::after_a_refusal();
-    ends::types();
-    strings::pads();
-    strings::texts();
-    strings::names();
-    bodies::types();
-    bodies::faults();
-    bodies::long_response();
-    forged::run();
+use std::io;
+
+fn main(rt: HostRuntime) -> io::Result<()> {
+    whole::vectors(&rt)?;
+    whole::bytewise(&rt)?;
+    whole::empty_runs(&rt)?;
+    ends::after_the_end(&rt)?;
+    ends::after_a_refusal(&rt)?;
+    ends::types(&rt)?;
+    strings::pads(&rt)?;
+    strings::texts(&rt)?;
+    strings::names(&rt)?;
+    bodies::types(&rt)?;
+    bodies::faults(&rt)?;
+    bodies::long_response(&rt)?;
+    forged::run(&rt)
 }

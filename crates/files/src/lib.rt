@@ -4,27 +4,30 @@
 mod status;
 mod table;
 
-pub use table::{Sizes, first, load};
+use std::fs;
+use std::io::ErrorKind;
+use std::rt::Files;
+pub use table::{Sizes, first, load, read_full};
 
-// What opening gives: a descriptor; that there is no such file; or that there is one, which can't be read.
-#[derive(Clone, Copy)]
-pub enum Opened {
-    File(i32),
+// What opening gives: a file; that there is no such file; or that there is one, which can't be read.
+#[derive(Drop)]
+pub enum Opened<F> {
+    File(F),
     Absent,
     Unreadable,
 }
 
-// Opens a regular file for reading.
-pub fn open(name: &[u8]) -> Opened {
-    if status::is_other(status::mode_of(name)) {
+// Opens a regular file for reading. A name that is no text is of no file that can be read.
+pub fn open<R: Files>(rt: &R, name: &[u8]) -> Opened<R::File> {
+    let Some(path) = status::path_of(name) else {
+        return Opened::Unreadable;
+    };
+    if status::is_other(status::mode_of(rt, path)) {
         return Opened::Unreadable;
     }
-    let fd = os::open_read(name);
-    if fd >= 0 {
-        return Opened::File(fd);
+    match fs::open(rt, path) {
+        Ok(file) => Opened::File(file),
+        Err(e) if e.kind() == ErrorKind::NotFound => Opened::Absent,
+        Err(_) => Opened::Unreadable,
     }
-    if os::errno() == libc::ENOENT {
-        return Opened::Absent;
-    }
-    Opened::Unreadable
 }

@@ -1,70 +1,34 @@
 // What is known of a file before it is opened.
-ghost use Rattle.std.specs.Prelude.{◌≡◌};
-ghost use Rattle.libc.specs.Io.{Ended};
+ghost use Rattle.std.specs.Prelude.{◌≡◌, IfSome};
 ghost use Rattle.files.specs.Mode.{is_other};
 
-use libc::PATH_MAX;
-use libc::types::{stat, timespec};
+use std::fs;
+use std::os::unix::fs::MetadataExt;
+use std::rt::Files;
 
-// Where the zero stands that ends a path in any case.
-const LAST: usize = PATH_MAX - 1;
+// The mode that stands for a file of which nothing is known.
+fn unknown() -> u32 {
+    0
+}
 
-// What stands for a file of which nothing is known.
-fn unknown() -> stat {
-    let never = timespec {
-        tv_sec: 0,
-        tv_nsec: 0,
-    };
-    stat {
-        st_dev: 0,
-        st_ino: 0,
-        st_nlink: 0,
-        st_mode: 0,
-        st_uid: 0,
-        st_gid: 0,
-        __pad: 0,
-        st_rdev: 0,
-        st_size: 0,
-        st_blksize: 0,
-        st_blocks: 0,
-        st_atim: never,
-        st_mtim: never,
-        st_ctim: never,
-        __unused: [0; 3],
+// The mode of a file, or what was given where the system knows nothing of it.
+fn known(rt: &impl Files, path: &str, otherwise: u32) -> u32 {
+    match fs::metadata(rt, path) {
+        Ok(status) => status.mode(),
+        Err(_) => otherwise,
     }
 }
 
-// What the system knows of a file, or what was given where it knows nothing.
-fn known(path: &[u8; PATH_MAX], otherwise: stat) -> stat
-    requires { Ended path.now }
+// A name as a path, which is text.
+pub fn path_of(name: &[u8]) -> Option<&str>
+    ensures { IfSome result (λ path. path.now ≡ name.now) }
 {
-    let mut known = otherwise;
-    libc::stat(path, &mut known);
-    known
-}
-
-// A name with zeros after it, as far as there is room.
-fn ended(name: &[u8]) -> [u8; PATH_MAX]
-    ensures { Ended result }
-{
-    let mut path = [0u8; PATH_MAX];
-    let mut i = 0;
-    while i < name.len() {
-        if i >= LAST {
-            break;
-        }
-        path[i] = name[i];
-        i += 1;
-    }
-    path[LAST] = 0;
-    path
+    str::from_utf8(name).ok()
 }
 
 // A file's mode, or 0 where there is no such file.
-pub fn mode_of(name: &[u8]) -> u32 {
-    let path = ended(name);
-    let status = known(&path, unknown());
-    status.st_mode
+pub fn mode_of(rt: &impl Files, path: &str) -> u32 {
+    known(rt, path, unknown())
 }
 
 // Whether a mode is of a file that is there and is no regular one.

@@ -1,9 +1,12 @@
 // Tables in files.
-ghost use Rattle.std.specs.Prelude.{◌≤◌, ◌≡◌, length, take};
+ghost use Rattle.std.specs.Prelude.{◌≤◌, ◌≡◌, IfOk, length, take};
 ghost use Rattle.xdr.specs.Buffer.{Puts};
 ghost use Rattle.files.specs.StandIn.{stand_in};
 
 use crate::{Opened, open};
+use std::io;
+use std::io::Read;
+use std::rt::Files;
 
 // How many bytes of its buffer each of five tables takes.
 #[derive(Clone, Copy)]
@@ -26,20 +29,33 @@ fn stand_in(absent: bool, buf: &mut [u8]) -> usize
     0
 }
 
+// Reads until a buffer is full or there is no more, and gives how many bytes there are.
+pub fn read_full<R: Read>(reader: &mut R, buf: &mut [u8]) -> io::Result<usize>
+    ensures { IfOk result (λ n. n ≤ length buf.new) }
+{
+    let mut done = 0;
+    while done < buf.len() {
+        let n = reader.read(&mut buf[done..])?;
+        if n == 0 {
+            break;
+        }
+        done += n;
+    }
+    Ok(done)
+}
+
 // Reads a file into a buffer, and gives how many bytes there are: those of the empty table where the file is absent; none, which are no
 // table, where it cannot be read.
-pub fn load(name: &[u8], buf: &mut [u8]) -> usize
-    ensures { result ≤ length buf.new }
+pub fn load(rt: &impl Files, name: &[u8], buf: &mut [u8]) -> io::Result<usize>
+    ensures { IfOk result (λ n. n ≤ length buf.new) }
 {
-    let opened = open(name);
-    match opened {
-        Opened::File(fd) => {
-            let n = io::read_full(fd, buf);
-            libc::close(fd);
-            n
+    match open(rt, name) {
+        Opened::File(mut file) => {
+            let n = read_full(&mut file, buf)?;
+            Ok(n)
         }
-        Opened::Absent => stand_in(true, buf),
-        Opened::Unreadable => stand_in(false, buf),
+        Opened::Absent => Ok(stand_in(true, buf)),
+        Opened::Unreadable => Ok(stand_in(false, buf)),
     }
 }
 

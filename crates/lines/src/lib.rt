@@ -4,33 +4,35 @@
 ghost use Rattle.std.specs.Prelude.{◌≡◌};
 ghost use Rattle.lines.specs.Buffer.{is_untouched};
 
-use libc::STDOUT_FILENO;
+use std::io;
 use xdr::Refusal;
 
-pub fn text(s: &[u8]) {
-    io::write_all(STDOUT_FILENO, s);
+pub fn text(rt: &impl Print, s: &[u8]) -> io::Result<()> {
+    rt.write_all(s)
 }
 
-pub fn number(n: u64) {
-    io::print_decimal(STDOUT_FILENO, n);
+pub fn number(rt: &impl Print, n: u64) -> io::Result<()> {
+    print!(rt; "{n}")
 }
 
 // Bytes in hexadecimal.
-pub fn bytes(s: &[u8]) {
+pub fn bytes(rt: &impl Print, s: &[u8]) -> io::Result<()> {
     let mut i = 0;
     while i < s.len() {
-        io::print_hex(STDOUT_FILENO, s[i] as u64, 2);
+        let byte = s[i];
+        print!(rt; "{byte:02x}")?;
         i += 1;
     }
+    Ok(())
 }
 
 // The number and the place of a refusal, and the end of the line.
-pub fn refusal(r: Refusal) {
-    text(b"refused ");
-    number(r.number as u64);
-    text(b" at ");
-    number(r.place as u64);
-    text(b"\n");
+pub fn refusal(rt: &impl Print, r: Refusal) -> io::Result<()> {
+    text(rt, b"refused ")?;
+    number(rt, r.number as u64)?;
+    text(rt, b" at ")?;
+    number(rt, r.place as u64)?;
+    text(rt, b"\n")
 }
 
 // Whether a buffer still holds what the cases fill it with before a call.
@@ -48,17 +50,17 @@ fn untouched(out: &[u8]) -> bool
 }
 
 // What a call left of the buffer.
-pub fn buffer(out: &[u8]) {
+pub fn buffer(rt: &impl Print, out: &[u8]) -> io::Result<()> {
     if untouched(out) {
-        text(b", buffer as it was");
+        text(rt, b", buffer as it was")
     } else {
-        text(b", buffer changed");
+        text(rt, b", buffer changed")
     }
 }
 
 // What a refused call left of the buffer, and the refusal.
-pub fn refused(out: &[u8], r: Refusal) {
-    buffer(out);
-    text(b": ");
-    refusal(r);
+pub fn refused(rt: &impl Print, out: &[u8], r: Refusal) -> io::Result<()> {
+    buffer(rt, out)?;
+    text(rt, b": ")?;
+    refusal(rt, r)
 }

@@ -4,25 +4,23 @@ ghost use Rattle.std.specs.Int.Signed.{non_neg};
 ghost use Rattle.record.specs.Modified.{signed};
 ghost use Rattle.listing.specs.Line.{is_plain};
 
-use libc::STDOUT_FILENO;
 use record::RecordFields;
+use std::io;
 use walker::Step;
 
-// Each function that prints tells whether all was written.
-pub fn text(s: &[u8]) -> bool {
-    io::write_all(STDOUT_FILENO, s)
+fn text(rt: &impl Print, s: &[u8]) -> io::Result<()> {
+    rt.write_all(s)
 }
 
-fn labelled(label: &[u8], n: u64) -> bool {
-    text(label) && io::print_decimal(STDOUT_FILENO, n)
+fn labelled(rt: &impl Print, label: &[u8], n: u64) -> io::Result<()> {
+    text(rt, label)?;
+    print!(rt; "{n}")
 }
 
-// Says on standard error that a line was lost, if it was.
-pub fn told(written: bool) -> bool {
-    if !written {
-        os::fail(b"standard output");
-    }
-    written
+// The line of a refusal.
+pub fn refused(rt: &impl Print, number: u32) -> io::Result<()> {
+    labelled(rt, b"refused ", number as u64)?;
+    text(rt, b"\n")
 }
 
 // Whether a byte of a name is printed as it is: control bytes are not, nor the backslash that they are written with.
@@ -36,23 +34,18 @@ fn is_plain(b: u8) -> bool
 }
 
 // A byte of a name: one that isn't plain in hexadecimal.
-fn name_byte(b: u8) -> bool {
+fn name_byte(rt: &impl Print, b: u8) -> io::Result<()> {
     if is_plain(b) {
-        let one = [b];
-        return text(&one);
+        return text(rt, &[b]);
     }
-    text(b"\\x") && io::print_hex(STDOUT_FILENO, b as u64, 2)
+    print!(rt; "\\x{b:02x}")
 }
 
-fn name(s: &[u8]) -> bool {
-    let mut i = 0;
-    while i < s.len() {
-        if !name_byte(s[i]) {
-            return false;
-        }
-        i += 1;
+fn name(rt: &impl Print, s: &[u8]) -> io::Result<()> {
+    for b in s {
+        name_byte(rt, *b)?;
     }
-    true
+    Ok(())
 }
 
 // Whether Modified, which is signed, is below zero.
@@ -75,43 +68,46 @@ fn magnitude(modified: u64) -> u64
     18446744073709551615 - modified + 1
 }
 
-fn modified(m: u64) -> bool {
+fn modified(rt: &impl Print, m: u64) -> io::Result<()> {
     if is_negative(m) {
-        return labelled(b" modified -", magnitude(m));
+        return labelled(rt, b" modified -", magnitude(m));
     }
-    labelled(b" modified ", magnitude(m))
+    labelled(rt, b" modified ", magnitude(m))
 }
 
 // Deleted, invalid, or the blocks of the file and their bytes.
-fn contents(table: &[u8], f: RecordFields) -> bool {
+fn contents(rt: &impl Print, table: &[u8], f: RecordFields) -> io::Result<()> {
     if record::is_deleted(f.flags) {
-        return text(b" deleted");
+        return text(rt, b" deleted");
     }
     if record::is_invalid(f.flags) {
-        return text(b" invalid");
+        return text(rt, b" invalid");
     }
-    labelled(b" blocks ", f.blocks as u64)
-        && labelled(b" bytes ", record::offset_of(table, f.first, f.blocks))
+    labelled(rt, b" blocks ", f.blocks as u64)?;
+    labelled(rt, b" bytes ", record::offset_of(table, f.first, f.blocks))
 }
 
-fn line(table: &[u8], number: u32, f: RecordFields) -> bool {
-    labelled(b"", number as u64)
-        && text(b" ")
-        && name(order::part(table, f.name, f.stop))
-        && contents(table, f)
-        && modified(f.modified)
-        && labelled(b" version ", f.version as u64)
-        && text(b"\n")
+fn line(rt: &impl Print, table: &[u8], number: u32, f: RecordFields) -> io::Result<()> {
+    labelled(rt, b"", number as u64)?;
+    text(rt, b" ")?;
+    name(rt, order::part(table, f.name, f.stop))?;
+    contents(rt, table, f)?;
+    modified(rt, f.modified)?;
+    labelled(rt, b" version ", f.version as u64)?;
+    text(rt, b"\n")
 }
 
 // The line of a step, and whether the walk goes on.
-pub fn show(table: &[u8], number: u32, step: Step) -> bool {
+pub fn show(rt: &impl Print, table: &[u8], number: u32, step: Step) -> io::Result<bool> {
     match step {
-        Step::Record(f) => told(line(table, number, f)),
-        Step::End => false,
+        Step::Record(f) => {
+            line(rt, table, number, f)?;
+            Ok(true)
+        }
+        Step::End => Ok(false),
         Step::Refused(r) => {
-            told(labelled(b"refused ", r.number as u64) && text(b"\n"));
-            false
+            refused(rt, r.number)?;
+            Ok(false)
         }
     }
 }

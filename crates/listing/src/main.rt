@@ -4,31 +4,29 @@
 mod line;
 
 use files::Opened;
+use std::io;
 use walker::Walker;
 
 // A line for each record from the first on. A good table has at most 512, and the last turn meets the end.
-fn list(table: &[u8]) {
+fn list(rt: &impl Print, table: &[u8]) -> io::Result<()> {
     let mut walker = Walker::open(table);
     let mut number: u32 = 0;
     while number <= 512 {
         let step = walker.step();
-        if !line::show(table, number, step) {
-            return;
+        if !line::show(rt, table, number, step)? {
+            return Ok(());
         }
         number += 1;
     }
+    Ok(())
 }
 
-fn main() {
-    let name = [b't', b'a', b'b', b'l', b'e'];
-    let opened = files::open(&name);
-    let Opened::File(fd) = opened else {
-        line::told(line::text(b"refused 15\n"));
-        return;
+fn main(rt: HostRuntime) -> io::Result<()> {
+    let Opened::File(mut file) = files::open(&rt, b"table") else {
+        return line::refused(&rt, 15);
     };
     // one byte more than a table may have
     let mut buffer = [0u8; 65537];
-    let n = io::read_full(fd, &mut buffer);
-    libc::close(fd);
-    list(&buffer[..n]);
+    let n = files::read_full(&mut file, &mut buffer)?;
+    list(&rt, &buffer[..n])
 }

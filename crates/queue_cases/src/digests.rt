@@ -1,15 +1,16 @@
 // NIST's published examples of SHA-256, of one block and of two: each in one, and the second in pieces too.
 use sha256::Hasher;
+use std::io;
 
-fn line(digest: [u8; 32]) {
-    lines::text(b": ");
-    lines::bytes(&digest);
-    lines::text(b"\n");
+fn line(rt: &impl Print, digest: [u8; 32]) -> io::Result<()> {
+    lines::text(rt, b": ")?;
+    lines::bytes(rt, &digest)?;
+    lines::text(rt, b"\n")
 }
 
-fn in_one(message: &[u8]) {
-    lines::text(message);
-    line(sha256::digest(message));
+fn in_one(rt: &impl Print, message: &[u8]) -> io::Result<()> {
+    lines::text(rt, message)?;
+    line(rt, sha256::digest(message))
 }
 
 // Every byte by itself.
@@ -21,10 +22,16 @@ fn by_bytes(message: &[u8]) -> Hasher {
     h
 }
 
-pub fn examples() {
-    lines::text(b"digests\n");
-    in_one(b"abc");
-    in_one(b"abcdbcdecdefdefgefghfghighijhijkijkljklmklmnlmnomnopnopq");
-    lines::text(b"the same byte by byte");
-    line(by_bytes(b"abcdbcdecdefdefgefghfghighijhijkijkljklmklmnlmnomnopnopq").finish());
+pub fn examples(rt: &impl Print) -> io::Result<()> {
+    lines::text(rt, b"digests\n")?;
+    in_one(rt, b"abc")?;
+    in_one(
+        rt,
+        b"abcdbcdecdefdefgefghfghighijhijkijkljklmklmnlmnomnopnopq",
+    )?;
+    lines::text(rt, b"the same byte by byte")?;
+    line(
+        rt,
+        by_bytes(b"abcdbcdecdefdefgefghfghighijhijkijkljklmklmnlmnomnopnopq").finish(),
+    )
 }

@@ -1,140 +1,143 @@
 // What a line is made of.
 use link::{Arrival, Link, Tally};
 use queue::{RequestQueue, Verdict, Window};
+use std::io;
 use xdr::Filling;
 
 // The peer that a call is for, and which call it is.
-pub fn call(peer: u32, name: &[u8]) {
-    lines::text(b"peer ");
-    lines::number(peer as u64);
-    lines::text(name);
+pub fn call(rt: &impl Print, peer: u32, name: &[u8]) -> io::Result<()> {
+    lines::text(rt, b"peer ")?;
+    lines::number(rt, peer as u64)?;
+    lines::text(rt, name)
 }
 
-fn held(l: Link) {
-    lines::text(b"outstanding ");
-    lines::number(l.outstanding() as u64);
-    lines::text(b" of ");
-    lines::number(l.outstanding_bytes());
-    lines::text(b" bytes");
+fn held(rt: &impl Print, l: Link) -> io::Result<()> {
+    lines::text(rt, b"outstanding ")?;
+    lines::number(rt, l.outstanding() as u64)?;
+    lines::text(rt, b" of ")?;
+    lines::number(rt, l.outstanding_bytes())?;
+    lines::text(rt, b" bytes")
 }
 
 // Of one peer, where there is such a one.
-fn own(q: RequestQueue, peer: u32) {
+fn own(rt: &impl Print, q: RequestQueue, peer: u32) -> io::Result<()> {
     if !queue::is_peer(peer) {
-        lines::text(b"no such peer");
-        return;
+        return lines::text(rt, b"no such peer");
     }
     let at = (peer - 1) as usize;
     let l = q.links[at];
-    held(l);
+    held(rt, l)
 }
 
 // What is outstanding for a peer, the bytes of all four, and the end of the line. A queue that is not sound has no common total.
-pub fn outstanding(q: RequestQueue, peer: u32) {
-    lines::text(b"; ");
-    own(q, peer);
-    lines::text(b", ");
+pub fn outstanding(rt: &impl Print, q: RequestQueue, peer: u32) -> io::Result<()> {
+    lines::text(rt, b"; ")?;
+    own(rt, q, peer)?;
+    lines::text(rt, b", ")?;
     match q.sound_bytes() {
         Tally::Bytes(n) => {
-            lines::number(n as u64);
-            lines::text(b" in all\n");
+            lines::number(rt, n as u64)?;
+            lines::text(rt, b" in all\n")
         }
-        Tally::Unsound => lines::text(b"queue not sound\n"),
+        Tally::Unsound => lines::text(rt, b"queue not sound\n"),
     }
 }
 
-fn window(w: Window) {
+fn window(rt: &impl Print, w: Window) -> io::Result<()> {
     match w {
-        Window::Stated(n) => lines::number(n as u64),
-        Window::Default => lines::text(b"default"),
+        Window::Stated(n) => lines::number(rt, n as u64),
+        Window::Default => lines::text(rt, b"default"),
     }
 }
 
-fn next_window(w: Window) {
-    lines::text(b", ");
-    window(w);
+fn next_window(rt: &impl Print, w: Window) -> io::Result<()> {
+    lines::text(rt, b", ")?;
+    window(rt, w)
 }
 
-fn four(windows: [Window; 4]) {
+fn four(rt: &impl Print, windows: [Window; 4]) -> io::Result<()> {
     let a = windows[0];
     let b = windows[1];
     let c = windows[2];
     let d = windows[3];
-    window(a);
-    next_window(b);
-    next_window(c);
-    next_window(d);
+    window(rt, a)?;
+    next_window(rt, b)?;
+    next_window(rt, c)?;
+    next_window(rt, d)
 }
 
 // The windows that an opening is given.
-pub fn opening(windows: [Window; 4]) {
-    lines::text(b"open with windows ");
-    four(windows);
-    lines::text(b": ");
+pub fn opening(rt: &impl Print, windows: [Window; 4]) -> io::Result<()> {
+    lines::text(rt, b"open with windows ")?;
+    four(rt, windows)?;
+    lines::text(rt, b": ")
 }
 
 // The windows after an opening, and the end of the line.
-pub fn opened(q: RequestQueue) {
-    lines::text(b"; windows now ");
+pub fn opened(rt: &impl Print, q: RequestQueue) -> io::Result<()> {
+    lines::text(rt, b"; windows now ")?;
     let a = q.links[0];
     let b = q.links[1];
     let c = q.links[2];
     let d = q.links[3];
-    four([
-        Window::Stated(a.window),
-        Window::Stated(b.window),
-        Window::Stated(c.window),
-        Window::Stated(d.window),
-    ]);
-    lines::text(b"\n");
+    four(
+        rt,
+        [
+            Window::Stated(a.window),
+            Window::Stated(b.window),
+            Window::Stated(c.window),
+            Window::Stated(d.window),
+        ],
+    )?;
+    lines::text(rt, b"\n")
 }
 
-fn refused(number: u32, place: usize) {
-    lines::text(b"refused ");
-    lines::number(number as u64);
-    lines::text(b" at ");
-    lines::number(place as u64);
+fn refused(rt: &impl Print, number: u32, place: usize) -> io::Result<()> {
+    lines::text(rt, b"refused ")?;
+    lines::number(rt, number as u64)?;
+    lines::text(rt, b" at ")?;
+    lines::number(rt, place as u64)
 }
 
-pub fn verdict(o: Verdict) {
+pub fn verdict(rt: &impl Print, o: Verdict) -> io::Result<()> {
     match o {
-        Verdict::Accepted => lines::text(b"made"),
-        Verdict::Refused(r) => refused(r.number, r.place),
+        Verdict::Accepted => lines::text(rt, b"made"),
+        Verdict::Refused(r) => refused(rt, r.number, r.place),
     }
 }
 
-pub fn issued(id: u32, w: Filling) {
+pub fn issued(rt: &impl Print, id: u32, w: Filling) -> io::Result<()> {
     match w {
         Filling::Filled(n) => {
-            lines::text(b"ID ");
-            lines::number(id as u64);
-            lines::text(b" in ");
-            lines::number(n as u64);
-            lines::text(b" bytes");
+            lines::text(rt, b"ID ")?;
+            lines::number(rt, id as u64)?;
+            lines::text(rt, b" in ")?;
+            lines::number(rt, n as u64)?;
+            lines::text(rt, b" bytes")
         }
-        Filling::Refused(r) => refused(r.number, r.place),
+        Filling::Refused(r) => refused(rt, r.number, r.place),
     }
 }
 
-pub fn arrival(o: Arrival) {
+pub fn arrival(rt: &impl Print, o: Arrival) -> io::Result<()> {
     match o {
         Arrival::Data { id, size, data: d } => {
-            request(b"data", id, size);
-            lines::text(b" at ");
-            lines::number(d.start as u64);
+            request(rt, b"data", id, size)?;
+            lines::text(rt, b" at ")?;
+            lines::number(rt, d.start as u64)
         }
-        Arrival::NotAvailable { id, size } => request(b"not available", id, size),
-        Arrival::WrongSize { id, size } => request(b"wrong size", id, size),
-        Arrival::WrongContent { id, size } => request(b"wrong content", id, size),
-        Arrival::Refused(r) => refused(r.number, r.place),
+        Arrival::NotAvailable { id, size } => request(rt, b"not available", id, size),
+        Arrival::WrongSize { id, size } => request(rt, b"wrong size", id, size),
+        Arrival::WrongContent { id, size } => request(rt, b"wrong content", id, size),
+        Arrival::Refused(r) => refused(rt, r.number, r.place),
     }
 }
 
-fn request(outcome: &[u8], id: u32, size: u32) {
-    lines::text(outcome);
-    lines::text(b" for ID ");
-    lines::number(id as u64);
-    lines::text(b" of ");
-    lines::number(size as u64);
-    lines::text(b" bytes");
+fn request(rt: &impl Print, outcome: &[u8], id: u32, size: u32) -> io::Result<()> {
+    lines::text(rt, outcome)?;
+    lines::text(rt, b" for ID ")?;
+    lines::number(rt, id as u64)?;
+    lines::text(rt, b" of ")?;
+    lines::number(rt, size as u64)?;
+    lines::text(rt, b" bytes")
 }

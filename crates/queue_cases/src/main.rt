@@ -9,9 +9,11 @@ mod line;
 mod one_peer;
 mod refusals;
 
-fn main() {
-    one_peer::run();
-    four_peers::run();
-    refusals::run();
-    digests::examples();
+use std::io;
+
+fn main(rt: HostRuntime) -> io::Result<()> {
+    one_peer::run(&rt)?;
+    four_peers::run(&rt)?;
+    refusals::run(&rt)?;
+    digests::examples(&rt)
 }

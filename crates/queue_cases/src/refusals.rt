@@ -2,25 +2,27 @@
 use crate::{calls, four_peers};
 use link::{Link, Request};
 use queue::{RequestQueue, Window};
+use std::io;
 
-pub fn run() {
-    lines::text(b"peers 0 and 5\n");
-    strangers(calls::issue(four_peers::open(), 1, 5));
-    strangers(calls::open([Window::Stated(0); 4]));
-    unsound_peer();
-    totals();
+pub fn run(rt: &impl Print) -> io::Result<()> {
+    lines::text(rt, b"peers 0 and 5\n")?;
+    strangers(rt, calls::issue(rt, four_peers::open(rt)?, 1, 5)?)?;
+    strangers(rt, calls::open(rt, [Window::Stated(0); 4])?)?;
+    unsound_peer(rt)?;
+    totals(rt)
 }
 
 // Whether the queue is sound or not.
-fn strangers(q: RequestQueue) {
-    stranger(stranger(q, 0), 5);
+fn strangers(rt: &impl Print, q: RequestQueue) -> io::Result<()> {
+    stranger(rt, stranger(rt, q, 0)?, 5)?;
+    Ok(())
 }
 
 // The Length and the message would be refused too.
-fn stranger(q: RequestQueue, peer: u32) -> RequestQueue {
-    let q = calls::issue(q, peer, 0);
-    let q = calls::message(q, peer, b"\x00\x00\x05\x00");
-    calls::drop_link(q, peer)
+fn stranger(rt: &impl Print, q: RequestQueue, peer: u32) -> io::Result<RequestQueue> {
+    let q = calls::issue(rt, q, peer, 0)?;
+    let q = calls::message(rt, q, peer, b"\x00\x00\x05\x00")?;
+    calls::drop_link(rt, q, peer)
 }
 
 fn queue_of(links: [Link; 4]) -> RequestQueue {
@@ -31,8 +33,8 @@ fn queue_of(links: [Link; 4]) -> RequestQueue {
 }
 
 // The call is for a peer whose own list is sound, or for the one whose isn't, or for none.
-fn unsound_peer() {
-    lines::text(b"given: ID 3 before the next ID 5 for peer 2\n");
+fn unsound_peer(rt: &impl Print) -> io::Result<()> {
+    lines::text(rt, b"given: ID 3 before the next ID 5 for peer 2\n")?;
     let sound = Link::empty(4);
     let unsound = Link {
         window: 16,
@@ -41,11 +43,12 @@ fn unsound_peer() {
         entries: [Request { id: 3, size: 5 }; 16],
     };
     let q = queue_of([sound, unsound, sound, sound]);
-    let q = calls::issue(q, 1, 5);
-    let q = calls::answer(q, 3, 0, 0);
-    let q = calls::drop_link(q, 4);
-    let q = calls::drop_link(q, 2);
-    calls::drop_link(q, 5);
+    let q = calls::issue(rt, q, 1, 5)?;
+    let q = calls::answer(rt, q, 3, 0, 0)?;
+    let q = calls::drop_link(rt, q, 4)?;
+    let q = calls::drop_link(rt, q, 2)?;
+    calls::drop_link(rt, q, 5)?;
+    Ok(())
 }
 
 // Two requests.
@@ -62,14 +65,18 @@ fn holding(first: u32, second: u32) -> Link {
 }
 
 // Four lists that are sound each by itself, with as many bytes together as are allowed, and with one more.
-fn totals() {
-    lines::text(b"given: 131072 bytes for each\n");
+fn totals(rt: &impl Print) -> io::Result<()> {
+    lines::text(rt, b"given: 131072 bytes for each\n")?;
     let l = holding(65536, 65536);
-    let q = calls::issue(queue_of([l; 4]), 1, 1);
-    calls::drop_link(q, 4);
-    lines::text(b"given: 131073 bytes for peer 4, and 131072 for each other\n");
+    let q = calls::issue(rt, queue_of([l; 4]), 1, 1)?;
+    calls::drop_link(rt, q, 4)?;
+    lines::text(
+        rt,
+        b"given: 131073 bytes for peer 4, and 131072 for each other\n",
+    )?;
     let q = queue_of([l, l, l, holding(65536, 65537)]);
-    let q = calls::issue(q, 1, 1);
-    let q = calls::answer(q, 2, 0, 0);
-    calls::drop_link(q, 4);
+    let q = calls::issue(rt, q, 1, 1)?;
+    let q = calls::answer(rt, q, 2, 0, 0)?;
+    calls::drop_link(rt, q, 4)?;
+    Ok(())
 }

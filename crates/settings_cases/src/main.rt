@@ -5,29 +5,31 @@ mod line;
 mod reading;
 mod saving;
 
-fn read() {
-    reading::windows();
-    reading::allowances();
-    reading::repositories();
-    reading::notes();
-    reading::several();
-    reading::unknown();
-    reading::cut_short();
-    reading::out_of_order();
+use std::io;
+
+fn read(rt: &impl Print) -> io::Result<()> {
+    reading::windows(rt)?;
+    reading::allowances(rt)?;
+    reading::repositories(rt)?;
+    reading::notes(rt)?;
+    reading::several(rt)?;
+    reading::unknown(rt)?;
+    reading::cut_short(rt)?;
+    reading::out_of_order(rt)
 }
 
-fn save() {
-    saving::each();
-    saving::several();
-    saving::no_room();
-    saving::wrong_windows();
-    saving::wrong_allowances();
-    saving::wrong_texts();
-    saving::low_carried();
-    saving::wrong_carried();
+fn save(rt: &impl Print) -> io::Result<()> {
+    saving::each(rt)?;
+    saving::several(rt)?;
+    saving::no_room(rt)?;
+    saving::wrong_windows(rt)?;
+    saving::wrong_allowances(rt)?;
+    saving::wrong_texts(rt)?;
+    saving::low_carried(rt)?;
+    saving::wrong_carried(rt)
 }
 
-fn main() {
-    read();
-    save();
+fn main(rt: HostRuntime) -> io::Result<()> {
+    read(&rt)?;
+    save(&rt)
 }

@@ -7,11 +7,13 @@ mod filling;
 mod merges;
 mod steps;
 
-fn main() {
-    merges::small();
-    merges::records();
-    merges::bytes();
-    accepts::small();
-    accepts::records();
-    steps::two();
+use std::io;
+
+fn main(rt: HostRuntime) -> io::Result<()> {
+    merges::small(&rt)?;
+    merges::records(&rt)?;
+    merges::bytes(&rt)?;
+    accepts::small(&rt)?;
+    accepts::records(&rt)?;
+    steps::two(&rt)
 }

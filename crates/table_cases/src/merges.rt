@@ -1,53 +1,75 @@
 // Merges.
 use crate::{build, filling};
+use std::io;
 
 // Two tables into a buffer of so many bytes.
-fn merge(label: &[u8], a: &[u8], b: &[u8], room: usize) {
+fn merge(rt: &impl Print, label: &[u8], a: &[u8], b: &[u8], room: usize) -> io::Result<()> {
     let mut out = [0xeeu8; 96];
-    merge_into(&mut out, label, a, b, room);
+    merge_into(rt, &mut out, label, a, b, room)
 }
 
-fn merge_into(out: &mut [u8], label: &[u8], a: &[u8], b: &[u8], room: usize) {
+fn merge_into(
+    rt: &impl Print,
+    out: &mut [u8],
+    label: &[u8],
+    a: &[u8],
+    b: &[u8],
+    room: usize,
+) -> io::Result<()> {
     if room <= out.len() {
         let f = merge::merge(a, b, &mut out[0..room]);
-        filling::show(b"merge, ", label, f, out);
+        filling::show(rt, b"merge, ", label, f, out)?;
     }
+    Ok(())
 }
 
 // Names are "aaaa" to "cccc".
-pub fn small() {
+pub fn small(rt: &impl Print) -> io::Result<()> {
     let mut a = [0u8; 60];
     build::two(&mut a, 0x61616161, 7, 1, 0x62626262, 7);
     let mut b = [0u8; 60];
     build::two(&mut b, 0x62626262, 18446744073709551615, 9, 0x63636363, 0);
-    good(&a, &b);
-    bad(&a);
+    good(rt, &a, &b)?;
+    bad(rt, &a)
 }
 
-fn good(a: &[u8], b: &[u8]) {
-    merge(b"overlapping, Modified 7 over -1", a, b, 96);
-    merge(b"the other way round", b, a, 96);
-    merge(b"with itself", a, a, 96);
-    merge(b"a buffer that just fits", a, a, 60);
-    merge(b"a buffer one byte short", a, a, 59);
-    merge(b"an empty table", a, b"\x00\x00\x00\x00", 96);
+fn good(rt: &impl Print, a: &[u8], b: &[u8]) -> io::Result<()> {
+    merge(rt, b"overlapping, Modified 7 over -1", a, b, 96)?;
+    merge(rt, b"the other way round", b, a, 96)?;
+    merge(rt, b"with itself", a, a, 96)?;
+    merge(rt, b"a buffer that just fits", a, a, 60)?;
+    merge(rt, b"a buffer one byte short", a, a, 59)?;
+    merge(rt, b"an empty table", a, b"\x00\x00\x00\x00", 96)?;
     merge(
+        rt,
         b"two empty tables",
         b"\x00\x00\x00\x00",
         b"\x00\x00\x00\x00",
         4,
-    );
-    merge(b"no buffer", b"\x00\x00\x00\x00", b"\x00\x00\x00\x00", 0);
+    )?;
+    merge(
+        rt,
+        b"no buffer",
+        b"\x00\x00\x00\x00",
+        b"\x00\x00\x00\x00",
+        0,
+    )
 }
 
-fn bad(a: &[u8]) {
-    merge(b"the first no table", b"\x00\x00\x00", a, 96);
-    merge(b"the second no table", a, b"", 96);
-    merge(b"a byte after the table", a, b"\x00\x00\x00\x00\x00", 96);
+fn bad(rt: &impl Print, a: &[u8]) -> io::Result<()> {
+    merge(rt, b"the first no table", b"\x00\x00\x00", a, 96)?;
+    merge(rt, b"the second no table", a, b"", 96)?;
+    merge(
+        rt,
+        b"a byte after the table",
+        a,
+        b"\x00\x00\x00\x00\x00",
+        96,
+    )
 }
 
 // 256 records and 256 or 257 others.
-pub fn records() {
+pub fn records(rt: &impl Print) -> io::Result<()> {
     let mut a = [0u8; 7172];
     let mut b = [0u8; 7172];
     let mut c = [0u8; 7200];
@@ -56,14 +78,14 @@ pub fn records() {
     build::many(&mut c, 256, 513);
     let mut out = [0xeeu8; 14400];
     let f = merge::merge(&a, &b, &mut out);
-    filling::show(b"merge, ", b"512 records", f, &out);
+    filling::show(rt, b"merge, ", b"512 records", f, &out)?;
     let mut other = [0xeeu8; 14400];
     let g = merge::merge(&a, &c, &mut other);
-    filling::show(b"merge, ", b"513 records", g, &other);
+    filling::show(rt, b"merge, ", b"513 records", g, &other)
 }
 
 // 818 blocks and 818 others, by names of lengths that differ.
-pub fn bytes() {
+pub fn bytes(rt: &impl Print) -> io::Result<()> {
     let mut a = [0u8; 32752];
     let mut b = [0u8; 32788];
     let mut c = [0u8; 32792];
@@ -72,7 +94,7 @@ pub fn bytes() {
     build::one(&mut c, 98, 41, 818);
     let mut out = [0xeeu8; 65536];
     let f = merge::merge(&a, &c, &mut out);
-    filling::show(b"merge, ", b"65,540 bytes", f, &out);
+    filling::show(rt, b"merge, ", b"65,540 bytes", f, &out)?;
     let g = merge::merge(&a, &b, &mut out);
-    filling::show(b"merge, ", b"65,536 bytes", g, &out);
+    filling::show(rt, b"merge, ", b"65,536 bytes", g, &out)
 }

@@ -1,76 +1,90 @@
 // When everything has arrived: nothing is asked for, and merging again changes no byte.
 use crate::{build, lists};
+use std::io;
 use xdr::Filling;
 
 // Merges two tables into a buffer, and gives how many bytes it filled: none where it is refused.
-fn merged(label: &[u8], a: &[u8], b: &[u8], out: &mut [u8]) -> usize {
-    lines::text(b"merge, ");
-    lines::text(label);
+fn merged(rt: &impl Print, label: &[u8], a: &[u8], b: &[u8], out: &mut [u8]) -> io::Result<usize> {
+    lines::text(rt, b"merge, ")?;
+    lines::text(rt, label)?;
     match merge::merge(a, b, out) {
         Filling::Filled(n) => {
-            lines::text(b": filled ");
-            lines::number(n as u64);
-            lines::text(b"\n");
-            n
+            lines::text(rt, b": filled ")?;
+            lines::number(rt, n as u64)?;
+            lines::text(rt, b"\n")?;
+            Ok(n)
         }
         Filling::Refused(r) => {
-            lines::refused(out, r);
-            0
+            lines::refused(rt, out, r)?;
+            Ok(0)
         }
     }
 }
 
 // The same table comes back.
-fn again(label: &[u8], all: &[u8], other: &[u8]) {
+fn again(rt: &impl Print, label: &[u8], all: &[u8], other: &[u8]) -> io::Result<()> {
     let mut out = [0xeeu8; 140];
-    let n = merged(label, all, other, &mut out);
-    same(order::part(&out, 0, n), all);
+    let n = merged(rt, label, all, other, &mut out)?;
+    same(rt, order::part(&out, 0, n), all)
 }
 
-fn same(a: &[u8], b: &[u8]) {
+fn same(rt: &impl Print, a: &[u8], b: &[u8]) -> io::Result<()> {
     if order::compare_bytes(a, b).is_equal() {
-        lines::text(b" the same bytes\n");
+        lines::text(rt, b" the same bytes\n")
     } else {
-        lines::text(b" OTHER bytes\n");
+        lines::text(rt, b" OTHER bytes\n")
     }
 }
 
 // The local "a" is older than peer 1's, which has a block of 5 bytes; peers 2 and 3 have "b" with another; peer 4 has nothing.
-pub fn run() {
+pub fn run(rt: &impl Print) -> io::Result<()> {
     let mut local = [0u8; 32];
     let mut a = [0u8; 72];
     let mut b = [0u8; 72];
     build::old(&mut local, b"a");
     build::one(&mut a, b"a", 0, 5, 1);
     build::one(&mut b, b"b", 0, 5, 2);
-    lists::list(b"nothing has arrived", &local, &a, &b, &b, 96);
-    fetched(&local, &a, &b);
+    lists::list(rt, b"nothing has arrived", &local, &a, &b, &b, 96)?;
+    fetched(rt, &local, &a, &b)
 }
 
-fn fetched<'a>(local: &'a [u8], a: &'a [u8], b: &'a [u8]) {
+fn fetched<'a>(rt: &impl Print, local: &'a [u8], a: &'a [u8], b: &'a [u8]) -> io::Result<()> {
     let mut left = [0u8; 140];
     let mut right = [0u8; 140];
     let mut both = [0u8; 140];
-    let n = merged(b"the local table with peer 1's", local, a, &mut left);
-    let m = merged(b"peer 2's with peer 3's", b, b, &mut right);
+    let n = merged(rt, b"the local table with peer 1's", local, a, &mut left)?;
+    let m = merged(rt, b"peer 2's with peer 3's", b, b, &mut right)?;
     let k = merged(
+        rt,
         b"these two",
         order::part(&left, 0, n),
         order::part(&right, 0, m),
         &mut both,
-    );
-    last(order::part(&both, 0, k), local, a, b);
+    )?;
+    last(rt, order::part(&both, 0, k), local, a, b)
 }
 
-fn last<'a>(both: &'a [u8], local: &'a [u8], a: &'a [u8], b: &'a [u8]) {
+fn last<'a>(
+    rt: &impl Print,
+    both: &'a [u8],
+    local: &'a [u8],
+    a: &'a [u8],
+    b: &'a [u8],
+) -> io::Result<()> {
     let mut all = [0u8; 140];
-    let n = merged(b"with peer 4's", both, b"\x00\x00\x00\x00", &mut all);
-    arrived(order::part(&all, 0, n), local, a, b);
+    let n = merged(rt, b"with peer 4's", both, b"\x00\x00\x00\x00", &mut all)?;
+    arrived(rt, order::part(&all, 0, n), local, a, b)
 }
 
-fn arrived<'a>(all: &'a [u8], local: &'a [u8], a: &'a [u8], b: &'a [u8]) {
-    lists::list(b"everything has arrived", all, a, b, b, 0);
-    again(b"again with the local table", all, local);
-    again(b"again with peer 1's", all, a);
-    again(b"again with itself", all, all);
+fn arrived<'a>(
+    rt: &impl Print,
+    all: &'a [u8],
+    local: &'a [u8],
+    a: &'a [u8],
+    b: &'a [u8],
+) -> io::Result<()> {
+    lists::list(rt, b"everything has arrived", all, a, b, b, 0)?;
+    again(rt, b"again with the local table", all, local)?;
+    again(rt, b"again with peer 1's", all, a)?;
+    again(rt, b"again with itself", all, all)
 }

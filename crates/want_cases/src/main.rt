@@ -8,17 +8,19 @@ mod lists;
 mod reasons;
 mod serving;
 
-fn main() {
-    lists::twice();
-    lists::cut_differently();
-    lists::held();
-    lists::bad();
-    lists::full();
-    arrived::run();
-    finds::run();
-    reasons::run();
-    serving::ours();
-    serving::others();
-    serving::replies();
-    serving::refusals();
+use std::io;
+
+fn main(rt: HostRuntime) -> io::Result<()> {
+    lists::twice(&rt)?;
+    lists::cut_differently(&rt)?;
+    lists::held(&rt)?;
+    lists::bad(&rt)?;
+    lists::full(&rt)?;
+    arrived::run(&rt)?;
+    finds::run(&rt)?;
+    reasons::run(&rt)?;
+    serving::ours(&rt)?;
+    serving::others(&rt)?;
+    serving::replies(&rt)?;
+    serving::refusals(&rt)
 }

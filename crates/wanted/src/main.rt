@@ -7,9 +7,10 @@ mod print;
 mod request;
 
 use files::Sizes;
+use std::io;
 use xdr::Filling;
 
-fn main() {
+fn main(rt: HostRuntime) -> io::Result<()> {
     // one byte more than a table may have
     let mut local = [0u8; 65537];
     let mut peer1 = [0u8; 65537];
@@ -17,19 +18,16 @@ fn main() {
     let mut peer3 = [0u8; 65537];
     let mut peer4 = [0u8; 65537];
     let sizes = Sizes {
-        local: files::load(b"local", &mut local),
-        peer1: files::load(b"peer1", &mut peer1),
-        peer2: files::load(b"peer2", &mut peer2),
-        peer3: files::load(b"peer3", &mut peer3),
-        peer4: files::load(b"peer4", &mut peer4),
+        local: files::load(&rt, b"local", &mut local)?,
+        peer1: files::load(&rt, b"peer1", &mut peer1)?,
+        peer2: files::load(&rt, b"peer2", &mut peer2)?,
+        peer3: files::load(&rt, b"peer3", &mut peer3)?,
+        peer4: files::load(&rt, b"peer4", &mut peer4)?,
     };
     let mut out = [0u8; 65536];
     let answer = request::list(&local, &peer1, &peer2, &peer3, &peer4, sizes, &mut out);
-    let written = match answer {
-        Filling::Filled(n) => print::list(&out, n),
-        Filling::Refused(r) => print::refused(r.number),
-    };
-    if !written {
-        os::fail(b"standard output");
+    match answer {
+        Filling::Filled(n) => print::list(&rt, &out, n),
+        Filling::Refused(r) => print::refused(&rt, r.number),
     }
 }

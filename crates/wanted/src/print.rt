@@ -2,24 +2,24 @@
 ghost use Rattle.std.specs.Prelude.{◌/◌, ◌≡◌};
 
 use crate::entry::{BYTES, Entry, entry_of};
-use libc::STDOUT_FILENO;
+use std::io;
 
-// Each function that prints tells whether all was written.
-fn text(s: &[u8]) -> bool {
-    io::write_all(STDOUT_FILENO, s)
+fn text(rt: &impl Print, s: &[u8]) -> io::Result<()> {
+    rt.write_all(s)
 }
 
-fn labelled(label: &[u8], n: u64) -> bool {
-    text(label) && io::print_decimal(STDOUT_FILENO, n)
+fn labelled(rt: &impl Print, label: &[u8], n: u64) -> io::Result<()> {
+    text(rt, label)?;
+    print!(rt; "{n}")
 }
 
-fn show(e: Entry) -> bool {
-    labelled(b"file ", e.file as u64)
-        && labelled(b" block ", e.block as u64)
-        && labelled(b" offset ", e.offset)
-        && labelled(b" length ", e.size as u64)
-        && labelled(b" peer ", e.peer as u64)
-        && text(b"\n")
+fn show(rt: &impl Print, e: Entry) -> io::Result<()> {
+    labelled(rt, b"file ", e.file as u64)?;
+    labelled(rt, b" block ", e.block as u64)?;
+    labelled(rt, b" offset ", e.offset)?;
+    labelled(rt, b" length ", e.size as u64)?;
+    labelled(rt, b" peer ", e.peer as u64)?;
+    text(rt, b"\n")
 }
 
 // How many entries a list of so many bytes has.
@@ -30,20 +30,21 @@ fn count_in(bytes: usize) -> usize
 }
 
 // A list of so many bytes.
-pub fn list(list: &[u8], bytes: usize) -> bool {
+pub fn list(rt: &impl Print, list: &[u8], bytes: usize) -> io::Result<()> {
     let count = count_in(bytes);
-    entries(list, count) && labelled(b"wanted ", count as u64) && text(b"\n")
+    entries(rt, list, count)?;
+    labelled(rt, b"wanted ", count as u64)?;
+    text(rt, b"\n")
 }
 
-fn entries(list: &[u8], count: usize) -> bool {
+fn entries(rt: &impl Print, list: &[u8], count: usize) -> io::Result<()> {
     for i in 0..count {
-        if !show(entry_of(list, i)) {
-            return false;
-        }
+        show(rt, entry_of(list, i))?;
     }
-    true
+    Ok(())
 }
 
-pub fn refused(number: u32) -> bool {
-    labelled(b"refused ", number as u64) && text(b"\n")
+pub fn refused(rt: &impl Print, number: u32) -> io::Result<()> {
+    labelled(rt, b"refused ", number as u64)?;
+    text(rt, b"\n")
 }

@@ -1,6 +1,8 @@
 // Says why a block isn't coming, by the tables in the files `local` and `peer1` to `peer4`: `why NAME BLOCK` prints one line.
 #![tactic(auto)]
 
+ghost use Rattle.std.specs.Prelude.{◌≤◌, length};
+
 mod asked;
 mod number;
 mod print;
@@ -8,9 +10,12 @@ mod print;
 use files::Sizes;
 use number::Number;
 use reason::Reason;
+use std::env::FillError;
+use std::io;
+use std::rt::{Env, Files};
 
 // The line for a block of a name.
-fn told(name: &[u8], block: u32) -> bool {
+fn told(rt: &(impl Files + Print), name: &[u8], block: u32) -> io::Result<()> {
     // one byte more than a table may have
     let mut local = [0u8; 65537];
     let mut peer1 = [0u8; 65537];
@@ -18,11 +23,11 @@ fn told(name: &[u8], block: u32) -> bool {
     let mut peer3 = [0u8; 65537];
     let mut peer4 = [0u8; 65537];
     let sizes = Sizes {
-        local: files::load(b"local", &mut local),
-        peer1: files::load(b"peer1", &mut peer1),
-        peer2: files::load(b"peer2", &mut peer2),
-        peer3: files::load(b"peer3", &mut peer3),
-        peer4: files::load(b"peer4", &mut peer4),
+        local: files::load(rt, b"local", &mut local)?,
+        peer1: files::load(rt, b"peer1", &mut peer1)?,
+        peer2: files::load(rt, b"peer2", &mut peer2)?,
+        peer3: files::load(rt, b"peer3", &mut peer3)?,
+        peer4: files::load(rt, b"peer4", &mut peer4)?,
     };
     let why = asked::why(&local, &peer1, &peer2, &peer3, &peer4, sizes, name, block);
     match why {
@@ -32,30 +37,46 @@ fn told(name: &[u8], block: u32) -> bool {
             let c = files::first(&peer2, sizes.peer2);
             let d = files::first(&peer3, sizes.peer3);
             let e = files::first(&peer4, sizes.peer4);
-            print::bad(asked::first_bad(a, b, c, d, e))
+            print::bad(rt, asked::first_bad(a, b, c, d, e))
         }
-        _ => print::reason(why),
+        _ => print::reason(rt, why),
+    }
+}
+
+// Puts an argument into a buffer, and gives how many bytes it has: none where it is missing or does not fit.
+fn argument(rt: &impl Env, i: usize, buf: &mut [u8]) -> usize
+    ensures { result ≤ length buf.new }
+{
+    match rt.arg(i, buf) {
+        Ok(n) => n,
+        Err(_) => 0,
+    }
+}
+
+// Whether there is an argument of a number.
+fn is_given(rt: &impl Env, i: usize) -> bool {
+    match rt.arg(i, &mut []) {
+        Ok(_) | Err(FillError::TooLong) => true,
+        Err(FillError::NotPresent) => false,
     }
 }
 
 // By the arguments: a name and a block number.
-fn answered() -> bool {
+fn answered(rt: &(impl Env + Files + Print)) -> io::Result<()> {
     // A longer name than fits is in no table, and neither is the empty one that then stands there.
     let mut name = [0u8; 255];
-    let size = os::arg(1, &mut name);
+    let size = argument(rt, 1, &mut name);
     let mut digits = [0u8; 10];
-    let count = os::arg(2, &mut digits);
-    if os::arg_count() != 3 {
-        return print::usage();
+    let count = argument(rt, 2, &mut digits);
+    if !is_given(rt, 2) || is_given(rt, 3) {
+        return print::usage(rt);
     }
     match number::read(&digits[..count]) {
-        Number::Is(block) => told(&name[..size], block),
-        Number::None => print::usage(),
+        Number::Is(block) => told(rt, &name[..size], block),
+        Number::None => print::usage(rt),
     }
 }
 
-fn main() {
-    if !answered() {
-        os::fail(b"standard output");
-    }
+fn main(rt: HostRuntime) -> io::Result<()> {
+    answered(&rt)
 }

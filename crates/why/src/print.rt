@@ -1,40 +1,47 @@
 // The lines.
-use libc::STDOUT_FILENO;
 use reason::Reason;
+use std::io;
 
-// Each function that prints tells whether all was written.
-fn text(s: &[u8]) -> bool {
-    io::write_all(STDOUT_FILENO, s)
+fn text(rt: &impl Print, s: &[u8]) -> io::Result<()> {
+    rt.write_all(s)
 }
 
-fn labelled(label: &[u8], n: u64) -> bool {
-    text(label) && io::print_decimal(STDOUT_FILENO, n)
+fn labelled(rt: &impl Print, label: &[u8], n: u64) -> io::Result<()> {
+    text(rt, label)?;
+    print!(rt; "{n}")
 }
 
-pub fn usage() -> bool {
-    text(b"usage: why NAME BLOCK\n")
+pub fn usage(rt: &impl Print) -> io::Result<()> {
+    text(rt, b"usage: why NAME BLOCK\n")
 }
 
 // The table of a number that is not good: 0 is the local one.
-pub fn bad(table: u32) -> bool {
+pub fn bad(rt: &impl Print, table: u32) -> io::Result<()> {
     if table == 0 {
-        return text(b"bad table local\n");
+        return text(rt, b"bad table local\n");
     }
-    labelled(b"bad table peer", table as u64) && text(b"\n")
+    labelled(rt, b"bad table peer", table as u64)?;
+    text(rt, b"\n")
 }
 
-pub fn reason(why: Reason) -> bool {
+pub fn reason(rt: &impl Print, why: Reason) -> io::Result<()> {
     match why {
-        Reason::NoSuchName => text(b"no such name\n"),
-        Reason::Deleted => text(b"deleted\n"),
-        Reason::Invalid => text(b"invalid\n"),
-        Reason::NoSuchBlock => text(b"no such block\n"),
+        Reason::NoSuchName => text(rt, b"no such name\n"),
+        Reason::Deleted => text(rt, b"deleted\n"),
+        Reason::Invalid => text(rt, b"invalid\n"),
+        Reason::NoSuchBlock => text(rt, b"no such block\n"),
         Reason::Held { record, block } => {
-            labelled(b"held by file ", record as u64)
-                && labelled(b" block ", block as u64)
-                && text(b"\n")
+            labelled(rt, b"held by file ", record as u64)?;
+            labelled(rt, b" block ", block as u64)?;
+            text(rt, b"\n")
         }
-        Reason::Wanted { peer } => labelled(b"wanted from peer ", peer as u64) && text(b"\n"),
-        Reason::Refused(r) => labelled(b"refused ", r.number as u64) && text(b"\n"),
+        Reason::Wanted { peer } => {
+            labelled(rt, b"wanted from peer ", peer as u64)?;
+            text(rt, b"\n")
+        }
+        Reason::Refused(r) => {
+            labelled(rt, b"refused ", r.number as u64)?;
+            text(rt, b"\n")
+        }
     }
 }

@@ -1,3 +1,0 @@
--- How a walker in a local is stepped.
-pub mod Lent
-pub mod Stepping
