@@ -4,7 +4,6 @@ use mathlib.Core.Path.{◌≡◌, sym, ap, ◌∙◌}
 use native.Mathlib.Omega.{arith}
 use borrow.Author.Tests.{eq-eqb, ne_eqb}
 use lib.ListN.{take, drop}
-use Rattle.xdr.specs.Reading.{taken}
 use Rattle.xdr.specs.Text.{sound_up_to}
 use Rattle.xdr.specs.Answers.{bytes_answer}
 use Rattle.xdr.specs.declared.answer.Bytes.TheVariants as B

@@ -1,6 +1,5 @@
 -- `xdr::text::four_at` meets its contract.
 use mathlib.Core.Path.{sym, ◌∙◌}
-use borrow.Author.Tests.{not-false}
 use Rattle.xdr.proofs.TextRule.{no_promise, four_whole}
 use borrow.Author.Rules.{rules}
 use Rattle.xdr.proofs.text.four_at.Statement.{statement}

@@ -1,6 +1,5 @@
 -- `xdr::text::pair_at` meets its contract.
 use mathlib.Core.Path.{sym, ◌∙◌}
-use borrow.Author.Tests.{not-false}
 use Rattle.xdr.proofs.TextRule.{no_promise, pair_whole}
 use borrow.Author.Rules.{rules}
 use Rattle.xdr.proofs.text.pair_at.Statement.{statement}

@@ -1,6 +1,5 @@
 -- `xdr::text::pairs_at` meets its contract.
 use mathlib.Core.Path.{refl}
-use borrow.Author.Tests.{not-false}
 use Rattle.xdr.proofs.TextRule.{no_promise, in_a_row}
 use borrow.Author.Rules.{rules}
 use Rattle.xdr.proofs.text.pairs_at.Statement.{statement}

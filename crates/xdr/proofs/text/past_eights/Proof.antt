@@ -1,7 +1,6 @@
 -- `xdr::text::past_eights` meets its contract. The loop's invariant is the contract itself.
 use Prim.Native.Nat.{◌≤◌, ◌-◌}
 use mathlib.Core.Path.{◌≡◌, refl, ◌∙◌}
-use borrow.Author.Tests.{not-false}
 use lib.ListN.{length}
 use Rattle.xdr.specs.Text.{sound_up_to}
 use Rattle.xdr.specs.Steps.{sound_after}
