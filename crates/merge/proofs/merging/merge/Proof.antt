@@ -1,7 +1,6 @@
 -- `merge::merging::merge` meets its contract.
 use mathlib.Core.Path.{◌≡◌, sym, ◌∙◌}
 use mathlib.Core.Bool.{true}
-use borrow.Author.Tests.{not-true, not-false}
 use Rattle.table.specs.Table.{is_good}
 use Rattle.xdr.proofs.FillingLaws.{fills_refused, fills_same}
 use Rattle.merge.proofs.AnswerLaws.{first_bad_lem, second_bad, both_good}

@@ -16,12 +16,15 @@ pub loop-k-preserved : goal.loop-k-preserved
 loop-k-preserved c =
     let l = c.loop-k in
     elim c.match-join.branch [
-      in-One w ↦ (
+      | in-One w ↦ (
         λ h. to_put_same c.args.a.now c.args.b.now w.out-is w.x-is w.y-is w.to-is (to_put_joined c.args.a.now c.args.b.now (l.invariant.0 h) (omega arith) refl refl c.join.ensures w.in-One.is),
-        omega arith)
-    | in-Apart w ↦ (
+        omega arith,
+      )
+      | in-Apart w ↦ (
         λ h. to_put_same c.args.a.now c.args.b.now w.out-is w.x-is w.y-is w.to-is (to_put_next c.args.a.now c.args.b.now (l.invariant.0 h) (omega arith) refl refl w.put_note-to.ensures),
-        omega arith) ]
+        omega arith,
+      )
+    ]
 
 pub returns : goal.returns
 returns c h = to_put_last c.args.a.now c.args.b.now (c.loop-k.invariant.0 h) (omega arith) c.put_note.ensures

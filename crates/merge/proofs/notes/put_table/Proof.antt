@@ -1,7 +1,6 @@
 -- `merge::notes::put_table` meets its contract.
 use mathlib.Core.Path.{◌≡◌, sym, ◌∙◌}
 use mathlib.Core.Bool.{true}
-use borrow.Author.Tests.{not-true, not-false}
 use Rattle.table.specs.Table.{is_within}
 use Rattle.merge.proofs.PutLaws.{put_large, put_short, put_filled}
 use borrow.Author.Rules.{rules}
