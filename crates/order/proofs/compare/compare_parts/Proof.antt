@@ -1,7 +1,6 @@
 -- `order::compare::compare_parts` meets its contract.
 use mathlib.Core.Path.{◌∙◌}
 use borrow.Author.Rules.{rules}
-use Rattle.order.specs.Order.{part}
 use Rattle.order.proofs.compare.compare_parts.Statement.{statement}
 use Rattle.order.proofs.compare.compare_parts.Tie as tie
 

@@ -1,7 +1,7 @@
 -- `order::long::same_bytes` meets its contract.
 use Prim.Native.Nat.{◌-◌}
 use mathlib.Core.Path.{ap}
-use mathlib.Core.Logic.{inl, inr, ⊎_elim}
+use mathlib.Core.Logic.{inl, inr}
 use borrow.Author.Rules.{rules}
 use lib.ListN.{length}
 use Rattle.order.proofs.SameLaws.{differ, Alike, alike_starts, alike_turn, alike_ends}
