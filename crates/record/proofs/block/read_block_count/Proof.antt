@@ -1,6 +1,5 @@
 -- `record::block::read_block_count` meets its contract: the count's steps, and then its test.
 use Rattle.std.proofs.Common.{sym, ◌∙◌, rules}
-use borrow.Author.Tests.{not-true, not-false}
 use Rattle.xdr.specs.Answers.{word_answer}
 use Rattle.xdr.proofs.Answered.{word_taken, word_refused}
 use Rattle.xdr.proofs.Steps.{answered, checked_refused, checked_failed, checked_passed}

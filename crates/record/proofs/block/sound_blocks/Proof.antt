@@ -1,6 +1,5 @@
 -- `record::block::sound_blocks` meets its contract. The loop's invariant: so many blocks are in order, and end where the next begins.
 use Rattle.std.proofs.Common.{◌≡◌, ℕ, ◌+◌, ◌-◌, ◌*◌, ◌≤◌, List, drop, ◌∙◌, subst, arith, rules}
-use borrow.Author.Tests.{not-false}
 use Rattle.xdr.specs.Number.{big_endian}
 use Rattle.xdr.proofs.Answered.{hyper_taken}
 use Rattle.xdr.proofs.NumberLaws.{number_first}

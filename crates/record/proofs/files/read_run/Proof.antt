@@ -1,7 +1,6 @@
 -- `record::files::read_run` meets its contract. The loop's invariant: so many files have been read, they rise where they are to, and the last name is
 -- where it was found.
-use Rattle.std.proofs.Common.{ℕ, ◌+◌, ◌-◌, ◌<◌, ◌≤◌, Bool, List, length, sym, ap, ◌∙◌, ⊎_elim, arith, rules}
-use borrow.Author.Tests.{not-true, not-false}
+use Rattle.std.proofs.Common.{ℕ, ◌+◌, ◌-◌, ◌<◌, ◌≤◌, Bool, List, length, sym, ap, ◌∙◌, arith, rules}
 use Rattle.xdr.specs.Reading.{taken, refused}
 use Rattle.xdr.specs.Fields.{up_to}
 use Rattle.xdr.proofs.Answered.{word_taken, word_refused}

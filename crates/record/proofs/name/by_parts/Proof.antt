@@ -1,6 +1,5 @@
 -- `record::name::by_parts` meets its contract. The loop's invariant: what is asked of the whole is what is left to ask.
-use Rattle.std.proofs.Common.{◌-◌, length, sym, ◌∙◌, ⊎_elim, arith, rules}
-use borrow.Author.Tests.{not-true, not-false}
+use Rattle.std.proofs.Common.{◌-◌, length, sym, ◌∙◌, arith, rules}
 use Rattle.record.proofs.PathSteps.{Gone, gone_none, gone_zero, gone_broken, gone_part, gone_byte, gone_all}
 use Rattle.record.proofs.name.by_parts.Statement.{statement}
 use Rattle.record.proofs.name.by_parts.Tie as tie
@@ -28,9 +27,10 @@ loop-again c =
     let l = c.before.before in
     let g = l.before.loop-i.invariant in
     elim c.if-b-le47.branch [
-      then-b-le47+else-b-eq0+then-b-eq47+else-not-is_part w ↦ gone_part g l.loop-i-test.true w.if-b-eq47.true (sym w.is_part.ensures ∙ w.if-not-is_part.false) w.start-is
-    | then-b-le47+else-b-eq0+else-b-eq47 w ↦ gone_byte g l.loop-i-test.true w.if-b-eq47.false w.if-b-eq0.false w.start-is
-    | else-b-le47 w ↦ gone_byte g l.loop-i-test.true (λ e. omega (arith, w.if-b-le47.false)) (λ e. omega (arith, w.if-b-le47.false)) w.start-is ]
+      | then-b-le47+else-b-eq0+then-b-eq47+else-not-is_part w ↦ gone_part g l.loop-i-test.true w.if-b-eq47.true (sym w.is_part.ensures ∙ w.if-not-is_part.false) w.start-is
+      | then-b-le47+else-b-eq0+else-b-eq47 w ↦ gone_byte g l.loop-i-test.true w.if-b-eq47.false w.if-b-eq0.false w.start-is
+      | else-b-le47 w ↦ gone_byte g l.loop-i-test.true (λ e. omega (arith, w.if-b-le47.false)) (λ e. omega (arith, w.if-b-le47.false)) w.start-is
+    ]
 
 returns : tie.Need-returns invariant-loop decreases-loop
 returns c = let l = c.before.before in c.is_part-2.ensures ∙ sym (gone_all l.before.loop-i.invariant l.loop-i-test.false)

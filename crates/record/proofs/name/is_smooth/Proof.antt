@@ -1,5 +1,5 @@
 -- `record::name::is_smooth` meets its contract. The loop's invariant: where no fault was met, each byte up to the one before i may stand before the next.
-use Rattle.std.proofs.Common.{◌≡◌, ◌-◌, ◌≤◌, true, length, get_or, sym, ◌∙◌, ⊎_elim, true≢false, arith, rules}
+use Rattle.std.proofs.Common.{◌≡◌, ◌-◌, ◌≤◌, true, length, get_or, sym, ◌∙◌, true≢false, arith, rules}
 use Rattle.record.specs.Steps.{Smooth}
 use Rattle.record.proofs.SmoothLaws.{smooth_none, smooth_more}
 use Rattle.record.proofs.name.is_smooth.Statement.{statement}
@@ -23,14 +23,17 @@ loop-again c = (
       let t = l.before.args.s.now in
       let slash : (c.before.if-b-eq0.smooth ≡ true) × (get_or t (l.loop-i.i - 1) 0 ≡ 47 → (get_or t l.loop-i.i 0 ≡ 46 → ⊥) × (get_or t l.loop-i.i 0 ≡ 47 → ⊥)) =
       elim c.if-b-eq47.branch [
-        then-b-eq47+then-c-eq47 w ↦ absurd (true≢false (sym e ∙ w.smooth-is))
-      | then-b-eq47+else-c-eq47 w ↦ elim w.if-c-eq46.branch [
-          then-c-eq46 x ↦ absurd (true≢false (sym e ∙ w.smooth-is ∙ x.smooth-is))
-        | else-c-eq46 x ↦ (sym x.smooth-is ∙ sym w.smooth-is ∙ e, λ z. (x.if-c-eq46.false, w.if-c-eq47.false)) ]
-      | else-b-eq47 w ↦ (sym w.smooth-is ∙ e, λ z. absurd (w.if-b-eq47.false z)) ] in
+        | then-b-eq47+then-c-eq47 w ↦ absurd (true≢false (sym e ∙ w.smooth-is))
+        | then-b-eq47+else-c-eq47 w ↦ elim w.if-c-eq46.branch [
+          | then-c-eq46 x ↦ absurd (true≢false (sym e ∙ w.smooth-is ∙ x.smooth-is))
+          | else-c-eq46 x ↦ (sym x.smooth-is ∙ sym w.smooth-is ∙ e, λ z. (x.if-c-eq46.false, w.if-c-eq47.false))
+        ]
+        | else-b-eq47 w ↦ (sym w.smooth-is ∙ e, λ z. absurd (w.if-b-eq47.false z))
+      ] in
       elim c.before.if-b-eq0.branch [
-        then-b-eq0 w ↦ absurd (true≢false (sym slash.0 ∙ w.smooth-is))
-      | else-b-eq0 w ↦ smooth_more t l.loop-i.i l.loop-i.invariant.0 (l.loop-i.invariant.1 (sym w.smooth-is ∙ slash.0)) (record { some = w.if-b-eq0.false; plain = slash.1 }) ],
+        | then-b-eq0 w ↦ absurd (true≢false (sym slash.0 ∙ w.smooth-is))
+        | else-b-eq0 w ↦ smooth_more t l.loop-i.i l.loop-i.invariant.0 (l.loop-i.invariant.1 (sym w.smooth-is ∙ slash.0)) (record { some = w.if-b-eq0.false; plain = slash.1 })
+      ],
 )
 
 returns : tie.Need-returns invariant-loop decreases-loop

@@ -1,6 +1,5 @@
 -- `record::name::name_fault` meets its contract.
 use Rattle.std.proofs.Common.{sym, ◌∙◌, rules}
-use borrow.Author.Tests.{not-true, not-false}
 use Rattle.record.proofs.NameSteps.{fault_empty, fault_climbing, fault_none}
 use Rattle.record.proofs.name.name_fault.Statement.{statement}
 use Rattle.record.proofs.name.name_fault.Tie as tie

@@ -1,6 +1,5 @@
 -- `record::name::past_eights` meets its contract. The loop's invariant is the contract itself.
 use Rattle.std.proofs.Common.{◌+◌, ◌-◌, ◌≤◌, length, rules}
-use borrow.Author.Tests.{not-false}
 use Rattle.record.specs.Steps.{Smooth}
 use Rattle.record.proofs.SmoothLaws.{smooth_none, smooth_on}
 use Rattle.record.proofs.name.past_eights.Statement.{statement}
