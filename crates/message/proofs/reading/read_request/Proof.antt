@@ -12,7 +12,7 @@ use Rattle.xdr.specs.Format.{read_at}
 use Rattle.xdr.proofs.Answered.{word_taken, word_refused, hyper_taken, hyper_refused, bytes_taken, bytes_refused}
 use Rattle.xdr.proofs.Steps.{Reads, answered, first_refused, both_read, via_refused, via_taken, passed, ends_word}
 use Rattle.xdr.proofs.Strings.{string_ends}
-use Rattle.record.specs.Block.{size, hash}
+use Rattle.record.specs.Block.{size}
 use Rattle.record.specs.File.{name}
 use Rattle.record.proofs.NameSteps.{name_string}
 use Rattle.message.specs.Message.{RequestBody, request}
