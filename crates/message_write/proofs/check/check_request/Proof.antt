@@ -14,7 +14,7 @@ use Rattle.xdr.proofs.Steps.{Reads, first_refused, both_read, via_refused, via_t
 use Rattle.xdr.proofs.Told.{Wide, encoded_at, number_alone, told_same}
 use Rattle.message_write.proofs.Behind.{behind, checks, last_at, string_size, string_refused, string_taken}
 use Rattle.message_write.proofs.RepositoryLaws.{Checked, repository_checked, repository_unfit, repository_there}
-use borrow.Author.Tests.{not-true, not-false, eqb-true}
+use borrow.Author.Tests.{eqb-true}
 use Rattle.record.specs.Block.{hash}
 use Rattle.record.specs.File.{name}
 use Rattle.record.proofs.NameSteps.{name_string}
