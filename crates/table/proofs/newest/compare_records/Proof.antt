@@ -3,7 +3,6 @@ use Prim.Native.Nat.{ℕ}
 use mathlib.Core.List.{List, ◌∷◌}
 use mathlib.Core.Path.{◌≡◌, sym, ◌∙◌}
 use mathlib.Core.Bool.{not}
-use borrow.Author.Tests.{not-true, not-false}
 use Rattle.record.specs.File.{is_deleted, is_invalid}
 use Rattle.record.specs.Modified.{raised}
 use Rattle.order.specs.Order.{compare_numbers, part}
