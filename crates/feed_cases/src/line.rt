@@ -118,10 +118,8 @@ pub fn four(
 // A line of bytes that come one by one.
 pub fn each(rt: &impl Print, edition: Edition, label: &[u8], bytes: &[u8]) -> io::Result<()> {
     let mut state = open(rt, edition, label)?;
-    let mut i = 0;
-    while i < bytes.len() {
+    for i in 0..bytes.len() {
         state = fed(rt, state, &bytes[i..i + 1])?;
-        i += 1;
     }
     close(rt, state)
 }
