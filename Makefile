@@ -12,13 +12,13 @@ BUILT := target/staticlib/libbep.a
 LIB := $(BUILT)
 DIR ?= crates/wanted/data
 
-# A line for each crate, once it is proved.
-PROGRESS := grep --line-buffered '^rt:'
+# What the toolchain says of its progress, and its verdict.
+PROGRESS := grep --line-buffered -E '^(rt:|logic=)'
 
 # Proves a program and what it uses, and compiles it.
 target/bin/%: $(wildcard crates/*/src/*.rt)
 	@echo "proving $* and what it uses, some minutes the first time"
-	@rt check $* | $(PROGRESS)
+	@tools/program $* 2>&1 | $(PROGRESS)
 
 run: target/bin/wanted
 	@cd $(DIR) && $(CURDIR)/target/bin/wanted
@@ -55,7 +55,7 @@ soak: $(LIB)
 # Only the library that is built here has a rule: another one is taken as it is.
 $(BUILT): $(wildcard crates/*/src/*.rt)
 	@echo "proving the library, some minutes the first time"
-	@rt staticlib bep | $(PROGRESS)
+	@tools/library 2>&1 | $(PROGRESS)
 
 PREFIX ?= /usr/local
 VERSION = $(shell sed -n 's/^version = "\(.*\)"$$/\1/p' host/Cargo.toml)

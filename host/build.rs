@@ -17,7 +17,7 @@ fn main() {
     if !library.is_file() {
         println!("cargo::error=there is no {}", library.display());
         println!(
-            "cargo::error=run `rt staticlib bep` in the repository's root, \
+            "cargo::error=run `tools/library` in the repository's root, \
              or set FORDTRUMPET_LIB_DIR to the folder that holds libbep.a"
         );
         return;

@@ -47,7 +47,7 @@
 //!
 //! # Linking
 //!
-//! The build script looks for `libbep.a`, which `rt staticlib bep` makes in the repository's root, in
+//! The build script looks for `libbep.a`, which `tools/library` makes in the repository's root, in
 //! `target/staticlib` there, or in the folder that `FORDTRUMPET_LIB_DIR` names. A host depends on it so:
 //!
 //! ```toml

@@ -1,4 +1,4 @@
-//! Runs the programs in folders of their own and reads what they print. `rt check` builds them.
+//! Runs the programs in folders of their own and reads what they print. `tools/program` builds them.
 
 mod reference;
 mod support;
@@ -46,7 +46,7 @@ fn output(program: &str, folder: &Path, stdout: Stdio) -> Output {
     command(program, folder)
         .stdout(stdout)
         .output()
-        .unwrap_or_else(|error| panic!("{program}: {error} (`rt check {program}`)"))
+        .unwrap_or_else(|error| panic!("{program}: {error} (`tools/program {program}`)"))
 }
 
 fn command(program: &str, folder: &Path) -> Command {
@@ -226,7 +226,7 @@ fn lines_that_are_lost_are_told_once_on_standard_error() {
             let output = output(program, &folder, device.unwrap().into());
             assert_eq!(
                 String::from_utf8(output.stderr).unwrap(),
-                "standard output: No space left on device\n",
+                "Error: Os { code: 28, kind: StorageFull, message: \"No space left on device\" }\n",
                 "{program}, {case}"
             );
         }
