@@ -80,11 +80,7 @@ pub fn bep_sha256_update(words: &mut [u32; 10], tail: &mut [u8; 64], bytes: &[u8
 }
 
 // The digest of all bytes.
-pub fn bep_sha256_finish(
-    words: &[u32; 10],
-    tail: &[u8; 64],
-    digest: &mut [u8; 32],
-) -> u32
+pub fn bep_sha256_finish(words: &[u32; 10], tail: &[u8; 64], digest: &mut [u8; 32]) -> u32
     ensures { (result ≡ 0)
         × (digest.new ≡ fips.state_bytes (ended (hasher_of words.now tail.now))) }
 {

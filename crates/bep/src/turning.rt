@@ -5,12 +5,7 @@ ghost use Rattle.bep.specs.Filling.{Gives};
 use crate::filling::give;
 
 // An old message becomes a new one, with the Repository that is given if a message of its type has one.
-pub fn bep_upgrade(
-    out: &mut [u8],
-    message: &[u8],
-    repository: &[u8],
-    answer: &mut [u64; 1],
-) -> u32
+pub fn bep_upgrade(out: &mut [u8], message: &[u8], repository: &[u8], answer: &mut [u64; 1]) -> u32
     ensures { Gives
         (upgrading message.now repository.now)
         out.old result answer.new out.new }

@@ -60,12 +60,7 @@ pub fn bep_write_request(
 }
 
 // An Index of the old edition, which has no Repository.
-pub fn bep_write_old_index(
-    out: &mut [u8],
-    id: u32,
-    files: &[u8],
-    answer: &mut [u64; 1],
-) -> u32
+pub fn bep_write_old_index(out: &mut [u8], id: u32, files: &[u8], answer: &mut [u64; 1]) -> u32
     ensures { Gives
         (writing (message Edition.Old) id 1 (index_bytes Edition.Old tt files.now))
         out.old result answer.new out.new }
@@ -108,12 +103,7 @@ pub fn bep_write_old_request(
 }
 
 // A Response: one without data says that the block is not available.
-pub fn bep_write_response(
-    out: &mut [u8],
-    id: u32,
-    data: &[u8],
-    answer: &mut [u64; 1],
-) -> u32
+pub fn bep_write_response(out: &mut [u8], id: u32, data: &[u8], answer: &mut [u64; 1]) -> u32
     ensures { Gives
         (writing (message Edition.New) id 3 (response_bytes «data».now))
         out.old result answer.new out.new }
@@ -143,12 +133,7 @@ pub fn bep_write_pong(out: &mut [u8], id: u32, answer: &mut [u64; 1]) -> u32
 }
 
 // An Options message: its options are an encoded array, and bytes after the array's end do not count.
-pub fn bep_write_options(
-    out: &mut [u8],
-    id: u32,
-    options: &[u8],
-    answer: &mut [u64; 1],
-) -> u32
+pub fn bep_write_options(out: &mut [u8], id: u32, options: &[u8], answer: &mut [u64; 1]) -> u32
     ensures { Gives
         (writing (message Edition.New) id 7 options.now)
         out.old result answer.new out.new }

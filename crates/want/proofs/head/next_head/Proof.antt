@@ -107,10 +107,11 @@ loop-again c =
     let t = element (λ x. x.now) s.tables v.k _ refl in
     let q = rank_in_lem v.fields at c.before.standing.ensures (element (λ x. x.now) s.tables v.best _ refl) t in (
       elim c.match-standing.branch [
-            in-Before p ↦ head_as (head_before v.invariant.0 h v.invariant.1 refl q p.in-Before.is) p.best-is p.fields-is p.past-is
-          | in-Same p ↦ head_as (head_same v.invariant.0 h v.invariant.1 refl q (past_in at p.past_of-in-Same.ensures (outline_in at p.record_at.ensures t)) p.in-Same.is) p.best-is p.fields-is p.past-is
-          | in-Newer p ↦ head_as (head_newer v.invariant.0 h v.invariant.1 refl q (past_in at p.past_of-in-Newer.ensures (outline_in at p.record_at-fields-in-Newer.ensures t)) p.in-Newer.is) p.best-is (p.fields-is ∙ outline_in at p.record_at-fields-in-Newer.ensures t) p.past-is
-          | in-After p ↦ head_as (head_after v.invariant.0 h v.invariant.1 refl q (past_in at p.past_of-in-After.ensures (outline_in at p.record_at-fields-in-After.ensures t)) p.in-After.is) p.best-is (p.fields-is ∙ outline_in at p.record_at-fields-in-After.ensures t) p.past-is ],
+        | in-Before p ↦ head_as (head_before v.invariant.0 h v.invariant.1 refl q p.in-Before.is) p.best-is p.fields-is p.past-is
+        | in-Same p ↦ head_as (head_same v.invariant.0 h v.invariant.1 refl q (past_in at p.past_of-in-Same.ensures (outline_in at p.record_at.ensures t)) p.in-Same.is) p.best-is p.fields-is p.past-is
+        | in-Newer p ↦ head_as (head_newer v.invariant.0 h v.invariant.1 refl q (past_in at p.past_of-in-Newer.ensures (outline_in at p.record_at-fields-in-Newer.ensures t)) p.in-Newer.is) p.best-is (p.fields-is ∙ outline_in at p.record_at-fields-in-Newer.ensures t) p.past-is
+        | in-After p ↦ head_as (head_after v.invariant.0 h v.invariant.1 refl q (past_in at p.past_of-in-After.ensures (outline_in at p.record_at-fields-in-After.ensures t)) p.in-After.is) p.best-is (p.fields-is ∙ outline_in at p.record_at-fields-in-After.ensures t) p.past-is
+      ],
       v.invariant.1,
       omega (arith, h),
     )

@@ -101,9 +101,10 @@ loop-again c =
     let t = element (λ x. x.now) s.tables v.k _ refl in
     let q = order_as (place_at s.places v.best) at c.before.compare_at.ensures (element (λ x. x.now) s.tables v.best _ refl) t in (
       elim c.match-compare_at.branch [
-            in-Less p ↦ named_as (named_turn v.invariant.0 h v.invariant.1 refl q p.in-Less.is) p.best-is p.past-is
-          | in-Equal p ↦ named_as (named_turn v.invariant.0 h v.invariant.1 (past_in at p.past_of-in-Equal.ensures (outline_in at p.record_at-in-Equal.ensures t)) q p.in-Equal.is) p.best-is p.past-is
-          | in-Greater p ↦ named_as (named_turn v.invariant.0 h v.invariant.1 (past_in at p.past_of-in-Greater.ensures (outline_in at p.record_at-in-Greater.ensures t)) q p.in-Greater.is) p.best-is p.past-is ],
+        | in-Less p ↦ named_as (named_turn v.invariant.0 h v.invariant.1 refl q p.in-Less.is) p.best-is p.past-is
+        | in-Equal p ↦ named_as (named_turn v.invariant.0 h v.invariant.1 (past_in at p.past_of-in-Equal.ensures (outline_in at p.record_at-in-Equal.ensures t)) q p.in-Equal.is) p.best-is p.past-is
+        | in-Greater p ↦ named_as (named_turn v.invariant.0 h v.invariant.1 (past_in at p.past_of-in-Greater.ensures (outline_in at p.record_at-in-Greater.ensures t)) q p.in-Greater.is) p.best-is p.past-is
+      ],
       v.invariant.1,
       omega (arith, h),
     )
