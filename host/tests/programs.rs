@@ -226,7 +226,7 @@ fn lines_that_are_lost_are_told_once_on_standard_error() {
             let output = output(program, &folder, device.unwrap().into());
             assert_eq!(
                 String::from_utf8(output.stderr).unwrap(),
-                "Error: Os { code: 28, kind: StorageFull, message: \"No space left on device\" }\n",
+                "standard output: No space left on device\n",
                 "{program}, {case}"
             );
         }

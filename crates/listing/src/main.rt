@@ -23,10 +23,10 @@ fn list(rt: &impl Print, table: &[u8]) -> io::Result<()> {
 
 fn main(rt: HostRuntime) -> io::Result<()> {
     let Opened::File(mut file) = files::open(&rt, b"table") else {
-        return line::refused(&rt, 15);
+        return line::told(&rt, line::refused(&rt, 15));
     };
     // one byte more than a table may have
     let mut buffer = [0u8; 65537];
     let n = files::read_full(&mut file, &mut buffer)?;
-    list(&rt, &buffer[..n])
+    line::told(&rt, list(&rt, &buffer[..n]))
 }

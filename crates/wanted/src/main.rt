@@ -26,8 +26,9 @@ fn main(rt: HostRuntime) -> io::Result<()> {
     };
     let mut out = [0u8; 65536];
     let answer = request::list(&local, &peer1, &peer2, &peer3, &peer4, sizes, &mut out);
-    match answer {
+    let written = match answer {
         Filling::Filled(n) => print::list(&rt, &out, n),
         Filling::Refused(r) => print::refused(&rt, r.number),
-    }
+    };
+    print::told(&rt, written)
 }

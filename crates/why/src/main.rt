@@ -15,7 +15,11 @@ use std::io;
 use std::rt::{Env, Files};
 
 // The line for a block of a name.
-fn told(rt: &(impl Files + Print), name: &[u8], block: u32) -> io::Result<()> {
+fn told(
+    rt: &(impl AllocGlobal + Eprint + Files + Print),
+    name: &[u8],
+    block: u32,
+) -> io::Result<()> {
     // one byte more than a table may have
     let mut local = [0u8; 65537];
     let mut peer1 = [0u8; 65537];
@@ -30,7 +34,7 @@ fn told(rt: &(impl Files + Print), name: &[u8], block: u32) -> io::Result<()> {
         peer4: files::load(rt, b"peer4", &mut peer4)?,
     };
     let why = asked::why(&local, &peer1, &peer2, &peer3, &peer4, sizes, name, block);
-    match why {
+    let written = match why {
         Reason::Refused(_) => {
             let a = files::first(&local, sizes.local);
             let b = files::first(&peer1, sizes.peer1);
@@ -40,7 +44,8 @@ fn told(rt: &(impl Files + Print), name: &[u8], block: u32) -> io::Result<()> {
             print::bad(rt, asked::first_bad(a, b, c, d, e))
         }
         _ => print::reason(rt, why),
-    }
+    };
+    print::told(rt, written)
 }
 
 // Puts an argument into a buffer, and gives how many bytes it has: none where it is missing or does not fit.
@@ -62,18 +67,18 @@ fn is_given(rt: &impl Env, i: usize) -> bool {
 }
 
 // By the arguments: a name and a block number.
-fn answered(rt: &(impl Env + Files + Print)) -> io::Result<()> {
+fn answered(rt: &(impl AllocGlobal + Env + Eprint + Files + Print)) -> io::Result<()> {
     // A longer name than fits is in no table, and neither is the empty one that then stands there.
     let mut name = [0u8; 255];
     let size = argument(rt, 1, &mut name);
     let mut digits = [0u8; 10];
     let count = argument(rt, 2, &mut digits);
     if !is_given(rt, 2) || is_given(rt, 3) {
-        return print::usage(rt);
+        return print::told(rt, print::usage(rt));
     }
     match number::read(&digits[..count]) {
         Number::Is(block) => told(rt, &name[..size], block),
-        Number::None => print::usage(rt),
+        Number::None => print::told(rt, print::usage(rt)),
     }
 }
 

@@ -11,6 +11,18 @@ fn labelled(rt: &impl Print, label: &[u8], n: u64) -> io::Result<()> {
     print!(rt; "{n}")
 }
 
+// Says once on standard error that lines were lost, if they were, with the system's reason.
+pub fn told(rt: &(impl AllocGlobal + Eprint), written: io::Result<()>) -> io::Result<()> {
+    let Err(error) = written else {
+        return Ok(());
+    };
+    let told = format!(in rt.alloc(); "{error}")?;
+    match told.as_str().split_once(" (os error ") {
+        Some((reason, _)) => eprintln!(rt; "standard output: {reason}"),
+        None => eprintln!(rt; "standard output: {told}"),
+    }
+}
+
 pub fn usage(rt: &impl Print) -> io::Result<()> {
     text(rt, b"usage: why NAME BLOCK\n")
 }
