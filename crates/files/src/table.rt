@@ -1,5 +1,6 @@
 // Tables in files.
-ghost use Rattle.std.specs.Prelude.{◌≤◌, ◌≡◌, IfOk, length, take};
+ghost use Rattle.std.specs.Prelude.{◌≤◌, ◌<◌, ◌≡◌, IfOk, length, take};
+ghost use Rattle.std.specs.Io.KnownBytes.{Consumes, IsAtEnd};
 ghost use Rattle.xdr.specs.Buffer.{Puts};
 ghost use Rattle.files.specs.StandIn.{stand_in};
 
@@ -31,7 +32,9 @@ fn stand_in(absent: bool, buf: &mut [u8]) -> usize
 
 // Reads until a buffer is full or there is no more, and gives how many bytes there are.
 pub fn read_full<R: Read>(reader: &mut R, buf: &mut [u8]) -> io::Result<usize>
-    ensures { IfOk result (λ n. n ≤ length buf.new) }
+    ensures count { IfOk result (λ n. n ≤ length buf.new) }
+    ensures bytes { IfOk result (λ n. Consumes (R.remaining reader.old) (R.remaining reader.new) (take n buf.new)) }
+    ensures end { IfOk result (λ n. n < length buf.new → IsAtEnd (R.remaining reader.new)) }
 {
     let mut done = 0;
     while done < buf.len() {
