@@ -30,11 +30,13 @@ fn stand_in(absent: bool, buf: &mut [u8]) -> usize
     0
 }
 
-// Reads until a buffer is full or there is no more, and gives how many bytes there are.
+// Reads until a buffer is full or there is no more, and gives how many bytes there are. Where a read fails, the buffer has its length, and
+// may hold what was read before.
 pub fn read_full<R: Read>(reader: &mut R, buf: &mut [u8]) -> io::Result<usize>
     ensures count { IfOk result (λ n. n ≤ length buf.new) }
     ensures bytes { IfOk result (λ n. Consumes (R.remaining reader.old) (R.remaining reader.new) (take n buf.new)) }
     ensures end { IfOk result (λ n. n < length buf.new → IsAtEnd (R.remaining reader.new)) }
+    ensures room { length buf.new ≡ length buf.old }
 {
     let mut done = 0;
     while done < buf.len() {
@@ -48,9 +50,10 @@ pub fn read_full<R: Read>(reader: &mut R, buf: &mut [u8]) -> io::Result<usize>
 }
 
 // Reads a file into a buffer, and gives how many bytes there are: those of the empty table where the file is absent; none, which are no
-// table, where it cannot be read.
+// table, where it cannot be opened. Where a read fails, the buffer has its length, and may hold what was read before.
 pub fn load(rt: &impl Files, name: &[u8], buf: &mut [u8]) -> io::Result<usize>
-    ensures { IfOk result (λ n. n ≤ length buf.new) }
+    ensures count { IfOk result (λ n. n ≤ length buf.new) }
+    ensures room { length buf.new ≡ length buf.old }
 {
     match open(rt, name) {
         Opened::File(mut file) => {
