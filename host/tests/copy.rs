@@ -332,6 +332,8 @@ fn names_that_are_not_for_files_here_are_not_written() {
         assert_eq!(files[names[0]], (data.to_vec(), 1_700_000_000, 0o100755));
         assert_eq!(files[names[2]], (vec![], 1_700_000_001, 0o100400));
     }
+    // `rt ci` refuses links below the repository.
+    fs::remove_file(inner.join("link")).unwrap();
 }
 
 /// An Index of a file with this name, and a Request for it, as only a hostile peer sends them: the writers

@@ -83,11 +83,11 @@ fn what_the_promises_name_is_there() {
 #[test]
 fn a_name_that_is_not_there_is_found() {
     let mut found = 0;
-    let row = "| .. | `isGood`, `isBad` (`table/specs/Table.antt`) | `table/must-fail/none.edit` |";
+    let row = "| .. | `is_good`, `is_bad` (`table/specs/Table.antt`) | `table/must-fail/none.edit` |";
     assert_eq!(
         missing(row, &mut found),
         [
-            "isBad in table/specs/Table.antt",
+            "is_bad in table/specs/Table.antt",
             "table/must-fail/none.edit"
         ]
     );
