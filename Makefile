@@ -38,7 +38,7 @@ show: $(LIB)
 	@cc -std=c99 -Wall -Wextra -Werror -Ihost/include host/examples/show.c $(LIB) -o target/show
 	@target/show target/sample.bin
 
-CASES := cases edition_cases feed_cases table_cases queue_cases want_cases
+CASES := cases edition_cases feed_cases table_cases queue_cases want_cases settings_cases
 cases: $(addprefix target/bin/,$(CASES))
 	@for program in $(CASES); do target/bin/$$program; done
 
