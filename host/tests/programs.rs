@@ -276,7 +276,7 @@ fn why_with<W: AsRef<OsStr>>(folder: &Path, words: &[W]) -> String {
     let output = command("why", folder)
         .args(words)
         .output()
-        .unwrap_or_else(|error| panic!("why: {error} (`rt check why`)"));
+        .unwrap_or_else(|error| panic!("why: {error} (`tools/program why`)"));
     String::from_utf8(output.stdout).unwrap()
 }
 

@@ -1,10 +1,11 @@
 // A message from runs of bytes as they come: its state is lent as 16 words, which each run changes.
+//
+// Any words may be given: those of no sound state are refused with 22 and left as they were.
 ghost use Rattle.std.specs.Prelude.{◌≡◌};
 ghost use Rattle.feed.specs.Front.{header_in};
 ghost use Rattle.feed_lent.specs.Lent.{feed_of, Lent};
-ghost use Rattle.feed.specs.Missing.{missing_in};
 ghost use Rattle.feed.specs.Opened.{opened};
-ghost use Rattle.bep.specs.Feeding.{said_number, said_words, Feeds, header_number, header_words};
+ghost use Rattle.bep.specs.Feeding.{Feeds, header_number, header_words};
 
 use message::Edition;
 

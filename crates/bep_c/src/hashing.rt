@@ -1,8 +1,11 @@
 // SHA-256 of bytes in one, or in pieces: what is kept between the pieces is lent as 10 words (the eight of the hash value so far, and how many
-ghost use Rattle.std.specs.Prelude.{◌≡◌, ◌+◌, ◌*◌, ◌^◌};
+// bytes there were in two words, the high one first) and 64 bytes (those after the last whole block).
+//
+// Any words and bytes may be given, and every call returns 0.
+ghost use Rattle.std.specs.Prelude.{◌≡◌};
 ghost use Rattle.sha256.specs.Hash as fips;
 ghost use Rattle.sha256.specs.Stream.{begun, continued, ended};
-ghost use Rattle.bep.specs.Hashing.{hasher_of, hasher_words, Keeps};
+ghost use Rattle.bep.specs.Hashing.{hasher_of, Keeps};
 
 // The digest of a message.
 #[unsafe(no_mangle)]

@@ -1,10 +1,11 @@
 // The records of an array that was read, one by one: by bounds checks alone. Where a record is not wholly there, the number is 1 and the
-ghost use Rattle.std.specs.Prelude.{◌≤◌, ◌≡◌};
+// answer the place of the field that isn't, and zeros. A step over a table checks the table whole.
+ghost use Rattle.std.specs.Prelude.{◌≡◌};
 ghost use Rattle.record.specs.Outline.{outline_of};
 ghost use Rattle.record.specs.OptionOutline.{option_of};
 ghost use Rattle.record.specs.Missing.{missing_of, missing_option};
 ghost use Rattle.walker.specs.Walk.{step_at};
-ghost use Rattle.bep.specs.Words.{field_words, file_words, file_number, key_words, option_words, option_number, step_number, step_words};
+ghost use Rattle.bep.specs.Words.{file_words, file_number, option_words, option_number, step_number, step_words};
 
 // The file at a place.
 #[unsafe(no_mangle)]

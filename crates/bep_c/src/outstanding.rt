@@ -1,11 +1,13 @@
 // The outstanding requests of four peers, lent as 140 words (for each peer the window, the next ID, the count, and the ID and the Length of each of
-ghost use Rattle.std.specs.Prelude.{◌/◌, ◌%◌, ◌≡◌, []};
+// 16 entries) and 2,048 bytes (for each peer the hash of each entry).
+//
+// Any words may be given: those of a queue that is not sound are refused with 22 and left as they were.
+ghost use Rattle.std.specs.Prelude.{◌/◌, ◌≡◌, []};
 ghost use Rattle.message_write.specs.Writing.{request_bytes};
 ghost use Rattle.queue.specs.Queue.{opening, drop_of};
 ghost use Rattle.queue_lent.specs.Words.{queue_of};
 ghost use Rattle.queue_lent.specs.Calls.{totals_of};
-ghost use Rattle.bep.specs.Filling.{filling_number};
-ghost use Rattle.bep.specs.Queues.{window_in, windows_in, verdict_number, Becomes, issued_words, QueueIssues, arrival_number, arrival_words, QueueAnswers};
+ghost use Rattle.bep.specs.Queues.{windows_in, Becomes, QueueIssues, QueueAnswers};
 
 use message::Edition;
 

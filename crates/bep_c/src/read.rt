@@ -1,7 +1,7 @@
 // Reading a message.
 ghost use Rattle.std.specs.Prelude.{◌≡◌};
 ghost use Rattle.message.specs.Answers.{message_in};
-ghost use Rattle.bep.specs.Words.{index_words, request_words, response_words, ping_words, options_words, place_words, read_words, read_number};
+ghost use Rattle.bep.specs.Words.{read_words, read_number};
 
 use message::Edition;
 

@@ -4,7 +4,7 @@ ghost use Rattle.want.specs.Listing.{block_with};
 ghost use Rattle.want.specs.Found.{found_in};
 ghost use Rattle.want.specs.Wanted.{request_outcome};
 ghost use Rattle.want.specs.Details.{details_of};
-ghost use Rattle.bep.specs.Details.{Tells, StopsAfter};
+ghost use Rattle.bep.specs.Details.{Tells};
 ghost use Rattle.bep.specs.Filling.{Gives};
 ghost use Rattle.bep.specs.Search.{Finds};
 

@@ -1,8 +1,6 @@
 // The ruling on an incoming Request.
-ghost use Rattle.std.specs.Prelude.{◌≡◌};
 ghost use Rattle.serve.specs.Ruling.{ruling_of};
-ghost use Rattle.bep.specs.Serving.{serving_number, reply_words, serving_words, RuledSo};
-ghost use Rattle.bep.specs.Filling.{filling_number};
+ghost use Rattle.bep.specs.Serving.{RuledSo};
 
 // Serves a Request, or replies to it with no data.
 #[unsafe(no_mangle)]

@@ -4,7 +4,7 @@ ghost use Rattle.table.specs.Table.{is_good};
 ghost use Rattle.merge.specs.Answer.{merge_outcome};
 ghost use Rattle.accept.specs.Accepting.{accept_outcome};
 ghost use Rattle.bep.specs.Filling.{Gives};
-ghost use Rattle.bep.specs.Tables.{good_number, order_word, Compares};
+ghost use Rattle.bep.specs.Tables.{good_number, Compares};
 
 // Whether bytes are a good table: 0, or 15.
 #[unsafe(no_mangle)]

@@ -1,4 +1,5 @@
 // Writing a message into a lent buffer: the answer is the number of bytes written or the place of the refusal, and only a message that is
+// accepted changes the buffer, and only its first bytes, as many as the answer says.
 ghost use Rattle.std.specs.Prelude.{[]};
 ghost use Rattle.message.specs.Message.{message};
 ghost use Rattle.message_write.specs.Writing.{index_bytes, request_bytes, response_bytes, writing};

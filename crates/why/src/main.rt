@@ -27,11 +27,11 @@ fn told(
     let mut peer3 = [0u8; 65537];
     let mut peer4 = [0u8; 65537];
     let sizes = Sizes {
-        local: files::load(rt, b"local", &mut local)?,
-        peer1: files::load(rt, b"peer1", &mut peer1)?,
-        peer2: files::load(rt, b"peer2", &mut peer2)?,
-        peer3: files::load(rt, b"peer3", &mut peer3)?,
-        peer4: files::load(rt, b"peer4", &mut peer4)?,
+        local: files::load(rt, b"local", &mut local),
+        peer1: files::load(rt, b"peer1", &mut peer1),
+        peer2: files::load(rt, b"peer2", &mut peer2),
+        peer3: files::load(rt, b"peer3", &mut peer3),
+        peer4: files::load(rt, b"peer4", &mut peer4),
     };
     let why = asked::why(&local, &peer1, &peer2, &peer3, &peer4, sizes, name, block);
     let written = match why {
