@@ -86,6 +86,10 @@ fn given(rt: &impl Print, old: &[u8]) -> io::Result<()> {
         b"r",
         96,
     )?;
+    of_no_records(rt, old)
+}
+
+fn of_no_records(rt: &impl Print, old: &[u8]) -> io::Result<()> {
     accept(
         rt,
         b"an Index of no records",
