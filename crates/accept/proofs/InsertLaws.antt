@@ -9,8 +9,8 @@ use lib.ListN.{length, length-append}
 use Rattle.xdr.specs.Format.{encode}
 use Rattle.record.specs.File.{File, file}
 use Rattle.order.specs.Order.{is_equal, compare_lists}
-use Rattle.order.specs.declared.compare.Order.{Order}
-use Rattle.order.specs.declared.compare.Order.TheVariants.{Less, Equal, Greater}
+use Rattle.std.specs.declared.cmp.Ordering.{Ordering}
+use Rattle.std.specs.declared.cmp.Ordering.TheVariants.{Less, Equal, Greater}
 use Rattle.order.proofs.OrderLaws.{equal_same}
 use Rattle.table.specs.Steps.Standing.{bytes_of}
 use Rattle.table.specs.Insert.{placed, insert}
@@ -34,7 +34,7 @@ pub insert_named : (n : List ℕ) (f : File) (l : List File) → is_named n (ins
 insert_named n f [] = refl
 insert_named n f (g ∷ l) = go (compare_lists f.name g.name) refl (insert_named n f l)
   where
-    go : (o : Order) → compare_lists f.name g.name ≡ o → is_named n (insert replacing f l) ≡ is_named n (f ∷ l) → is_named n (placed replacing o f g l (insert replacing f l)) ≡ is_named n (f ∷ g ∷ l)
+    go : (o : Ordering) → compare_lists f.name g.name ≡ o → is_named n (insert replacing f l) ≡ is_named n (f ∷ l) → is_named n (placed replacing o f g l (insert replacing f l)) ≡ is_named n (f ∷ g ∷ l)
     go Less e ih = refl
     go Equal e ih =
         sym (ap (λ (m : List ℕ). cond (is_equal (compare_lists n f.name)) true (cond (is_equal (compare_lists n m)) true (is_named n l))) (sym (equal_same f.name g.name e))
@@ -49,7 +49,7 @@ pub insert_count : (f : File) (l : List File) → length (insert replacing f l) 
 insert_count f [] = omega arith
 insert_count f (g ∷ l) = go (compare_lists f.name g.name) (insert_count f l)
   where
-    go : (o : Order) → length (insert replacing f l) ≤ suc (length l) → length (placed replacing o f g l (insert replacing f l)) ≤ suc (suc (length l))
+    go : (o : Ordering) → length (insert replacing f l) ≤ suc (length l) → length (placed replacing o f g l (insert replacing f l)) ≤ suc (suc (length l))
     go Less ih = omega arith
     go Equal ih = omega arith
     go Greater ih = omega arith
@@ -61,7 +61,7 @@ pub insert_size : (f : File) (l : List File) → length (bytes_of (insert replac
 insert_size f [] = omega (arith, bytes_more f [])
 insert_size f (g ∷ l) = go (compare_lists f.name g.name) (insert_size f l)
   where
-    go : (o : Order) → length (bytes_of (insert replacing f l)) ≤ length (encode file f) + length (bytes_of l)
+    go : (o : Ordering) → length (bytes_of (insert replacing f l)) ≤ length (encode file f) + length (bytes_of l)
         → length (bytes_of (placed replacing o f g l (insert replacing f l))) ≤ length (encode file f) + length (bytes_of (g ∷ l))
     go Less ih = omega (arith, bytes_more f (g ∷ l))
     go Equal ih = omega (arith, bytes_more f l, bytes_more g l)

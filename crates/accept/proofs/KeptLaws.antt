@@ -5,8 +5,8 @@ use mathlib.Core.Bool.{Bool, true, false, cond}
 use Prim.Native.Nat.{ℕ}
 use Rattle.record.specs.File.{File}
 use Rattle.order.specs.Order.{is_equal, compare_lists}
-use Rattle.order.specs.declared.compare.Order.{Order}
-use Rattle.order.specs.declared.compare.Order.TheVariants.{Less, Equal, Greater}
+use Rattle.std.specs.declared.cmp.Ordering.{Ordering}
+use Rattle.std.specs.declared.cmp.Ordering.TheVariants.{Less, Equal, Greater}
 use Rattle.order.proofs.OrderLaws.{Below, reversed, compare_reversed, equal_same}
 use Rattle.record.proofs.RisingLaws.{Above, Rising}
 use Rattle.table.specs.Insert.{insert}
@@ -34,7 +34,7 @@ kept_above n fs (g ∷ gs) a r = go (is_named g.name fs) (kept_above n fs gs (re
 beyond : (f : File) (fs gs : List File) → Above f.name gs → Rising gs → unmentioned (f ∷ fs) gs ≡ unmentioned fs gs
 beyond f fs [] a r = refl
 beyond f fs (g ∷ gs) a r =
-    ap (λ (o : Order). cond (cond (is_equal o) true (is_named g.name fs)) (unmentioned (f ∷ fs) gs) (g ∷ unmentioned (f ∷ fs) gs)) (compare_reversed f.name g.name ∙ ap reversed a)
+    ap (λ (o : Ordering). cond (cond (is_equal o) true (is_named g.name fs)) (unmentioned (f ∷ fs) gs) (g ∷ unmentioned (f ∷ fs) gs)) (compare_reversed f.name g.name ∙ ap reversed a)
     ∙ ap (λ (l : List File). cond (is_named g.name fs) l (g ∷ l)) (beyond f fs gs (rest_above f.name g gs a r) r.1)
 
 module _ (f : File) (fs : List File) (new : is_named f.name fs ≡ false) where
@@ -53,16 +53,16 @@ module _ (f : File) (fs : List File) (new : is_named f.name fs ≡ false) where
       other true e ih = ih
       other false e ih = insert_greater replacing f g (unmentioned (f ∷ fs) gs) e ∙ ap (λ (l : List File). g ∷ l) ih
 
-      go : (o : Order) → compare_lists f.name g.name ≡ o → insert replacing f (unmentioned (f ∷ fs) gs) ≡ unmentioned fs (insert replacing f gs) → insert replacing f (unmentioned (f ∷ fs) (g ∷ gs)) ≡ unmentioned fs (insert replacing f (g ∷ gs))
+      go : (o : Ordering) → compare_lists f.name g.name ≡ o → insert replacing f (unmentioned (f ∷ fs) gs) ≡ unmentioned fs (insert replacing f gs) → insert replacing f (unmentioned (f ∷ fs) (g ∷ gs)) ≡ unmentioned fs (insert replacing f (g ∷ gs))
       go Less e ih = goes_first (g ∷ gs) e r ∙ sym (stays (g ∷ gs)) ∙ ap (unmentioned fs) (sym (insert_less replacing f g gs e))
       go Equal e ih =
           let same : f.name ≡ g.name = equal_same f.name g.name e in
-          ap (λ (o : Order). insert replacing f (cond (cond (is_equal o) true (is_named g.name fs)) (unmentioned (f ∷ fs) gs) (g ∷ unmentioned (f ∷ fs) gs))) (compare_reversed f.name g.name ∙ ap reversed e)
+          ap (λ (o : Ordering). insert replacing f (cond (cond (is_equal o) true (is_named g.name fs)) (unmentioned (f ∷ fs) gs) (g ∷ unmentioned (f ∷ fs) gs))) (compare_reversed f.name g.name ∙ ap reversed e)
           ∙ goes_first gs (subst (λ (n : List ℕ). Above n gs) (sym same) r.0) r.1
           ∙ sym (stays gs)
           ∙ ap (unmentioned fs) (sym (insert_equal replacing f g gs e))
       go Greater e ih =
-          ap (λ (o : Order). insert replacing f (cond (cond (is_equal o) true (is_named g.name fs)) (unmentioned (f ∷ fs) gs) (g ∷ unmentioned (f ∷ fs) gs))) (compare_reversed f.name g.name ∙ ap reversed e)
+          ap (λ (o : Ordering). insert replacing f (cond (cond (is_equal o) true (is_named g.name fs)) (unmentioned (f ∷ fs) gs) (g ∷ unmentioned (f ∷ fs) gs))) (compare_reversed f.name g.name ∙ ap reversed e)
           ∙ other (is_named g.name fs) e ih
           ∙ ap (unmentioned fs) (sym (insert_greater replacing f g gs e))
 

@@ -1,4 +1,6 @@
 -- The pass over the resulting records: what is left at the places of both sources, and the turns.
+use Rattle.std.specs.Prelude.{Some, None}
+use Rattle.std.specs.declared.option.Option.{Option}
 use Prim.Native.Nat.{ℕ, ◌+◌, ◌≤◌}
 use mathlib.Core.List.{List, []}
 use mathlib.Core.Path.{◌≡◌, sym, ap, subst, ◌∙◌}
@@ -16,8 +18,6 @@ use Rattle.table.specs.Newest.{bit}
 use Rattle.table.proofs.UnionLaws.{union}
 use Rattle.table.proofs.PassLaws.{Counted, counted_none}
 use Rattle.merge.specs.declared.next.Pick.{Pick}
-use Rattle.merge.specs.declared.next.Next.{Next}
-use Rattle.merge.specs.declared.next.Next.TheVariants.{End, More}
 use Rattle.merge.proofs.NotingLaws.{Noting, noting_none}
 use Rattle.accept.specs.Steps.Next.{place_of, next_over}
 use Rattle.accept.specs.Resulting.{replacing, by_name, resulting}
@@ -81,14 +81,14 @@ module _ (s places old : List ℕ) (update : Bool) (p : SortedPlaces s places) (
 module _ {s places old : List ℕ} {i j : ℕ} (l : Left s places old i j) where
   -- the next step, by the answer that was given
 
-  next : {at : ℕ} {r n : Next} → at ≡ place_of s places i → r ≡ next_over s at old j → r ≡ n → Steps s places i l.fs old j l.gs n
+  next : {at : ℕ} {r n : Option Pick} → at ≡ place_of s places i → r ≡ next_over s at old j → r ≡ n → Steps s places i l.fs old j l.gs n
   next e f g =
       subst (Steps s places i l.fs old j l.gs) (sym (sym g ∙ f ∙ ap (λ (k : ℕ). next_over s k old j) e)) (steps s places i old j l.fs l.gs l.inside l.left l.right)
 
-  pub took : {at : ℕ} {r : Next} {t : Pick} → at ≡ place_of s places i → r ≡ next_over s at old j → r ≡ More t → Took s places i l.fs old j l.gs t
+  pub took : {at : ℕ} {r : Option Pick} {t : Pick} → at ≡ place_of s places i → r ≡ next_over s at old j → r ≡ Some t → Took s places i l.fs old j l.gs t
   took e f g = next e f g
 
-  pub none_left : {at : ℕ} {r : Next} → at ≡ place_of s places i → r ≡ next_over s at old j → r ≡ End → rest l ≡ []
+  pub none_left : {at : ℕ} {r : Option Pick} → at ≡ place_of s places i → r ≡ next_over s at old j → r ≡ None → rest l ≡ []
   none_left e f g = next e f g
 
   -- what is left after it

@@ -5,6 +5,8 @@ use mathlib.Core.Path.{◌≡◌, refl, sym, ap, subst, ◌∙◌}
 use mathlib.Core.Bool.{Bool, true, false}
 use native.Mathlib.Omega.{arith}
 use lib.ListN.{length, take, drop, length-take, length-drop}
+use Rattle.std.specs.Prelude.{Ok, Err}
+use Rattle.std.specs.declared.result.Result.{Result}
 use Rattle.xdr.specs.Reading.{Reading, taken, shifted, refused as unread}
 use Rattle.xdr.specs.Number.{IsBytes}
 use Rattle.xdr.specs.Format.{Format, read, read_at}
@@ -28,14 +30,13 @@ use Rattle.table.specs.Table.{table, is_good, records, table_of}
 use Rattle.table.specs.Steps.Standing.{AllValid}
 use Rattle.table.proofs.TableLaws.{valid_parts, array_records}
 use Rattle.accept.specs.Accepting.{of_records, of_index, IndexBody, index_with, no_index, index_body, of_body, of_reading, accept_outcome}
-use Rattle.message.specs.Kinds.{index_in, index_refusal}
+use Rattle.message.specs.Kinds.{index_in}
 use Rattle.accept.specs.Steps.Sorted.{IsArray, of_array}
 use Rattle.message.specs.declared.kind.IndexIn.{IndexIn}
-use Rattle.message.specs.declared.kind.IndexIn.TheVariants as F
 use Rattle.message.specs.declared.edition.Edition.TheVariants as E
 
 not_index : {update : Bool} {sent : List ℕ × List File} {P : Type 0} → no_index ≡ index_with update sent → P
-not_index e = let z : ◌≡◌ {A = ℕ} 0 1 = cc in absurd (omega arith)
+not_index e = cc
 
 -- an Index's body has the format of one, whatever is said of values of formats
 pub index_format : (P : (A : Type 0) → Format A → A → Type 0) (k : Kind) (b : Body E.New k) {update : Bool} {sent : List ℕ × List File} → index_body k b ≡ index_with update sent
@@ -49,9 +50,9 @@ index_format P is_index_update b {update} {sent} e h = let same : b ≡ sent = c
 index_format P is_options b e h = not_index e
 
 -- what a body that was read is to a call that takes an Index
-abbrev span_in : IndexBody → ℕ → IndexIn
-span_in (index_with update sent) next = F.Taken update (index_span E.New sent next)
-span_in no_index next = F.Refused (at_start 18)
+abbrev span_in : IndexBody → ℕ → Result IndexIn Refusal
+span_in (index_with update sent) next = Ok (record { update = update; index = index_span E.New sent next })
+span_in no_index next = Err (at_start 18)
 
 index_in_lem : (k : Kind) (b : Body E.New k) (id next : ℕ) → index_in (body_answer E.New k id (taken b next)) ≡ span_in (index_body k b) next
 index_in_lem is_index b id next = refl
@@ -61,12 +62,6 @@ index_in_lem is_ping b id next = refl
 index_in_lem is_pong b id next = refl
 index_in_lem is_index_update b id next = refl
 index_in_lem is_options b id next = refl
-
-no_list : {r : Refusal} {update : Bool} {x : IndexSpan} {P : Type 0} → F.Refused r ≡ F.Taken update x → P
-no_list e = let z : ◌≡◌ {A = ℕ} 0 1 = cc in absurd (omega arith)
-
-no_refusal : {r : Refusal} {update : Bool} {x : IndexSpan} {P : Type 0} → F.Taken update x ≡ F.Refused r → P
-no_refusal e = let z : ◌≡◌ {A = ℕ} 0 1 = cc in absurd (omega arith)
 
 -- what was found in a message
 pub record Listing (m : List ℕ) (update : Bool) (x : IndexSpan) : Type 0 where
@@ -84,47 +79,49 @@ module _ (m : List ℕ) (v : MessageValue E.New) (next : ℕ) (h : read_at (mess
   body_reads : Reads (body E.New kind) m 4 (taken v.1 next)
   body_reads = let p = pair_parts (record { is = h }) in subst (λ (k : ℕ). Reads (body E.New kind) m k (taken v.1 next)) (ends_word (passed (passed (passed p.1)))).0 p.2
 
-  found_in_lem : {f : IndexIn} → f ≡ index_in (message_answer E.New (read_at (message E.New) m 0)) → f ≡ span_in (index_body kind v.1) next
+  found_in_lem : {f : Result IndexIn Refusal} → f ≡ index_in (message_answer E.New (read_at (message E.New) m 0)) → f ≡ span_in (index_body kind v.1) next
   found_in_lem e = e ∙ ap (λ (r : Reading (MessageValue E.New)). index_in (message_answer E.New r)) h ∙ index_in_lem kind v.1 (id_of v.0) next
 
-  body_listed : {update : Bool} {x : IndexSpan} (y : IndexBody) → index_body kind v.1 ≡ y → span_in y next ≡ F.Taken update x → Listing m update x
-  body_listed {update} {x} (index_with u sent) q e =
-      let same : u ≡ update = cc in record {
+  body_listed : {g : IndexIn} (y : IndexBody) → index_body kind v.1 ≡ y → span_in y next ≡ Ok g → Listing m g.update g.index
+  body_listed {g} (index_with u sent) q e =
+      let is : record { update = u; index = index_span E.New sent next } ≡ g = cc in
+      record {
         sent = sent;
         next = next;
-        outcome = λ old expected. ap (of_reading old expected) h ∙ ap (of_body old expected) q ∙ ap (λ (w : Bool). of_index w old expected sent) same;
+        outcome = λ old expected. ap (of_reading old expected) h ∙ ap (of_body old expected) q ∙ ap (λ (w : IndexIn). of_index w.update old expected sent) is;
         reads = index_format (λ A F a. Reads F m 4 (taken a next)) kind v.1 q body_reads;
-        span = cc;
+        span = ap (λ (w : IndexIn). w.index) (sym is);
       }
-  body_listed no_index q e = no_list e
+  body_listed no_index q e = cc
 
-  body_refused : {r : Refusal} (y : IndexBody) → span_in y next ≡ F.Refused r → (old expected : List ℕ) → of_body old expected y ≡ refuses r.number r.place
-  body_refused (index_with u sent) e old expected = no_refusal e
-  body_refused no_index e old expected = ap (λ (u : IndexIn). refuses (index_refusal u).number (index_refusal u).place) e
+  body_refused : {r : Refusal} (y : IndexBody) → span_in y next ≡ Err r → (old expected : List ℕ) → of_body old expected y ≡ refuses r.number r.place
+  body_refused (index_with u sent) e old expected = cc
+  body_refused {r} no_index e old expected = let is : at_start 18 ≡ r = cc in ap (λ (u : Refusal). refuses u.number u.place) is
 
-pub found_list : (m : List ℕ) {f : IndexIn} {update : Bool} {x : IndexSpan} → f ≡ index_in (message_answer E.New (read_at (message E.New) m 0)) → f ≡ F.Taken update x → Listing m update x
-found_list m {f} {update} {x} e q = go (read_at (message E.New) m 0) refl
+pub found_list : (m : List ℕ) {f : Result IndexIn Refusal} {g : IndexIn} → f ≡ index_in (message_answer E.New (read_at (message E.New) m 0)) → f ≡ Ok g → Listing m g.update g.index
+found_list m {f} {g} e q = go (read_at (message E.New) m 0) refl
   where
-    go : (r : Reading (MessageValue E.New)) → read_at (message E.New) m 0 ≡ r → Listing m update x
+    go : (r : Reading (MessageValue E.New)) → read_at (message E.New) m 0 ≡ r → Listing m g.update g.index
     go (taken v next) h = body_listed m v next h (index_body (kind_of (type_of v.0)) v.1) refl (sym (found_in_lem m v next h e) ∙ q)
-    go (unread k p) h = no_list (ap (λ (r : Reading (MessageValue E.New)). index_in (message_answer E.New r)) (sym h) ∙ sym e ∙ q)
+    go (unread k p) h = let w : ◌≡◌ {A = Result IndexIn Refusal} (Err (record { number = k; place = p })) (Ok g) = ap (λ (r : Reading (MessageValue E.New)). index_in (message_answer E.New r)) (sym h) ∙ sym e ∙ q in cc
 
 -- a refusal
-found_refused : (m : List ℕ) {f : IndexIn} {r g : Refusal} → f ≡ index_in (message_answer E.New (read_at (message E.New) m 0)) → f ≡ F.Refused r → g ≡ index_refusal f
-    → (old expected : List ℕ) → of_reading old expected (read_at (message E.New) m 0) ≡ refuses g.number g.place
-found_refused m {f} {r} {g} e q s old expected = go (read_at (message E.New) m 0) refl ∙ ap (λ (u : Refusal). refuses u.number u.place) (sym (s ∙ ap index_refusal q))
+found_refused : (m : List ℕ) {f : Result IndexIn Refusal} {r : Refusal} → f ≡ index_in (message_answer E.New (read_at (message E.New) m 0)) → f ≡ Err r
+    → (old expected : List ℕ) → of_reading old expected (read_at (message E.New) m 0) ≡ refuses r.number r.place
+found_refused m {f} {r} e q old expected = go (read_at (message E.New) m 0) refl
   where
     go : (x : Reading (MessageValue E.New)) → read_at (message E.New) m 0 ≡ x → of_reading old expected (read_at (message E.New) m 0) ≡ refuses r.number r.place
     go (taken v next) h = ap (of_reading old expected) h ∙ body_refused m v next h (index_body (kind_of (type_of v.0)) v.1) (sym (found_in_lem m v next h e) ∙ q) old expected
     go (unread k p) h =
-        ap (of_reading old expected) h
-        ∙ ap (λ (u : IndexIn). refuses (index_refusal u).number (index_refusal u).place) (ap (λ (x : Reading (MessageValue E.New)). index_in (message_answer E.New x)) (sym h) ∙ sym e ∙ q)
+        let w : ◌≡◌ {A = Result IndexIn Refusal} (Err (record { number = k; place = p })) (Err r) = ap (λ (x : Reading (MessageValue E.New)). index_in (message_answer E.New x)) (sym h) ∙ sym e ∙ q in
+        let is : record { number = k; place = p } ≡ r = cc in
+        ap (of_reading old expected) h ∙ ap (λ (u : Refusal). refuses u.number u.place) is
 
 -- an array that was read at a place
 
 pub read_there : {A : Type 0} (k : ℕ) (r : Reading A) {a : A} {m : ℕ} → shifted k r ≡ taken a m → (r ≡ taken a (m - k)) × (k ≤ m)
 read_there k (taken b u) {a} {m} e = let n : m ≡ k + u = cc in let v : m - k ≡ u = omega arith in (ap (taken b) (sym v) ∙ cc, omega arith)
-read_there k (unread n p) e = let z : ◌≡◌ {A = ℕ} 0 1 = cc in absurd (omega arith)
+read_there k (unread n p) e = cc
 
 array_there : (m : List ℕ) (k : ℕ) (fs : List File) {next : ℕ} → IsBytes m → Reads table m k (taken fs next) → (records (part m k next) ≡ fs) × IsArray (part m k next)
 unfolding read_at table_of
@@ -210,7 +207,7 @@ module _ (old m expected : List ℕ) where
   unfolding accept_outcome
   old_bad e = rw e refl
 
-  pub message_refused : {f : IndexIn} {r g : Refusal} → is_good old ≡ true → f ≡ index_in (message_answer E.New (read_at (message E.New) m 0)) → f ≡ F.Refused r → g ≡ index_refusal f
-      → accept_outcome old m expected ≡ refuses g.number g.place
+  pub message_refused : {f : Result IndexIn Refusal} {r : Refusal} → is_good old ≡ true → f ≡ index_in (message_answer E.New (read_at (message E.New) m 0)) → f ≡ Err r
+      → accept_outcome old m expected ≡ refuses r.number r.place
   unfolding accept_outcome
-  message_refused h e q s = rw h (found_refused m e q s old expected)
+  message_refused h e q = rw h (found_refused m e q old expected)

@@ -4,8 +4,8 @@ use mathlib.Core.Path.{◌≡◌, refl, sym, ap, subst, ◌∙◌}
 use Prim.Native.Nat.{ℕ}
 use Rattle.record.specs.File.{File}
 use Rattle.order.specs.Order.{compare_lists}
-use Rattle.order.specs.declared.compare.Order.{Order}
-use Rattle.order.specs.declared.compare.Order.TheVariants.{Less, Equal, Greater}
+use Rattle.std.specs.declared.cmp.Ordering.{Ordering}
+use Rattle.std.specs.declared.cmp.Ordering.TheVariants.{Less, Equal, Greater}
 use Rattle.order.proofs.OrderLaws.{Below, equal_same, greater_above, above_greater, below_trans}
 use Rattle.table.specs.Insert.{insert}
 use Rattle.table.proofs.InsertLaws.{insert_less, insert_equal, insert_greater, insert_first}
@@ -18,7 +18,7 @@ unfolding union
 overlay_one f [] = refl
 overlay_one f (g ∷ gs) = go (compare_lists f.name g.name) refl (overlay_one f gs)
   where
-    go : (o : Order) → compare_lists f.name g.name ≡ o → union replacing (f ∷ []) gs ≡ insert replacing f gs → union replacing (f ∷ []) (g ∷ gs) ≡ insert replacing f (g ∷ gs)
+    go : (o : Ordering) → compare_lists f.name g.name ≡ o → union replacing (f ∷ []) gs ≡ insert replacing f gs → union replacing (f ∷ []) (g ∷ gs) ≡ insert replacing f (g ∷ gs)
     go Less e ih = union_less replacing f g [] gs e ∙ ap (λ (l : List File). f ∷ l) (union_right replacing (g ∷ gs)) ∙ sym (insert_less replacing f g gs e)
     go Equal e ih = union_equal replacing f g [] gs e ∙ ap (λ (l : List File). f ∷ l) (union_right replacing gs) ∙ sym (insert_equal replacing f g gs e)
     go Greater e ih = union_greater replacing f g [] gs e ∙ ap (λ (l : List File). g ∷ l) ih ∙ sym (insert_greater replacing f g gs e)
@@ -37,7 +37,7 @@ module _ (f x : File) (l : List File) (ih : (gs : List File) → union replacing
         ∙ sym (insert_greater replacing f g (union replacing (x ∷ l) gs) p)
         ∙ ap (insert replacing f) (sym (union_greater replacing x g l gs q))
 
-    laid_less : compare_lists f.name x.name ≡ Less → (o : Order) → compare_lists f.name g.name ≡ o → union replacing (insert replacing f (x ∷ l)) (g ∷ gs) ≡ insert replacing f (union replacing (x ∷ l) (g ∷ gs))
+    laid_less : compare_lists f.name x.name ≡ Less → (o : Ordering) → compare_lists f.name g.name ≡ o → union replacing (insert replacing f (x ∷ l)) (g ∷ gs) ≡ insert replacing f (union replacing (x ∷ l) (g ∷ gs))
     laid_less e Less k =
         ap (λ (u : List File). union replacing u (g ∷ gs)) (insert_less replacing f x l e)
         ∙ union_less replacing f g (x ∷ l) gs k
@@ -52,7 +52,7 @@ module _ (f x : File) (l : List File) (ih : (gs : List File) → union replacing
         let above : compare_lists x.name g.name ≡ Greater = above_greater g.name x.name (below_trans g.name f.name x.name (greater_above f.name g.name k) e) in
         old_first (f ∷ x ∷ l) (insert_less replacing f x l e) (union_greater replacing f g (x ∷ l) gs k) k above
 
-    laid_equal : compare_lists f.name x.name ≡ Equal → (o : Order) → compare_lists f.name g.name ≡ o → compare_lists x.name g.name ≡ o
+    laid_equal : compare_lists f.name x.name ≡ Equal → (o : Ordering) → compare_lists f.name g.name ≡ o → compare_lists x.name g.name ≡ o
         → union replacing (insert replacing f (x ∷ l)) (g ∷ gs) ≡ insert replacing f (union replacing (x ∷ l) (g ∷ gs))
     laid_equal e Less k q =
         ap (λ (u : List File). union replacing u (g ∷ gs)) (insert_equal replacing f x l e)
@@ -66,7 +66,7 @@ module _ (f x : File) (l : List File) (ih : (gs : List File) → union replacing
         ∙ ap (insert replacing f) (sym (union_equal replacing x g l gs q))
     laid_equal e Greater k q = old_first (f ∷ l) (insert_equal replacing f x l e) (union_greater replacing f g l gs k) k q
 
-    laid_greater : compare_lists f.name x.name ≡ Greater → (o : Order) → compare_lists x.name g.name ≡ o → union replacing (insert replacing f (x ∷ l)) (g ∷ gs) ≡ insert replacing f (union replacing (x ∷ l) (g ∷ gs))
+    laid_greater : compare_lists f.name x.name ≡ Greater → (o : Ordering) → compare_lists x.name g.name ≡ o → union replacing (insert replacing f (x ∷ l)) (g ∷ gs) ≡ insert replacing f (union replacing (x ∷ l) (g ∷ gs))
     laid_greater e Less k =
         ap (λ (u : List File). union replacing u (g ∷ gs)) (insert_greater replacing f x l e)
         ∙ union_less replacing x g (insert replacing f l) gs k
@@ -84,7 +84,7 @@ module _ (f x : File) (l : List File) (ih : (gs : List File) → union replacing
         above_greater g.name f.name (below_trans g.name x.name f.name (greater_above x.name g.name k) (greater_above f.name x.name e)) in
         old_first (x ∷ insert replacing f l) (insert_greater replacing f x l e) (union_greater replacing x g (insert replacing f l) gs k) above k
 
-    laid : (o : Order) → compare_lists f.name x.name ≡ o → union replacing (insert replacing f (x ∷ l)) (g ∷ gs) ≡ insert replacing f (union replacing (x ∷ l) (g ∷ gs))
+    laid : (o : Ordering) → compare_lists f.name x.name ≡ o → union replacing (insert replacing f (x ∷ l)) (g ∷ gs) ≡ insert replacing f (union replacing (x ∷ l) (g ∷ gs))
     laid Less e = laid_less e (compare_lists f.name g.name) refl
     laid Equal e = laid_equal e (compare_lists f.name g.name) refl (ap (λ (n : List ℕ). compare_lists n g.name) (sym (equal_same f.name x.name e)))
     laid Greater e = laid_greater e (compare_lists x.name g.name) refl

@@ -1,4 +1,6 @@
 -- Records at places, and where one more of them goes.
+use Rattle.std.specs.Prelude.{Some, None}
+use Rattle.std.specs.declared.option.Option.{Option}
 use Prim.Native.Nat.{ℕ, zero, suc, ◌+◌, ◌≤◌}
 use mathlib.Core.List.{List, [], ◌∷◌, ◌++◌, append-nil}
 use mathlib.Core.Path.{◌≡◌, refl, sym, ap, subst, ◌∙◌}
@@ -11,11 +13,9 @@ use Rattle.xdr.specs.Pad.{padded}
 use Rattle.record.specs.File.{File}
 use Rattle.record.specs.Outline.{word_at, fields_from, outline_from, outline_of, fields_of}
 use Rattle.record.specs.declared.outline.RecordFields.{RecordFields}
-use Rattle.record.specs.declared.outline.Outline.{Outline}
-use Rattle.record.specs.declared.outline.Outline.TheVariants as O
 use Rattle.order.specs.Order.{is_equal, compare_lists, part}
-use Rattle.order.specs.declared.compare.Order.{Order}
-use Rattle.order.specs.declared.compare.Order.TheVariants.{Less, Equal, Greater}
+use Rattle.std.specs.declared.cmp.Ordering.{Ordering}
+use Rattle.std.specs.declared.cmp.Ordering.TheVariants.{Less, Equal, Greater}
 use Rattle.order.proofs.OrderLaws.{Below, equal_same, same_equal, greater_above, above_greater, below_trans}
 use Rattle.record.proofs.RisingLaws.{Above, Rising}
 use Rattle.table.specs.Steps.Standing.{At}
@@ -25,24 +25,22 @@ use Rattle.table.proofs.InsertLaws.{above_below, insert_greater, insert_first}
 use Rattle.accept.specs.Resulting.{is_named, replacing}
 use Rattle.accept.specs.Steps.Slots.{name_of, slot_by, slot_of}
 use Rattle.accept.specs.Steps.Sorted.{Places}
-use Rattle.accept.specs.declared.slot.Slot.{Slot}
-use Rattle.accept.specs.declared.slot.Slot.TheVariants.{Free, Repeated}
 
 -- a record stands at a place
 abbrev pub Stood : List ℕ → ℕ → File → Type 0
 Stood s at f = (rest : List File) × At s at (f ∷ rest)
 
-outline_stop : (s : List ℕ) (at : ℕ) (g : RecordFields) → outline_of s at ≡ O.Whole g → g.stop ≡ at + 4 + word_at s at
+outline_stop : (s : List ℕ) (at : ℕ) (g : RecordFields) → outline_of s at ≡ Some g → g.stop ≡ at + 4 + word_at s at
 unfolding outline_of outline_from
 outline_stop s at g e = go (leb (fields_from s (at + 4) (at + 4 + word_at s at) (at + 4 + padded (word_at s at))).past (length s)) e
   where
-    go : (b : Bool) → cond b (O.Whole (fields_from s (at + 4) (at + 4 + word_at s at) (at + 4 + padded (word_at s at)))) O.Short ≡ O.Whole g → g.stop ≡ at + 4 + word_at s at
-    go true q = ap (λ (o : Outline). stop_of o) (sym q)
+    go : (b : Bool) → cond b (Some (fields_from s (at + 4) (at + 4 + word_at s at) (at + 4 + padded (word_at s at)))) None ≡ Some g → g.stop ≡ at + 4 + word_at s at
+    go true q = ap (λ (o : Option RecordFields). stop_of o) (sym q)
       where
-        stop_of : Outline → ℕ
-        stop_of (O.Whole f) = f.stop
-        stop_of O.Short = 0
-    go false q = let z : ◌≡◌ {A = ℕ} 0 1 = cc in absurd (omega arith)
+        stop_of : Option RecordFields → ℕ
+        stop_of (Some f) = f.stop
+        stop_of None = 0
+    go false q = cc
 
 pub name_of_lem : (s : List ℕ) (at : ℕ) (f : File) → Stood s at f → name_of s at ≡ f.name
 unfolding name_of
@@ -86,14 +84,14 @@ insert_split f (g ∷ a) b h k = insert_greater replacing f g (a ++ b) (above_gr
 
 named_above : (n : List ℕ) (b : List File) → Above n b → Rising b → is_named n b ≡ false
 named_above n [] a r = refl
-named_above n (g ∷ b) a r = ap (λ (o : Order). cond (is_equal o) true (is_named n b)) a ∙ named_above n b (above_below n g.name b a r.0) r.1
+named_above n (g ∷ b) a r = ap (λ (o : Ordering). cond (is_equal o) true (is_named n b)) a ∙ named_above n b (above_below n g.name b a r.0) r.1
 
 named_split : (n : List ℕ) (a b : List File) → Beneath a n → Above n b → Rising b → is_named n (a ++ b) ≡ false
 named_split n [] b h k r = named_above n b k r
-named_split n (g ∷ a) b h k r = ap (λ (o : Order). cond (is_equal o) true (is_named n (a ++ b))) (above_greater g.name n h.0) ∙ named_split n a b h.1 k r
+named_split n (g ∷ a) b h k r = ap (λ (o : Ordering). cond (is_equal o) true (is_named n (a ++ b))) (above_greater g.name n h.0) ∙ named_split n a b h.1 k r
 
 named_there : (n : List ℕ) (a : List File) (x : File) (b : List File) → x.name ≡ n → is_named n (a ++ x ∷ b) ≡ true
-named_there n [] x b e = ap (λ (o : Order). cond (is_equal o) true (is_named n b)) (ap (compare_lists n) e ∙ same_equal n)
+named_there n [] x b e = ap (λ (o : Ordering). cond (is_equal o) true (is_named n b)) (ap (compare_lists n) e ∙ same_equal n)
 named_there n (g ∷ a) x b e = go (is_equal (compare_lists n g.name)) (named_there n a x b e)
   where
     go : (t : Bool) → is_named n (a ++ x ∷ b) ≡ true → cond t true (is_named n (a ++ x ∷ b)) ≡ true
@@ -125,9 +123,9 @@ module _ (s ps : List ℕ) (fs : List File) (f : File) where
     pub beneath : Beneath front f.name
     pub above : Above f.name back
 
-  abbrev pub SlotTold : Slot → Type 0
-  SlotTold (Free j) = Fits j
-  SlotTold Repeated = is_named f.name fs ≡ true
+  abbrev pub SlotTold : Option ℕ → Type 0
+  SlotTold (Some j) = Fits j
+  SlotTold None = is_named f.name fs ≡ true
 
   slot_told : (n : ℕ) (a b : List File) → a ++ b ≡ fs → length a ≡ n → Places s ps fs → Rising fs → Above f.name b → SlotTold (slot_of s ps n f.name)
   unfolding slot_of
@@ -149,7 +147,7 @@ module _ (s ps : List ℕ) (fs : List File) (f : File) where
       rising : Rising (l.front ++ l.end ∷ b)
       rising = subst Rising (sym split) r
 
-      go : (o : Order) → compare_lists (name_of s (get_or ps n 0)) f.name ≡ o
+      go : (o : Ordering) → compare_lists (name_of s (get_or ps n 0)) f.name ≡ o
           → ((x y : List File) → x ++ y ≡ fs → length x ≡ n → Above f.name y → SlotTold (slot_of s ps n f.name)) → SlotTold (slot_by o n (slot_of s ps n f.name))
       go Less q further = record {
         front = a;
@@ -173,10 +171,10 @@ module _ (s ps : List ℕ) (fs : List File) (f : File) where
 
     -- by the answer that was given
 
-    pub slot_taken : {x : Slot} → x ≡ slot_of s ps (length ps) (name_of s at) → x ≡ Repeated → is_named f.name fs ≡ true
+    pub slot_taken : {x : Option ℕ} → x ≡ slot_of s ps (length ps) (name_of s at) → x ≡ None → is_named f.name fs ≡ true
     slot_taken e q = subst SlotTold (sym e ∙ q) told
 
-    module _ {x : Slot} {j : ℕ} (e : x ≡ slot_of s ps (length ps) (name_of s at)) (q : x ≡ Free j) where
+    module _ {x : Option ℕ} {j : ℕ} (e : x ≡ slot_of s ps (length ps) (name_of s at)) (q : x ≡ Some j) where
       free : Fits j
       free = subst SlotTold (sym e ∙ q) told
 

@@ -19,8 +19,8 @@ use Rattle.message.specs.declared.edition.Edition.TheVariants as E
 use Rattle.table.specs.Limits.{records_limit, bytes_limit}
 use Rattle.order.specs.Order.{is_equal, compare_lists}
 use Rattle.table.specs.Table.{is_good, is_within, records, table_of, resulting_table}
-use Rattle.order.specs.declared.compare.Order.{Order}
-use Rattle.order.specs.declared.compare.Order.TheVariants.{Less, Equal, Greater}
+use Rattle.std.specs.declared.cmp.Ordering.{Ordering}
+use Rattle.std.specs.declared.cmp.Ordering.TheVariants.{Less, Equal, Greater}
 use Rattle.record.proofs.RisingLaws.{Rising, both_true}
 use Rattle.table.specs.Steps.Standing.{AllValid}
 use Rattle.xdr.proofs.FillingLaws.{not_given}
@@ -39,7 +39,7 @@ insert_valid : (f : File) (l : List File) → Valid file f → AllValid l → Al
 insert_valid f [] v w = (v, tt)
 insert_valid f (g ∷ l) v w = go (compare_lists f.name g.name) (insert_valid f l v w.1)
   where
-    go : (o : Order) → AllValid (insert replacing f l) → AllValid (placed replacing o f g l (insert replacing f l))
+    go : (o : Ordering) → AllValid (insert replacing f l) → AllValid (placed replacing o f g l (insert replacing f l))
     go Less ih = (v, w)
     go Equal ih = (v, w.1)
     go Greater ih = (w.0, ih)

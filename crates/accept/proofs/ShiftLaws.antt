@@ -1,25 +1,16 @@
 -- Places that move up by one, from the back, until a slot is free.
 use Prim.Native.Nat.{ℕ, suc, ◌+◌, ◌-◌, ◌≤◌, ◌<◌}
-use mathlib.Core.List.{List, [], ◌∷◌, ◌++◌, append-nil}
+use mathlib.Core.List.{List, [], ◌∷◌, ◌++◌}
 use mathlib.Core.Path.{◌≡◌, sym, ap, ◌∙◌}
 use native.Mathlib.Omega.{arith}
 use native.Mathlib.Numerals.{add-one}
 use lib.ListN.{length, take, drop, get_or, set, length-append, length-drop, get_or-append}
-use lib.Seq.{take_all, take-suc, take_at, take-append-le, drop-append-le, drop-cons, append_snoc, take-set-lt, take-suc-set, set-append_left, get_or-take, length-take-le}
+use lib.Seq.{take-suc, take_at, take-append-le, drop-append-le, drop-cons, append_snoc, take-set-lt, take-suc-set, set-append_left, get_or-take, length-take-le}
 
 -- those behind place k have moved up
 pub record Shifted (l m : List ℕ) (k : ℕ) : Type 0 where
   pub is : m ≡ take (suc k) l ++ take (length l - 1 - k) (drop k l)
   pub inside : k < length l
-
-pub shifted_none : (l : List ℕ) {k : ℕ} → 0 < length l → k ≡ length l - 1 → Shifted l l k
-shifted_none l {k} h e =
-    let all : length l ≡ suc k = omega arith in
-    let none : length l - 1 - k ≡ 0 = omega arith in
-    record {
-      is = sym (ap (λ (n : ℕ). take (suc k) l ++ take n (drop k l)) none ∙ append-nil (take (suc k) l) ∙ take_all (suc k) l (omega arith));
-      inside = omega arith;
-    }
 
 put_front : (l m : List ℕ) (k a : ℕ) → k < length l → set (take (suc k) l ++ m) k a ≡ take k l ++ (a ∷ m)
 put_front l m k a h =
@@ -29,13 +20,6 @@ put_front l m k a h =
     ∙ append_snoc (take k l) a m
 
 module _ {l m : List ℕ} {k : ℕ} (s : Shifted l m k) where
-  pub shifted_length : length m ≡ length l
-  shifted_length =
-      let front : length (take (suc k) l) ≡ suc k = length-take-le (suc k) l (omega (arith, s.inside)) in
-      let behind : length (drop k l) ≡ length l - k = length-drop k l in
-      let back : length (take (length l - 1 - k) (drop k l)) ≡ length l - 1 - k = length-take-le (length l - 1 - k) (drop k l) (omega arith) in
-      ap length s.is ∙ length-append (take (suc k) l) (take (length l - 1 - k) (drop k l)) ∙ omega (arith, s.inside)
-
   pub shifted_more : 0 < k → Shifted l (set m k (get_or m (k - 1) 0)) (k - 1)
   shifted_more h =
       let long : length (take (suc k) l) ≡ suc k = length-take-le (suc k) l (omega (arith, s.inside)) in

@@ -1,4 +1,6 @@
 -- Putting the records of an array in order, one after another: what the loop keeps, and what ends it.
+use Rattle.std.specs.Prelude.{Some, None}
+use Rattle.std.specs.declared.option.Option.{Option}
 use Prim.Native.Nat.{ℕ, ◌+◌, ◌≤◌, ◌<◌}
 use mathlib.Core.List.{List, [], ◌∷◌, ◌++◌, append-nil}
 use mathlib.Core.Path.{◌≡◌, refl, sym, ap, subst, ◌∙◌}
@@ -11,14 +13,12 @@ use Rattle.xdr.specs.Format.{encode}
 use Rattle.record.specs.File.{File, file}
 use Rattle.record.specs.Outline.{outline_of, fields_of}
 use Rattle.record.specs.declared.outline.RecordFields.{RecordFields}
-use Rattle.record.specs.declared.outline.Outline.{Outline}
-use Rattle.record.specs.declared.outline.Outline.TheVariants as O
 use Rattle.table.specs.Limits.{records_limit}
 use Rattle.order.specs.Order.{is_equal, compare_lists}
 use Rattle.table.specs.Table.{records}
 use Rattle.xdr.specs.Filling.{Outcome, refuses}
-use Rattle.order.specs.declared.compare.Order.{Order}
-use Rattle.order.specs.declared.compare.Order.TheVariants.{Less, Equal, Greater}
+use Rattle.std.specs.declared.cmp.Ordering.{Ordering}
+use Rattle.std.specs.declared.cmp.Ordering.TheVariants.{Less, Equal, Greater}
 use Rattle.order.proofs.OrderLaws.{reversed, compare_reversed}
 use Rattle.record.proofs.RisingLaws.{Rising}
 use Rattle.table.specs.Steps.Standing.{At}
@@ -29,8 +29,6 @@ use Rattle.accept.specs.Resulting.{is_named, replacing, by_name}
 use Rattle.accept.specs.Accepting.{unrepeated}
 use Rattle.accept.specs.Steps.Slots.{name_of, slot_of}
 use Rattle.accept.specs.Steps.Sorted.{IsArray, Places, Distinct, SortedPlaces}
-use Rattle.accept.specs.declared.slot.Slot.{Slot}
-use Rattle.accept.specs.declared.slot.Slot.TheVariants.{Free, Repeated}
 use Rattle.accept.proofs.InsertLaws.{replacing_one, named_swap, insert_named, by_name_more, by_name_none}
 use Rattle.accept.proofs.PlaceLaws.{slot_taken, free_inside, free_new, free_placed}
 
@@ -44,13 +42,13 @@ named_last : (n : List ℕ) (l : List File) (f : File) → is_named n (l ++ f �
 named_last n [] f = refl
 named_last n (g ∷ l) f = ap (cond (is_equal (compare_lists n g.name)) true) (named_last n l f) ∙ named_swap (is_equal (compare_lists n g.name)) (is_equal (compare_lists n f.name)) (is_named n l)
 
-reversed_equal : (o : Order) → is_equal (reversed o) ≡ is_equal o
+reversed_equal : (o : Ordering) → is_equal (reversed o) ≡ is_equal o
 reversed_equal Less = refl
 reversed_equal Equal = refl
 reversed_equal Greater = refl
 
 neither : (a b : Bool) → cond a true b ≡ false → (a ≡ false) × (b ≡ false)
-neither true b e = let z : ◌≡◌ {A = ℕ} 0 1 = cc in absurd (omega arith)
+neither true b e = cc
 neither false b e = (refl, e)
 
 distinct_last : (l : List File) (f : File) → Distinct l → is_named f.name l ≡ false → Distinct (l ++ f ∷ [])
@@ -94,7 +92,7 @@ sorting_none s places a =
 
 module _ {s places : List ℕ} {at n : ℕ} (a : IsArray s) (l : Sorting s places at n) where
   -- no record is left
-  pub sorting_all : {x : Outline} → x ≡ outline_of s at → x ≡ O.Short → SortedPlaces s (take n places)
+  pub sorting_all : {x : Option RecordFields} → x ≡ outline_of s at → x ≡ None → SortedPlaces s (take n places)
   sorting_all e q =
       let z = at_short l.here e q in
       let whole : l.done ≡ records s = sym (append-nil l.done) ∙ ap (λ (u : List File). l.done ++ u) (sym z) ∙ l.all in
@@ -105,7 +103,7 @@ module _ {s places : List ℕ} {at n : ℕ} (a : IsArray s) (l : Sorting s place
         unrefused = λ base next. l.left base next ∙ ap (λ (u : List File). unrepeated l.before (base + at) u next) z;
       }
 
-  module _ {x : Outline} {g : RecordFields} (e : x ≡ outline_of s at) (q : x ≡ O.Whole g) where
+  module _ {x : Option RecordFields} {g : RecordFields} (e : x ≡ outline_of s at) (q : x ≡ Some g) where
     -- the next record
     nr : Headed s at l.rest g
     nr = at_whole l.here e q
@@ -125,7 +123,7 @@ module _ {s places : List ℕ} {at n : ℕ} (a : IsArray s) (l : Sorting s place
         omega (arith, a.few, l.counted, ap length nr.is)
 
     -- its name stood before
-    pub sorting_repeated : {y : Slot} {ps : List ℕ} → ps ≡ take n places → y ≡ slot_of s ps (length ps) (name_of s at) → y ≡ Repeated
+    pub sorting_repeated : {y : Option ℕ} {ps : List ℕ} → ps ≡ take n places → y ≡ slot_of s ps (length ps) (name_of s at) → y ≡ None
         → (at ≤ length s) × ((base : ℕ) (next : Outcome) → unrepeated [] (base + 4) (records s) next ≡ refuses 13 (base + at))
     sorting_repeated {y} {ps} h u v =
         let w = slot_taken s ps (by_name l.done []) nr.head at (nr.tail, nr.stands) (subst (λ (p : List ℕ). Places s p (by_name l.done [])) (sym h) l.standing) l.rising u v in (
@@ -136,7 +134,7 @@ module _ {s places : List ℕ} {at n : ℕ} (a : IsArray s) (l : Sorting s place
               ∙ ap (λ (b : Bool). cond b (refuses 13 (base + at)) (unrepeated (nr.head ∷ l.before) (base + at + length (encode file nr.head)) nr.tail next)) (sym (l.names nr.head.name) ∙ w),
         )
 
-    module _ {y : Slot} {ps : List ℕ} {j : ℕ} (h : ps ≡ take n places) (u : y ≡ slot_of s ps (length ps) (name_of s at)) (v : y ≡ Free j) where
+    module _ {y : Option ℕ} {ps : List ℕ} {j : ℕ} (h : ps ≡ take n places) (u : y ≡ slot_of s ps (length ps) (name_of s at)) (v : y ≡ Some j) where
       stands_so : Places s ps (by_name l.done [])
       stands_so = subst (λ (p : List ℕ). Places s p (by_name l.done [])) (sym h) l.standing
 

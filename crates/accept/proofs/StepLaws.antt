@@ -1,7 +1,9 @@
 -- What the next step takes, where records of the message and of the old table are left.
+use Rattle.std.specs.Prelude.{Some, None}
+use Rattle.std.specs.declared.option.Option.{Option}
 use Prim.Native.Nat.{ℕ, ◌+◌, ◌≤◌, ◌<◌}
 use mathlib.Core.List.{List, [], ◌∷◌}
-use mathlib.Core.Path.{◌≡◌, refl, sym, ap, subst, ◌∙◌}
+use mathlib.Core.Path.{◌≡◌, sym, subst}
 use native.Mathlib.Omega.{arith}
 use native.Mathlib.Decide.{dec_lt}
 use native.Mathlib.Numerals.{add-one}
@@ -11,35 +13,18 @@ use lib.Seq.{drop-cons}
 use Rattle.xdr.specs.Format.{encode}
 use Rattle.record.specs.File.{File, file}
 use Rattle.record.specs.Outline.{outline_of, fields_of}
-use Rattle.record.specs.declared.outline.RecordFields.{RecordFields}
-use Rattle.record.specs.declared.outline.Outline.{Outline}
-use Rattle.order.specs.Order.{compare_lists, part}
-use Rattle.order.specs.declared.compare.Order.{Order}
 use Rattle.table.specs.Newest.{bit}
-use Rattle.table.specs.Steps.Side.{side_by, side_of_two, side_of}
 use Rattle.table.specs.Steps.Standing.{At}
 use Rattle.table.specs.declared.side.Side.{Side}
 use Rattle.table.proofs.WalkLaws.{at_last, standing}
 use Rattle.table.proofs.UnionLaws.{union, union_equal, union_right, left_first, right_first}
-use Rattle.table.proofs.SideLaws.{side_by_lem, two_by, Shows, shows_first, shows_at, Told, told_none, told_left, told_right, told_both, told}
+use Rattle.table.proofs.SideLaws.{Shows, shows_first, shows_at, Told, told_none, told_left, told_right, told_both, told}
 use Rattle.merge.specs.Steps.Next.{from_left, next_by, step_bytes}
 use Rattle.merge.specs.declared.next.Pick.{Pick}
-use Rattle.merge.specs.declared.next.Next.{Next}
-use Rattle.merge.specs.declared.next.Next.TheVariants.{End, More}
 use Rattle.accept.specs.Resulting.{replacing}
 use Rattle.accept.specs.Steps.Next.{place_of, replacing_step, next_over}
 use Rattle.accept.specs.Steps.Sorted.{Places}
 use Rattle.accept.proofs.PlaceLaws.{Stood}
-
--- by the answers that were given and what they are
-pub next_by_lem : (s : List ℕ) (at : ℕ) (old : List ℕ) (j : ℕ) {x y u v : Outline} {r : Next}
-    → x ≡ outline_of s at → x ≡ u → y ≡ outline_of old j → y ≡ v → r ≡ next_by (replacing_step at) at j (side_of s u old v) → r ≡ next_over s at old j
-unfolding next_over
-next_by_lem s at old j e f g h k = k ∙ ap (next_by (replacing_step at) at j) (side_by_lem s at old j e f g h refl)
-
-pub names_by : (s : List ℕ) (at : ℕ) (f : RecordFields) (old : List ℕ) (j : ℕ) (g : RecordFields) {x o : Order} {r : Next} → x ≡ compare_lists (part s f.name f.stop) (part old g.name g.stop) → x ≡ o
-    → r ≡ next_by (replacing_step at) at j (side_by o f g) → r ≡ next_by (replacing_step at) at j (side_of_two s f old g)
-names_by s at f old j g e h k = k ∙ ap (next_by (replacing_step at) at j) (two_by s f old g e h)
 
 -- what is left of the places
 
@@ -86,19 +71,19 @@ pub record Took (s places : List ℕ) (i : ℕ) (fs : List File) (old : List ℕ
   pub right : At old t.j rights
   pub grows : i + j < i + bit t.left + t.j
 
-abbrev pub Steps : List ℕ → List ℕ → ℕ → List File → List ℕ → ℕ → List File → Next → Type 0
-Steps s places i fs old j gs End = union replacing fs gs ≡ []
-Steps s places i fs old j gs (More t) = Took s places i fs old j gs t
+abbrev pub Steps : List ℕ → List ℕ → ℕ → List File → List ℕ → ℕ → List File → Option Pick → Type 0
+Steps s places i fs old j gs None = union replacing fs gs ≡ []
+Steps s places i fs old j gs (Some t) = Took s places i fs old j gs t
 
 module _ (s places : List ℕ) (i : ℕ) (old : List ℕ) (j : ℕ) where
   -- the message's record
   takes_sent : {f : File} {fs gs : List File} (rs : List File) (y : ℕ) → First s places i f fs → At old y rs → j ≤ y → union replacing (f ∷ fs) gs ≡ f ∷ union replacing fs rs
-      → Steps s places i (f ∷ fs) old j gs (from_left (place_of s places i) (fields_of (place_of s places i) f).past y)
+      → Took s places i (f ∷ fs) old j gs (from_left (place_of s places i) (fields_of (place_of s places i) f).past y)
   takes_sent {f} {fs} {gs} rs y p w h m =
       let q = standing p.stood.1 in
       record { head = f; lefts = fs; rights = rs; is = m; bytes_are = q.bytes_are; sized = q.sized; some = omega (arith, q.sized); left = p.others; inside = omega (arith, p.some); right = w; grows = omega arith }
 
-  takes : {fs gs : List File} {t : Side} → Told (place_of s places i) j fs gs t → i ≤ length places → Places s (drop i places) fs → At old j gs
+  takes : {fs gs : List File} {t : Option Side} → Told (place_of s places i) j fs gs t → i ≤ length places → Places s (drop i places) fs → At old j gs
       → Steps s places i fs old j gs (next_by (replacing_step (place_of s places i)) (place_of s places i) j t)
   takes told_none h u w = union_right replacing []
   takes (told_left f fs gs a) h u w = takes_sent gs j (places_first s places i f fs u) w (omega arith) (left_first replacing f fs gs a)

@@ -9,61 +9,43 @@ ghost use Rattle.accept.specs.Accepting.{accept_outcome};
 ghost use Rattle.accept.specs.Steps.Sorted.{IsArray, result_of, of_array, inserted_at, SortedPlaces, SortedTo};
 
 use crate::next::{next_at, place_of, taken_by};
-use crate::slot::{Slot, slot_of};
-use merge::next::Next;
+use crate::slot::slot_of;
 use merge::notes::{Size, note, put_table};
 use message::{Edition, IndexIn};
-use record::Outline;
-use xdr::{Filling, Refusal};
-
-// How many records are in order, or the place of the first whose name stood before.
-#[derive(Clone, Copy)]
-enum Sorting {
-    Sorted(usize),
-    Repeated(usize),
-}
+use xdr::Refusal;
 
 // A place among places: those behind it move up, and the last is lost.
 fn insert_at(places: &mut [usize], j: usize, at: usize)
     requires { j < length places.old }
     ensures { places.new ≡ inserted_at places.old j at }
 {
-    let mut k = places.len() - 1;
-    while j < k {
-        places[k] = places[k - 1];
-        k -= 1;
+    for k in (j..places.len() - 1).rev() {
+        places[k + 1] = places[k];
     }
     places[j] = at;
 }
 
-// Puts the places of an array's records in the order of their names, or answers where a name first repeats.
-fn sort(s: &[u8], places: &mut [usize]) -> Sorting
+// Puts the places of an array's records in the order of their names, and answers how many there are, or else where a name first repeats.
+fn sort(s: &[u8], places: &mut [usize]) -> Result<usize, usize>
     requires { IsArray s.now × (length places.old ≡ 512) }
     ensures { SortedTo s.now places.new result }
 {
     let mut at = 4;
     let mut n = 0;
-    loop {
-        let Outline::Whole(f) = record::outline_at(s, at) else {
-            return Sorting::Sorted(n);
-        };
-        let Slot::Free(j) = slot_of(s, &places[0..n], at) else {
-            return Sorting::Repeated(at);
-        };
-        insert_at(&mut places[0..n + 1], j, at);
+    while let Some(f) = record::outline_at(s, at) {
+        let j = slot_of(s, &places[..n], at).ok_or(at)?;
+        insert_at(&mut places[..n + 1], j, at);
         at = f.past;
         n += 1;
     }
+    Ok(n)
 }
 
 // Where the old records that may be kept begin: at 4 for an IndexUpdate, at the end for an Index, which keeps none.
 fn start_of(old: &[u8], update: bool) -> usize
     ensures { result ≡ cond update 4 (length old.now) }
 {
-    if update {
-        return 4;
-    }
-    old.len()
+    if update { 4 } else { old.len() }
 }
 
 // Notes the resulting records, as far as there is room, and measures the resulting table.
@@ -73,53 +55,61 @@ fn note_records(s: &[u8], places: &[usize], old: &[u8], update: bool, notes: &mu
 {
     let mut i = 0;
     let mut j = start_of(old, update);
-    let mut count = 0;
-    let mut bytes = 4;
-    let mut noted = 0;
-    loop {
-        let Next::More(step) = next_at(s, place_of(s, places, i), old, j) else {
-            return Size {
-                count,
-                bytes,
-                noted,
-            };
-        };
-        bytes += step.end - step.start;
-        count += 1;
-        noted += note(notes, noted, step);
+    let mut size = Size {
+        count: 0,
+        bytes: 4,
+        noted: 0,
+    };
+    while let Some(step) = next_at(s, place_of(s, places, i), old, j) {
+        size.bytes += step.end - step.start;
+        size.count += 1;
+        size.noted += note(notes, size.noted, step);
         i += taken_by(step);
         j = step.j;
     }
+    size
 }
 
 // The resulting table of records in order, in the first bytes of the buffer.
-fn fill(s: &[u8], places: &[usize], old: &[u8], update: bool, out: &mut [u8]) -> Filling
+fn fill(
+    s: &[u8],
+    places: &[usize],
+    old: &[u8],
+    update: bool,
+    out: &mut [u8],
+) -> Result<usize, Refusal>
     requires { SortedPlaces s.now places.now × (is_good old.now ≡ true) }
     ensures { Fills (resulting_table (result_of update s.now old.now)) out.old result out.new }
 {
     let mut notes = [0usize; 1024];
     let size = note_records(s, places, old, update, &mut notes);
     let end = size.noted;
-    put_table(s, old, &notes[0..end], size, out)
+    put_table(s, old, &notes[..end], size, out)
 }
 
 // The records of a message's array, which begins at a place of the message.
-fn accept_list(s: &[u8], start: usize, old: &[u8], update: bool, out: &mut [u8]) -> Filling
+fn accept_list(
+    s: &[u8],
+    start: usize,
+    old: &[u8],
+    update: bool,
+    out: &mut [u8],
+) -> Result<usize, Refusal>
     requires { IsArray s.now × (is_good old.now ≡ true) × (start + length s.now < 18446744073709551616) }
     ensures { Fills (of_array update start s.now old.now) out.old result out.new }
 {
     let mut places = [0usize; 512];
     match sort(s, &mut places) {
-        Sorting::Repeated(at) => Filling::Refused(Refusal {
+        Ok(n) => fill(s, &places[..n], old, update, out),
+        Err(at) => Err(Refusal {
             number: 13,
             place: start + at,
         }),
-        Sorting::Sorted(n) => fill(s, &places[0..n], old, update, out),
     }
 }
 
 // The Index or IndexUpdate at the front of some bytes.
-fn read_index(s: &[u8]) -> IndexIn
+fn read_index(s: &[u8]) -> Result<IndexIn, Refusal>
     ensures { result ≡ index_in (message_in Edition.New s.now) }
 {
     message::index_in(message::read(Edition::New, s))
@@ -127,22 +117,30 @@ fn read_index(s: &[u8]) -> IndexIn
 
 // The sender's new table: of the records of an Index, or of an IndexUpdate and the old records that it doesn't mention, in the first bytes of
 // the buffer.
-pub fn accept(old: &[u8], message: &[u8], repository: &[u8], out: &mut [u8]) -> Filling
+pub fn accept(
+    old: &[u8],
+    message: &[u8],
+    repository: &[u8],
+    out: &mut [u8],
+) -> Result<usize, Refusal>
     ensures { Fills (accept_outcome old.now message.now repository.now)
         out.old result out.new }
 {
     if !table::is_good(old) {
         return xdr::refused(15);
     }
-    let found = read_index(message);
-    let IndexIn::Taken { update, index: x } = found else {
-        return Filling::Refused(found.refusal());
-    };
+    let found = read_index(message)?;
+    let x = found.index;
     let stop = x.repository.start + x.repository.length;
-    let order = order::compare_bytes(order::part(message, x.repository.start, stop), repository);
-    if !order.is_equal() {
+    if !order::same_bytes(order::part(message, x.repository.start, stop), repository) {
         return xdr::refused(21);
     }
     let start = x.files.start;
-    accept_list(order::part(message, start, x.end), start, old, update, out)
+    accept_list(
+        order::part(message, start, x.end),
+        start,
+        old,
+        found.update,
+        out,
+    )
 }

@@ -1,4 +1,8 @@
 -- A record that a step finds has a name that starts before it ends.
+use Rattle.std.specs.Prelude.{Ok, Err, Some, None}
+use Rattle.std.specs.declared.result.Result.{Result}
+use Rattle.std.specs.declared.option.Option.{Option}
+use Rattle.xdr.specs.declared.answer.Refusal.{Refusal}
 use Prim.Native.Nat.{ℕ, ◌+◌, ◌≤◌}
 use mathlib.Core.List.{List, [], ◌∷◌}
 use mathlib.Core.Bool.{Bool, true, false, cond}
@@ -9,15 +13,14 @@ use Rattle.xdr.specs.Format.{encode}
 use Rattle.record.specs.File.{File, file}
 use Rattle.table.specs.Table.{is_good, records}
 use Rattle.walker.specs.Walk.{step_among, step_at}
-use Rattle.walker.specs.declared.Step.{Step}
-use Rattle.walker.specs.declared.Step.TheVariants as S
+use Rattle.record.specs.declared.outline.RecordFields.{RecordFields}
 
-abbrev pub NameFirst : Step → Type 0
-NameFirst (S.Record f) = f.name ≤ f.stop
-NameFirst S.End = Unit {0}
-NameFirst (S.Refused r) = Unit {0}
+abbrev pub NameFirst : Result (Option RecordFields) Refusal → Type 0
+NameFirst (Ok (Some f)) = f.name ≤ f.stop
+NameFirst (Ok None) = Unit {0}
+NameFirst (Err r) = Unit {0}
 
-either : (b : Bool) (x y : Step) → NameFirst x → NameFirst y → NameFirst (cond b x y)
+either : (b : Bool) (x y : Result (Option RecordFields) Refusal) → NameFirst x → NameFirst y → NameFirst (cond b x y)
 either true x y p q = p
 either false x y p q = q
 

@@ -1,6 +1,10 @@
 -- The number that each call returns, and the words of its answer. A message's words are its end, its type, its ID and then its fields,
 -- a span by its start and its length; those of a message that is refused are the place and zeros. So a record or an option that is not there
 -- gives the number 1, and the place of the field that isn't.
+use Rattle.std.specs.Prelude.{Ok, Err, Some, None}
+use Rattle.std.specs.declared.result.Result.{Result}
+use Rattle.std.specs.declared.option.Option.{Option}
+use Rattle.xdr.specs.declared.answer.Refusal.{Refusal}
 use Rattle.std.specs.Prelude.{ℕ, ◌-◌, List, [], ◌∷◌, replicate}
 use Rattle.message.specs.declared.answer.IndexSpan.{IndexSpan}
 use Rattle.message.specs.declared.answer.RequestSpan.{RequestSpan}
@@ -9,13 +13,7 @@ use Rattle.message.specs.declared.answer.OptionsSpan.{OptionsSpan}
 use Rattle.message.specs.declared.answer.Message.{Message}
 use Rattle.message.specs.declared.answer.Message.TheVariants as M
 use Rattle.record.specs.declared.outline.RecordFields.{RecordFields}
-use Rattle.record.specs.declared.outline.Outline.{Outline}
-use Rattle.record.specs.declared.outline.Outline.TheVariants as O
 use Rattle.record.specs.declared.option_outline.OptionFields.{OptionFields}
-use Rattle.record.specs.declared.option_outline.OptionOutline.{OptionOutline}
-use Rattle.record.specs.declared.option_outline.OptionOutline.TheVariants as K
-use Rattle.walker.specs.declared.Step.{Step}
-use Rattle.walker.specs.declared.Step.TheVariants as S
 
 -- Index and IndexUpdate: words 3 and 4 are the Repository, 5 and 6 the array of files, 7 their number
 abbrev pub index_words : (type id : ℕ) → IndexSpan → List ℕ
@@ -44,63 +42,57 @@ abbrev pub place_words : ℕ → List ℕ
 place_words place = place ∷ 0 ∷ 0 ∷ 0 ∷ 0 ∷ 0 ∷ 0 ∷ 0 ∷ 0 ∷ 0 ∷ 0 ∷ []
 
 -- the words of a message
-abbrev pub read_words : Message → List ℕ
-read_words (M.Index id x) = index_words 1 id x
-read_words (M.Request id x) = request_words id x
-read_words (M.Response id x) = response_words id x
-read_words (M.Ping id end) = ping_words 4 id end
-read_words (M.Pong id end) = ping_words 5 id end
-read_words (M.IndexUpdate id x) = index_words 6 id x
-read_words (M.Options id x) = options_words id x
-read_words (M.Refused r) = place_words r.place
+abbrev pub read_words : Result Message Refusal → List ℕ
+read_words (Ok (M.Index id x)) = index_words 1 id x
+read_words (Ok (M.Request id x)) = request_words id x
+read_words (Ok (M.Response id x)) = response_words id x
+read_words (Ok (M.Ping id end)) = ping_words 4 id end
+read_words (Ok (M.Pong id end)) = ping_words 5 id end
+read_words (Ok (M.IndexUpdate id x)) = index_words 6 id x
+read_words (Ok (M.Options id x)) = options_words id x
+read_words (Err r) = place_words r.place
 
 -- the number that reading a message returns
-abbrev pub read_number : Message → ℕ
-read_number (M.Index id x) = 0
-read_number (M.Request id x) = 0
-read_number (M.Response id x) = 0
-read_number (M.Ping id end) = 0
-read_number (M.Pong id end) = 0
-read_number (M.IndexUpdate id x) = 0
-read_number (M.Options id x) = 0
-read_number (M.Refused r) = r.number
+abbrev pub read_number : Result Message Refusal → ℕ
+read_number (Ok m) = 0
+read_number (Err r) = r.number
 
 -- a file: the place past it, its name's start and length, Flags, the 64 bits of Modified, Version, the number of its blocks and the place of the first
 abbrev pub field_words : RecordFields → List ℕ
 field_words f = f.past ∷ f.name ∷ (f.stop - f.name) ∷ f.flags ∷ f.modified ∷ f.version ∷ f.blocks ∷ f.first ∷ []
 
 -- a file that is there, or the place of its field that isn't, and zeros
-abbrev pub file_words : (missing : ℕ) → Outline → List ℕ
-file_words missing (O.Whole f) = field_words f
-file_words missing O.Short = missing ∷ replicate 7 0
+abbrev pub file_words : (missing : ℕ) → Option RecordFields → List ℕ
+file_words missing (Some f) = field_words f
+file_words missing None = missing ∷ replicate 7 0
 
 -- 0, or 1 where the file isn't there
-abbrev pub file_number : Outline → ℕ
-file_number (O.Whole f) = 0
-file_number O.Short = 1
+abbrev pub file_number : Option RecordFields → ℕ
+file_number (Some f) = 0
+file_number None = 1
 
 -- an option: the place past it, the start and the length of its Key and of its Value
 abbrev pub key_words : OptionFields → List ℕ
 key_words f = f.past ∷ f.key ∷ f.key_length ∷ f.value ∷ f.value_length ∷ []
 
 -- an option that is there, or the place of its field that isn't, and zeros
-abbrev pub option_words : (missing : ℕ) → OptionOutline → List ℕ
-option_words missing (K.Whole f) = key_words f
-option_words missing K.Short = missing ∷ replicate 4 0
+abbrev pub option_words : (missing : ℕ) → Option OptionFields → List ℕ
+option_words missing (Some f) = key_words f
+option_words missing None = missing ∷ replicate 4 0
 
 -- 0, or 1 where the option isn't there
-abbrev pub option_number : OptionOutline → ℕ
-option_number (K.Whole f) = 0
-option_number K.Short = 1
+abbrev pub option_number : Option OptionFields → ℕ
+option_number (Some f) = 0
+option_number None = 1
 
 -- a step over a table: 0 at a record and at the end, or 15
-abbrev pub step_number : Step → ℕ
-step_number (S.Record f) = 0
-step_number S.End = 0
-step_number (S.Refused r) = r.number
+abbrev pub step_number : Result (Option RecordFields) Refusal → ℕ
+step_number (Ok (Some f)) = 0
+step_number (Ok None) = 0
+step_number (Err r) = r.number
 
 -- a step over a table: the words of the record there, or zeros at the end and where it is refused
-abbrev pub step_words : Step → List ℕ
-step_words (S.Record f) = field_words f
-step_words S.End = replicate 8 0
-step_words (S.Refused r) = replicate 8 0
+abbrev pub step_words : Result (Option RecordFields) Refusal → List ℕ
+step_words (Ok (Some f)) = field_words f
+step_words (Ok None) = replicate 8 0
+step_words (Err r) = replicate 8 0

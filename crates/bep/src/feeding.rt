@@ -8,7 +8,7 @@ ghost use Rattle.feed.specs.Missing.{missing_in};
 ghost use Rattle.feed.specs.Opened.{opened};
 ghost use Rattle.bep.specs.Feeding.{said_number, said_words, Feeds, header_number, header_words};
 
-use feed::{Answer, Feed, Header};
+use feed::{Feed, Header};
 use feed_lent::{Said, feed_words, missing_words, packed, unpacked};
 use message::Edition;
 
@@ -17,17 +17,16 @@ fn give_said(said: Said, feed: &[u32; 16], answer: &mut [u64; 2]) -> u32
     ensures { (result ≡ said_number said.answer)
         × (answer.new ≡ said_words (missing_in (feed_of feed.now).cursor) said.taken said.answer) }
 {
-    let a = said.answer;
-    match a {
-        Answer::Waiting => {
+    match said.answer {
+        Ok(None) => {
             *answer = [missing_words(feed) as u64, said.taken as u64];
             1
         }
-        Answer::Ended(end) => {
+        Ok(Some(end)) => {
             *answer = [end as u64, said.taken as u64];
             0
         }
-        Answer::Refused(r) => {
+        Err(r) => {
             *answer = [r.place as u64, said.taken as u64];
             r.number
         }
@@ -35,15 +34,15 @@ fn give_said(said: Said, feed: &[u32; 16], answer: &mut [u64; 2]) -> u32
 }
 
 // Fills the answer of a header, and gives its number.
-fn give_header(header: Header, answer: &mut [u64; 2]) -> u32
+fn give_header(header: Option<Header>, answer: &mut [u64; 2]) -> u32
     ensures { (result ≡ header_number header) × (answer.new ≡ header_words header) }
 {
     match header {
-        Header::Known(kind, id) => {
-            *answer = [kind as u64, id as u64];
+        Some(h) => {
+            *answer = [h.kind as u64, h.id as u64];
             0
         }
-        Header::Unknown => {
+        None => {
             *answer = [0, 0];
             1
         }

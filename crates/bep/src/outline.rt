@@ -7,8 +7,7 @@ ghost use Rattle.record.specs.Missing.{missing_of, missing_option};
 ghost use Rattle.walker.specs.Walk.{step_at};
 ghost use Rattle.bep.specs.Words.{field_words, file_words, file_number, key_words, option_words, option_number, step_number, step_words};
 
-use record::{OptionFields, OptionOutline, Outline, RecordFields};
-use walker::Step;
+use record::{OptionFields, RecordFields};
 
 // A record's fields as words; the name's length is its end less its start.
 fn field_words(f: RecordFields) -> [u64; 8]
@@ -45,8 +44,7 @@ pub fn bep_file(files: &[u8], at: usize, answer: &mut [u64; 8]) -> u32
     ensures { (result ≡ file_number (outline_of files.now at))
         × (answer.new ≡ file_words (missing_of files.now at) (outline_of files.now at)) }
 {
-    let outline = record::outline_at(files, at);
-    let Outline::Whole(f) = outline else {
+    let Some(f) = record::outline_at(files, at) else {
         *answer = [record::missing_at(files, at) as u64, 0, 0, 0, 0, 0, 0, 0];
         return 1;
     };
@@ -59,8 +57,7 @@ pub fn bep_option(options: &[u8], at: usize, answer: &mut [u64; 5]) -> u32
     ensures { (result ≡ option_number (option_of options.now at))
         × (answer.new ≡ option_words (missing_option options.now at) (option_of options.now at)) }
 {
-    let outline = record::option_at(options, at);
-    let OptionOutline::Whole(f) = outline else {
+    let Some(f) = record::option_at(options, at) else {
         *answer = [record::option_missing_at(options, at) as u64, 0, 0, 0, 0];
         return 1;
     };
@@ -72,17 +69,16 @@ pub fn bep_option(options: &[u8], at: usize, answer: &mut [u64; 5]) -> u32
 pub fn bep_step(table: &[u8], at: usize, answer: &mut [u64; 8]) -> u32
     ensures { (result ≡ step_number (step_at table.now at)) × (answer.new ≡ step_words (step_at table.now at)) }
 {
-    let step = walker::step_at(table, at);
-    match step {
-        Step::Record(f) => {
+    match walker::step_at(table, at) {
+        Ok(Some(f)) => {
             *answer = field_words(f);
             0
         }
-        Step::End => {
+        Ok(None) => {
             *answer = [0; 8];
             0
         }
-        Step::Refused(r) => {
+        Err(r) => {
             *answer = [0; 8];
             r.number
         }

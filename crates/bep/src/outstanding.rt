@@ -12,22 +12,17 @@ ghost use Rattle.bep.specs.Queues.{window_in, windows_in, verdict_number, Become
 
 use link::Arrival;
 use message::Edition;
-use queue::{Verdict, Window};
-use xdr::Filling;
+use xdr::Refusal;
 
 // A window, which counts only where its bit is set.
-fn window_in(window: u32, bit: u32) -> Window
+fn window_in(window: u32, bit: u32) -> Option<u32>
     ensures { result ≡ window_in window bit }
 {
-    if bit == 1 {
-        Window::Stated(window)
-    } else {
-        Window::Default
-    }
+    (bit == 1).then_some(window)
 }
 
 // The windows of the four peers.
-fn windows_in(windows: &[u32; 4], stated: u32) -> [Window; 4]
+fn windows_in(windows: &[u32; 4], stated: u32) -> [Option<u32>; 4]
     ensures { result ≡ windows_in windows.now stated }
 {
     let a = window_in(windows[0], stated % 2);
@@ -38,25 +33,25 @@ fn windows_in(windows: &[u32; 4], stated: u32) -> [Window; 4]
 }
 
 // The number that an opening or a drop returns.
-fn verdict_number(o: Verdict) -> u32
+fn verdict_number(o: Result<(), Refusal>) -> u32
     ensures { result ≡ verdict_number o }
 {
     match o {
-        Verdict::Accepted => 0,
-        Verdict::Refused(r) => r.number,
+        Ok(()) => 0,
+        Err(r) => r.number,
     }
 }
 
 // Fills the answer of an issue, and gives its number.
-fn give_issued(id: u32, w: Filling, answer: &mut [u64; 2]) -> u32
+fn give_issued(id: u32, w: Result<usize, Refusal>, answer: &mut [u64; 2]) -> u32
     ensures { (result ≡ filling_number w) × (answer.new ≡ issued_words id w) }
 {
     match w {
-        Filling::Filled(n) => {
+        Ok(n) => {
             *answer = [n as u64, id as u64];
             0
         }
-        Filling::Refused(r) => {
+        Err(r) => {
             *answer = [r.place as u64, 0];
             r.number
         }
@@ -64,27 +59,27 @@ fn give_issued(id: u32, w: Filling, answer: &mut [u64; 2]) -> u32
 }
 
 // Fills the answer of an answer to the queue, and gives its number.
-fn give_arrival(o: Arrival, answer: &mut [u64; 5]) -> u32
+fn give_arrival(o: Result<Arrival, Refusal>, answer: &mut [u64; 5]) -> u32
     ensures { (result ≡ arrival_number o) × (answer.new ≡ arrival_words o) }
 {
     match o {
-        Arrival::Data { id, size, data: d } => {
+        Ok(Arrival::Data { id, size, data: d }) => {
             *answer = [0, id as u64, size as u64, d.start as u64, d.length as u64];
             0
         }
-        Arrival::NotAvailable { id, size } => {
+        Ok(Arrival::NotAvailable { id, size }) => {
             *answer = [1, id as u64, size as u64, 0, 0];
             0
         }
-        Arrival::WrongSize { id, size } => {
+        Ok(Arrival::WrongSize { id, size }) => {
             *answer = [2, id as u64, size as u64, 0, 0];
             0
         }
-        Arrival::WrongContent { id, size } => {
+        Ok(Arrival::WrongContent { id, size }) => {
             *answer = [3, id as u64, size as u64, 0, 0];
             0
         }
-        Arrival::Refused(r) => {
+        Err(r) => {
             *answer = [r.place as u64, 0, 0, 0, 0];
             r.number
         }

@@ -4,6 +4,7 @@ ghost use Rattle.message.specs.Answers.{message_in};
 ghost use Rattle.bep.specs.Words.{index_words, request_words, response_words, ping_words, options_words, place_words, read_words, read_number};
 
 use message::{Edition, IndexSpan, Message, OptionsSpan, RequestSpan, ResponseSpan};
+use xdr::Refusal;
 
 // An Index or an IndexUpdate, by its type.
 fn index_words(kind: u64, id: u32, x: IndexSpan) -> [u64; 11]
@@ -103,29 +104,29 @@ fn place_words(place: usize) -> [u64; 11]
 }
 
 // The words of a message.
-fn read_words(m: Message) -> [u64; 11]
+fn read_words(m: Result<Message, Refusal>) -> [u64; 11]
     ensures { result ≡ read_words m }
 {
     match m {
-        Message::Index(id, x) => index_words(1, id, x),
-        Message::Request(id, x) => request_words(id, x),
-        Message::Response(id, x) => response_words(id, x),
-        Message::Ping(id, end) => ping_words(4, id, end),
-        Message::Pong(id, end) => ping_words(5, id, end),
-        Message::IndexUpdate(id, x) => index_words(6, id, x),
-        Message::Options(id, x) => options_words(id, x),
-        Message::Refused(r) => place_words(r.place),
+        Ok(Message::Index(id, x)) => index_words(1, id, x),
+        Ok(Message::Request(id, x)) => request_words(id, x),
+        Ok(Message::Response(id, x)) => response_words(id, x),
+        Ok(Message::Ping(id, end)) => ping_words(4, id, end),
+        Ok(Message::Pong(id, end)) => ping_words(5, id, end),
+        Ok(Message::IndexUpdate(id, x)) => index_words(6, id, x),
+        Ok(Message::Options(id, x)) => options_words(id, x),
+        Err(r) => place_words(r.place),
     }
 }
 
 // The number that reading a message returns.
-fn read_number(m: Message) -> u32
+fn read_number(m: Result<Message, Refusal>) -> u32
     ensures { result ≡ read_number m }
 {
-    let Message::Refused(r) = m else {
-        return 0;
-    };
-    r.number
+    match m {
+        Ok(_) => 0,
+        Err(r) => r.number,
+    }
 }
 
 // Reads the message at the front of some bytes: whatever follows its end belongs to the next one.

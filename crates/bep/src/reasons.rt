@@ -4,20 +4,21 @@ ghost use Rattle.reason.specs.Reasons.{why_of};
 ghost use Rattle.bep.specs.Reasons.{Reasons};
 
 use reason::Reason;
+use xdr::Refusal;
 
 // Puts a reason into the words of the answer.
-fn give_reason(why: Reason, answer: &mut [u64; 3]) -> u32
+fn give_reason(why: Result<Reason, Refusal>, answer: &mut [u64; 3]) -> u32
     ensures { Reasons why result answer.new }
 {
     let mut number = 0;
     *answer = match why {
-        Reason::NoSuchName => [1, 0, 0],
-        Reason::Deleted => [2, 0, 0],
-        Reason::Invalid => [3, 0, 0],
-        Reason::NoSuchBlock => [4, 0, 0],
-        Reason::Held { record, block } => [5, record as u64, block as u64],
-        Reason::Wanted { peer } => [6, peer as u64, 0],
-        Reason::Refused(r) => {
+        Ok(Reason::NoSuchName) => [1, 0, 0],
+        Ok(Reason::Deleted) => [2, 0, 0],
+        Ok(Reason::Invalid) => [3, 0, 0],
+        Ok(Reason::NoSuchBlock) => [4, 0, 0],
+        Ok(Reason::Held { record, block }) => [5, record as u64, block as u64],
+        Ok(Reason::Wanted { peer }) => [6, peer as u64, 0],
+        Err(r) => {
             number = r.number;
             [0, 0, 0]
         }

@@ -10,6 +10,7 @@ ghost use Rattle.bep.specs.Search.{Finds};
 
 use crate::filling::give;
 use want::{Details, Found};
+use xdr::Refusal;
 
 // The request list of a local table and four peers' tables.
 pub fn bep_request_list<'a>(
@@ -30,37 +31,31 @@ pub fn bep_request_list<'a>(
 }
 
 // Puts what a Request says into the words of the answer.
-fn give_details(details: Details, answer: &mut [u64; 6]) -> u32
+fn give_details(details: Result<Option<Details>, Refusal>, answer: &mut [u64; 6]) -> u32
     requires { StopsAfter details }
     ensures { Tells details result answer.new }
 {
-    let mut number = 0;
-    *answer = match details {
-        Details::Of {
-            table,
-            name,
-            stop,
-            offset,
-            size,
-            hash,
-        } => [
-            table as u64,
-            name as u64,
-            (stop - name) as u64,
-            offset,
-            size as u64,
-            hash as u64,
-        ],
-        Details::Nothing => {
-            number = 1;
-            [0; 6]
+    match details {
+        Ok(Some(d)) => {
+            *answer = [
+                d.table as u64,
+                d.name as u64,
+                (d.stop - d.name) as u64,
+                d.offset,
+                d.size as u64,
+                d.hash as u64,
+            ];
+            0
         }
-        Details::Refused(r) => {
-            number = r.number;
-            [0; 6]
+        Ok(None) => {
+            *answer = [0; 6];
+            1
         }
-    };
-    number
+        Err(r) => {
+            *answer = [0; 6];
+            r.number
+        }
+    }
 }
 
 // What a Request for a block says, by its file's number and its own in the request list of a local table and four peers' tables.
@@ -87,15 +82,15 @@ pub fn bep_find(table: &[u8], size: u32, hash: &[u8], answer: &mut [u64; 3]) -> 
     ensures { Finds (found_in table.now (block_with size hash.now)) result answer.new }
 {
     match want::find_local(table, size, hash) {
-        Found::At { record, block } => {
+        Ok(Some(Found { record, block })) => {
             *answer = [1, record as u64, block as u64];
             0
         }
-        Found::Nothing => {
+        Ok(None) => {
             *answer = [0, 0, 0];
             0
         }
-        Found::Refused(r) => {
+        Err(r) => {
             *answer = [0, 0, 0];
             r.number
         }

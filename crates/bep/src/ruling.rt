@@ -1,34 +1,17 @@
 // The ruling on an incoming Request.
 ghost use Rattle.std.specs.Prelude.{◌≡◌};
 ghost use Rattle.serve.specs.Ruling.{ruling_of};
-ghost use Rattle.bep.specs.Serving.{serving_number, reply_words, serving_words, RuledSo};
-ghost use Rattle.bep.specs.Filling.{filling_number};
+ghost use Rattle.bep.specs.Serving.{serving_number, serving_words, RuledSo};
 
 use serve::Serving;
-use xdr::Filling;
-
-// Fills the answer of a reply or a refusal, and gives its number.
-fn give_reply(w: Filling, answer: &mut [u64; 5]) -> u32
-    ensures { (result ≡ filling_number w) × (answer.new ≡ reply_words w) }
-{
-    match w {
-        Filling::Filled(n) => {
-            *answer = [0, n as u64, 0, 0, 0];
-            0
-        }
-        Filling::Refused(r) => {
-            *answer = [r.place as u64, 0, 0, 0, 0];
-            r.number
-        }
-    }
-}
+use xdr::Refusal;
 
 // Fills the answer of a ruling, and gives its number.
-fn give_serving(s: Serving, answer: &mut [u64; 5]) -> u32
+fn give_serving(s: Result<Serving, Refusal>, answer: &mut [u64; 5]) -> u32
     ensures { (result ≡ serving_number s) × (answer.new ≡ serving_words s) }
 {
     match s {
-        Serving::Served { name, offset, size } => {
+        Ok(Serving::Served { name, offset, size }) => {
             *answer = [
                 1,
                 name.start as u64,
@@ -38,7 +21,14 @@ fn give_serving(s: Serving, answer: &mut [u64; 5]) -> u32
             ];
             0
         }
-        Serving::Unserved(w) => give_reply(w, answer),
+        Ok(Serving::Replied(n)) => {
+            *answer = [0, n as u64, 0, 0, 0];
+            0
+        }
+        Err(r) => {
+            *answer = [r.place as u64, 0, 0, 0, 0];
+            r.number
+        }
     }
 }
 

@@ -7,8 +7,7 @@ ghost use Rattle.bep.specs.Filling.{Gives};
 ghost use Rattle.bep.specs.Tables.{good_number, order_word, Compares};
 
 use crate::filling::give;
-use order::Order;
-use record::Outline;
+use std::cmp::Ordering;
 
 // Whether bytes are a good table: 0, or 15.
 pub fn bep_check_table(table: &[u8]) -> u32
@@ -21,13 +20,13 @@ pub fn bep_check_table(table: &[u8]) -> u32
 }
 
 // The first record is lower (0), equal (1) or higher (2).
-fn order_word(o: Order) -> u64
+fn order_word(o: Ordering) -> u64
     ensures { result ≡ order_word o }
 {
     match o {
-        Order::Less => 0,
-        Order::Equal => 1,
-        Order::Greater => 2,
+        Ordering::Less => 0,
+        Ordering::Equal => 1,
+        Ordering::Greater => 2,
     }
 }
 
@@ -35,13 +34,11 @@ fn order_word(o: Order) -> u64
 pub fn bep_compare(a: &[u8], i: usize, b: &[u8], j: usize, answer: &mut [u64; 1]) -> u32
     ensures { Compares a.now i b.now j result answer.new }
 {
-    let first = record::outline_at(a, i);
-    let second = record::outline_at(b, j);
-    let Outline::Whole(f) = first else {
+    let Some(f) = record::outline_at(a, i) else {
         *answer = [record::missing_at(a, i) as u64];
         return 1;
     };
-    let Outline::Whole(g) = second else {
+    let Some(g) = record::outline_at(b, j) else {
         *answer = [record::missing_at(b, j) as u64];
         return 1;
     };

@@ -1,59 +1,38 @@
 // Words, hypers, opaques and strings.
-use std::io;
-use xdr::{Bytes, Hyper, Word};
+use lines::Hex;
+use std::{fmt, io};
+use xdr::Refusal;
 
-// A line up to its answer: the function, the bytes and the place.
-fn given(rt: &impl Print, function: &[u8], s: &[u8], at: usize) -> io::Result<()> {
-    lines::text(rt, function)?;
-    lines::text(rt, b" ")?;
-    lines::bytes(rt, s)?;
-    lines::text(rt, b" at ")?;
-    lines::number(rt, at as u64)?;
-    lines::text(rt, b": ")
-}
-
-// A value with the place after it, and the end of the line.
-fn taken(rt: &impl Print, value: u64, next: usize) -> io::Result<()> {
-    lines::number(rt, value)?;
-    lines::text(rt, b", next ")?;
-    lines::number(rt, next as u64)?;
-    lines::text(rt, b"\n")
+// A line: the function, the bytes and the place, and the value with the place after it, or the refusal.
+fn told<T: fmt::Display + Drop>(
+    rt: &impl Print,
+    function: &str,
+    s: &[u8],
+    at: usize,
+    answer: Result<(T, usize), Refusal>,
+) -> io::Result<()> {
+    print!(rt; "{function} {} at {at}: ", Hex(s))?;
+    match answer {
+        Ok((value, next)) => println!(rt; "{value}, next {next}"),
+        Err(r) => lines::refusal(rt, r),
+    }
 }
 
 fn word(rt: &impl Print, s: &[u8], at: usize) -> io::Result<()> {
-    given(rt, b"read_word", s, at)?;
-    match xdr::read_word(s, at) {
-        Word::Taken(w, next) => taken(rt, w as u64, next),
-        Word::Refused(r) => lines::refusal(rt, r),
-    }
+    told(rt, "read_word", s, at, xdr::read_word(s, at))
 }
 
 fn hyper(rt: &impl Print, s: &[u8], at: usize) -> io::Result<()> {
-    given(rt, b"read_hyper", s, at)?;
-    match xdr::read_hyper(s, at) {
-        Hyper::Taken(n, next) => taken(rt, n, next),
-        Hyper::Refused(r) => lines::refusal(rt, r),
-    }
-}
-
-fn answer(rt: &impl Print, b: Bytes) -> io::Result<()> {
-    match b {
-        Bytes::Taken(n, next) => taken(rt, n as u64, next),
-        Bytes::Refused(r) => lines::refusal(rt, r),
-    }
+    told(rt, "read_hyper", s, at, xdr::read_hyper(s, at))
 }
 
 fn opaque(rt: &impl Print, s: &[u8], at: usize, limit: u32) -> io::Result<()> {
-    lines::text(rt, b"limit ")?;
-    lines::number(rt, limit as u64)?;
-    lines::text(rt, b", ")?;
-    given(rt, b"read_bytes", s, at)?;
-    answer(rt, xdr::read_bytes(s, at, limit))
+    print!(rt; "limit {limit}, ")?;
+    told(rt, "read_bytes", s, at, xdr::read_bytes(s, at, limit))
 }
 
 fn string(rt: &impl Print, s: &[u8]) -> io::Result<()> {
-    given(rt, b"read_text", s, 0)?;
-    answer(rt, xdr::read_text(s, 0, 255))
+    told(rt, "read_text", s, 0, xdr::read_text(s, 0, 255))
 }
 
 pub fn words(rt: &impl Print) -> io::Result<()> {
@@ -132,71 +111,44 @@ fn broken(rt: &impl Print) -> io::Result<()> {
     string(rt, b"\x00\x00\x00\x01\xff\x00\x00\x01")
 }
 
-// A line after a put: the place, the room that there was, how many bytes were put, and the buffer.
-fn stored(
+// A line of a put into the first bytes of a new buffer, as many as there is to be room for: the place, the room, how many bytes were put, and the
+// buffer.
+fn put<F: FnOnce(&mut [u8]) -> usize>(
     rt: &impl Print,
-    function: &[u8],
-    at: usize,
+    function: &str,
     room: usize,
-    count: usize,
-    out: &[u8],
-) -> io::Result<()> {
-    lines::text(rt, function)?;
-    lines::text(rt, b" at ")?;
-    lines::number(rt, at as u64)?;
-    lines::text(rt, b" of ")?;
-    lines::number(rt, room as u64)?;
-    lines::text(rt, b": put ")?;
-    lines::number(rt, count as u64)?;
-    lines::text(rt, b", buffer ")?;
-    lines::bytes(rt, out)?;
-    lines::text(rt, b"\n")
-}
-
-// Each put goes into the first bytes of a new buffer, as many as there is to be room for.
-fn put_word_into(rt: &impl Print, out: &mut [u8], room: usize, at: usize) -> io::Result<()> {
+    at: usize,
+    store: F,
+) -> io::Result<()>
+    requires { F.IsAlwaysCallable store }
+{
+    let mut out = [0xeeu8; 16];
     if room <= out.len() {
-        let count = xdr::put_word(&mut out[0..room], at, 0x01020304);
-        stored(rt, b"put_word", at, room, count, out)?;
+        let count = store(&mut out[..room]);
+        println!(rt;
+            "{function} at {at} of {room}: put {count}, buffer {}",
+            Hex(&out)
+        )?;
     }
     Ok(())
 }
 
 fn put_word(rt: &impl Print, room: usize, at: usize) -> io::Result<()> {
-    let mut out = [0xeeu8; 16];
-    put_word_into(rt, &mut out, room, at)
-}
-
-fn put_hyper_into(rt: &impl Print, out: &mut [u8], room: usize, at: usize) -> io::Result<()> {
-    if room <= out.len() {
-        let count = xdr::put_hyper(&mut out[0..room], at, 0x0102030405060708);
-        stored(rt, b"put_hyper", at, room, count, out)?;
-    }
-    Ok(())
+    put(rt, "put_word", room, at, |out| {
+        xdr::put_word(out, at, 0x01020304)
+    })
 }
 
 fn put_hyper(rt: &impl Print, room: usize, at: usize) -> io::Result<()> {
-    let mut out = [0xeeu8; 16];
-    put_hyper_into(rt, &mut out, room, at)
-}
-
-fn put_opaque_into(
-    rt: &impl Print,
-    out: &mut [u8],
-    room: usize,
-    at: usize,
-    src: &[u8],
-) -> io::Result<()> {
-    if room <= out.len() {
-        let count = xdr::put_bytes(&mut out[0..room], at, src);
-        stored(rt, b"put_bytes", at, room, count, out)?;
-    }
-    Ok(())
+    put(rt, "put_hyper", room, at, |out| {
+        xdr::put_hyper(out, at, 0x0102030405060708)
+    })
 }
 
 fn put_opaque(rt: &impl Print, room: usize, at: usize, src: &[u8]) -> io::Result<()> {
-    let mut out = [0xeeu8; 16];
-    put_opaque_into(rt, &mut out, room, at, src)
+    put(rt, "put_bytes", room, at, |out| {
+        xdr::put_bytes(out, at, src)
+    })
 }
 
 pub fn puts(rt: &impl Print) -> io::Result<()> {

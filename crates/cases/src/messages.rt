@@ -1,189 +1,159 @@
 // Messages, read and written.
+use lines::Hex;
 use message::{Edition, IndexSpan, Message, OptionsSpan, RequestSpan, ResponseSpan, Span};
-use std::io;
-use xdr::Filling;
+use std::{fmt, io};
+use xdr::Refusal;
 
-fn number(rt: &impl Print, label: &[u8], n: u64) -> io::Result<()> {
-    lines::text(rt, label)?;
-    lines::number(rt, n)
+// Where a part of a message begins and how long it is.
+#[derive(Clone, Copy)]
+struct Part(Span);
+
+impl fmt::Display for Part {
+    fn fmt<W: fmt::Write>(&self, f: &mut fmt::Formatter<W>) -> fmt::Result {
+        write!(f, "{}+{}", self.0.start, self.0.length)
+    }
 }
 
-fn span(rt: &impl Print, label: &[u8], s: Span) -> io::Result<()> {
-    lines::text(rt, label)?;
-    lines::number(rt, s.start as u64)?;
-    lines::text(rt, b"+")?;
-    lines::number(rt, s.length as u64)
+fn index(rt: &impl Print, kind: &str, id: u32, x: IndexSpan) -> io::Result<()> {
+    println!(rt;
+        "{kind} ID {id}, repository {}, files {}, count {}, end {}",
+        Part(x.repository),
+        Part(x.files),
+        x.count,
+        x.end
+    )
 }
 
-fn index(rt: &impl Print, kind: &[u8], id: u32, x: IndexSpan) -> io::Result<()> {
-    lines::text(rt, kind)?;
-    number(rt, b" ID ", id as u64)?;
-    let repository = x.repository;
-    span(rt, b", repository ", repository)?;
-    let files = x.files;
-    span(rt, b", files ", files)?;
-    number(rt, b", count ", x.count as u64)?;
-    number(rt, b", end ", x.end as u64)?;
-    lines::text(rt, b"\n")
-}
-
-fn bare(rt: &impl Print, kind: &[u8], id: u32, end: usize) -> io::Result<()> {
-    lines::text(rt, kind)?;
-    number(rt, b" ID ", id as u64)?;
-    number(rt, b", end ", end as u64)?;
-    lines::text(rt, b"\n")
+fn bare(rt: &impl Print, kind: &str, id: u32, end: usize) -> io::Result<()> {
+    println!(rt; "{kind} ID {id}, end {end}")
 }
 
 fn request(rt: &impl Print, id: u32, x: RequestSpan) -> io::Result<()> {
-    number(rt, b"Request ID ", id as u64)?;
-    let repository = x.repository;
-    span(rt, b", repository ", repository)?;
-    let name = x.name;
-    span(rt, b", name ", name)?;
-    number(rt, b", offset ", x.offset)?;
-    number(rt, b", length ", x.size as u64)?;
-    let hash = x.hash;
-    span(rt, b", hash ", hash)?;
-    number(rt, b", end ", x.end as u64)?;
-    lines::text(rt, b"\n")
+    println!(rt;
+        "Request ID {id}, repository {}, name {}, offset {}, length {}, hash {}, end {}",
+        Part(x.repository),
+        Part(x.name),
+        x.offset,
+        x.size,
+        Part(x.hash),
+        x.end
+    )
 }
 
 fn response(rt: &impl Print, id: u32, x: ResponseSpan) -> io::Result<()> {
-    number(rt, b"Response ID ", id as u64)?;
-    let data = x.data;
-    span(rt, b", data ", data)?;
-    number(rt, b", end ", x.end as u64)?;
-    lines::text(rt, b"\n")
+    println!(rt; "Response ID {id}, data {}, end {}", Part(x.data), x.end)
 }
 
 fn options(rt: &impl Print, id: u32, x: OptionsSpan) -> io::Result<()> {
-    number(rt, b"Options ID ", id as u64)?;
-    let options = x.options;
-    span(rt, b", options ", options)?;
-    number(rt, b", count ", x.count as u64)?;
-    number(rt, b", end ", x.end as u64)?;
-    lines::text(rt, b"\n")
+    println!(rt;
+        "Options ID {id}, options {}, count {}, end {}",
+        Part(x.options),
+        x.count,
+        x.end
+    )
 }
 
 fn answer(rt: &impl Print, m: Message) -> io::Result<()> {
     match m {
-        Message::Index(id, x) => index(rt, b"Index", id, x),
+        Message::Index(id, x) => index(rt, "Index", id, x),
         Message::Request(id, x) => request(rt, id, x),
         Message::Response(id, x) => response(rt, id, x),
-        Message::Ping(id, end) => bare(rt, b"Ping", id, end),
-        Message::Pong(id, end) => bare(rt, b"Pong", id, end),
-        Message::IndexUpdate(id, x) => index(rt, b"IndexUpdate", id, x),
+        Message::Ping(id, end) => bare(rt, "Ping", id, end),
+        Message::Pong(id, end) => bare(rt, "Pong", id, end),
+        Message::IndexUpdate(id, x) => index(rt, "IndexUpdate", id, x),
         Message::Options(id, x) => options(rt, id, x),
-        Message::Refused(r) => lines::refusal(rt, r),
     }
 }
 
-fn read(rt: &impl Print, label: &[u8], s: &[u8]) -> io::Result<()> {
-    lines::text(rt, b"read ")?;
-    lines::text(rt, label)?;
-    lines::text(rt, b" ")?;
-    lines::bytes(rt, s)?;
-    lines::text(rt, b": ")?;
-    answer(rt, message::read(Edition::New, s))
+fn read(rt: &impl Print, label: &str, s: &[u8]) -> io::Result<()> {
+    print!(rt; "read {label} {}: ", Hex(s))?;
+    match message::read(Edition::New, s) {
+        Ok(m) => answer(rt, m),
+        Err(r) => lines::refusal(rt, r),
+    }
 }
 
 // K1 to K9, and a message with bytes after its end.
 pub fn vectors(rt: &impl Print) -> io::Result<()> {
-    read(rt, b"K1", b"\x00\x00\x04\x00")?;
-    read(rt, b"K2", b"\x0f\xff\x05\x00")?;
-    read(rt, b"K3", b"\x10\x00\x08\x01")?;
-    read(rt, b"K4", b"\x00\x00\x08\x00")?;
-    read(rt, b"K5", b"\x00\x00\x04\x01")?;
-    read(rt, b"K6", b"\x00\x00\x04")?;
+    read(rt, "K1", b"\x00\x00\x04\x00")?;
+    read(rt, "K2", b"\x0f\xff\x05\x00")?;
+    read(rt, "K3", b"\x10\x00\x08\x01")?;
+    read(rt, "K4", b"\x00\x00\x08\x00")?;
+    read(rt, "K5", b"\x00\x00\x04\x01")?;
+    read(rt, "K6", b"\x00\x00\x04")?;
     read(
         rt,
-        b"K7",
+        "K7",
         b"\x00\x01\x01\x00\x00\x00\x00\x00\x00\x00\x00\x00",
     )?;
     read(
         rt,
-        b"K8",
+        "K8",
         b"\x00\x01\x01\x00\x00\x00\x00\x01\x61\x00\x00\x01",
     )?;
-    read(rt, b"K9", b"\x00\x02\x03\x00\x00\x00\x00\x00")?;
+    read(rt, "K9", b"\x00\x02\x03\x00\x00\x00\x00\x00")?;
     read(
         rt,
-        b"K9 and more",
+        "K9 and more",
         b"\x00\x02\x03\x00\x00\x00\x00\x00\xff\xff",
     )?;
     read(
         rt,
-        b"an Index that ends after its header",
+        "an Index that ends after its header",
         b"\x00\x00\x01\x00",
     )
 }
 
-// What a writer answered: the bytes written and what reading gives of them, or the refusal and whether the buffer is as it was.
-fn written(rt: &impl Print, label: &[u8], w: Filling, out: &[u8]) -> io::Result<()> {
-    lines::text(rt, label)?;
-    match w {
-        Filling::Filled(n) => {
-            number(rt, b": filled ", n as u64)?;
-            lines::text(rt, b", ")?;
+// What a writer answers with room for so many bytes in a new buffer: the bytes written and what reading gives of them, or the refusal and whether
+// the buffer is as it was.
+fn written<F: FnOnce(&mut [u8]) -> Result<usize, Refusal>>(
+    rt: &impl Print,
+    label: &str,
+    room: usize,
+    write: F,
+) -> io::Result<()>
+    requires { F.IsAlwaysCallable write }
+{
+    let mut out = [0xeeu8; 160];
+    if room > out.len() {
+        return Ok(());
+    }
+    let answer = write(&mut out[..room]);
+    print!(rt; "{label}")?;
+    match answer {
+        Ok(n) => {
+            print!(rt; ": filled {n}, ")?;
             if n <= out.len() {
-                read(rt, b"back", &out[0..n])?;
+                read(rt, "back", &out[..n])?;
             }
             Ok(())
         }
-        Filling::Refused(r) => lines::refused(rt, out, r),
+        Err(r) => lines::refused(rt, &out, r),
     }
 }
 
-// Each writer with a buffer of so many bytes, of which the last are left as they were.
 fn write_ping(rt: &impl Print, room: usize, id: u32) -> io::Result<()> {
-    let mut out = [0xeeu8; 8];
-    ping_into(rt, &mut out, room, id)
-}
-
-fn ping_into(rt: &impl Print, out: &mut [u8], room: usize, id: u32) -> io::Result<()> {
-    if room <= out.len() {
-        let w = message_write::write_ping(&mut out[0..room], id);
-        written(rt, b"write_ping", w, out)?;
-    }
-    Ok(())
+    written(rt, "write_ping", room, |out| {
+        message_write::write_ping(out, id)
+    })
 }
 
 fn write_pong(rt: &impl Print, room: usize, id: u32) -> io::Result<()> {
-    let mut out = [0xeeu8; 8];
-    pong_into(rt, &mut out, room, id)
-}
-
-fn pong_into(rt: &impl Print, out: &mut [u8], room: usize, id: u32) -> io::Result<()> {
-    if room <= out.len() {
-        let w = message_write::write_pong(&mut out[0..room], id);
-        written(rt, b"write_pong", w, out)?;
-    }
-    Ok(())
+    written(rt, "write_pong", room, |out| {
+        message_write::write_pong(out, id)
+    })
 }
 
 fn write_index(rt: &impl Print, room: usize, repository: &[u8], files: &[u8]) -> io::Result<()> {
-    let mut out = [0xeeu8; 160];
-    index_into(rt, &mut out, room, repository, files)
-}
-
-fn index_into(
-    rt: &impl Print,
-    out: &mut [u8],
-    room: usize,
-    repository: &[u8],
-    files: &[u8],
-) -> io::Result<()> {
-    if room <= out.len() {
-        let w = message_write::write_index(&mut out[0..room], 1, repository, files);
-        written(rt, b"write_index", w, out)?;
-    }
-    Ok(())
+    written(rt, "write_index", room, |out| {
+        message_write::write_index(out, 1, repository, files)
+    })
 }
 
 fn write_update(rt: &impl Print, repository: &[u8], files: &[u8]) -> io::Result<()> {
-    let mut out = [0xeeu8; 48];
-    let w = message_write::write_index_update(&mut out, 4095, repository, files);
-    written(rt, b"write_index_update", w, &out)
+    written(rt, "write_index_update", 48, |out| {
+        message_write::write_index_update(out, 4095, repository, files)
+    })
 }
 
 fn write_request(
@@ -193,54 +163,30 @@ fn write_request(
     size: u32,
     hash: &[u8],
 ) -> io::Result<()> {
-    let mut out = [0xeeu8; 80];
-    request_into(rt, &mut out, room, name, size, hash)
-}
-
-fn request_into(
-    rt: &impl Print,
-    out: &mut [u8],
-    room: usize,
-    name: &[u8],
-    size: u32,
-    hash: &[u8],
-) -> io::Result<()> {
-    if room <= out.len() {
-        let w = message_write::write_request(&mut out[0..room], 2, b"r", name, 131072, size, hash);
-        written(rt, b"write_request", w, out)?;
-    }
-    Ok(())
+    written(rt, "write_request", room, |out| {
+        message_write::write_request(out, 2, b"r", name, 131072, size, hash)
+    })
 }
 
 fn write_response(rt: &impl Print, data: &[u8]) -> io::Result<()> {
-    let mut out = [0xeeu8; 20];
-    let w = message_write::write_response(&mut out, 3, data);
-    written(rt, b"write_response", w, &out)
+    written(rt, "write_response", 20, |out| {
+        message_write::write_response(out, 3, data)
+    })
 }
 
 fn write_options(rt: &impl Print, options: &[u8]) -> io::Result<()> {
-    let mut out = [0xeeu8; 48];
-    let w = message_write::write_options(&mut out, 7, options);
-    written(rt, b"write_options", w, &out)
+    written(rt, "write_options", 48, |out| {
+        message_write::write_options(out, 7, options)
+    })
 }
 
 // A file array with one file of no blocks, cut to each length.
 fn array_cuts(rt: &impl Print) -> io::Result<()> {
     let files =
         b"\x00\x00\x00\x01\x00\x00\x00\x01b\x00\x00\x00\x00\x00\x01\xa4\x00\x00\x00\x00\x00\x00\x00\x09\x00\x00\x00\x02\x00\x00\x00\x00";
-    for n in 0..32 {
-        cut_into(rt, files, n)?;
-    }
-    Ok(())
-}
-
-fn cut_into(rt: &impl Print, files: &[u8], n: usize) -> io::Result<()> {
-    let mut out = [0xeeu8; 48];
-    if n <= files.len() {
-        let w = message_write::write_index(&mut out, 1, b"r", &files[0..n]);
-        number(rt, b"cut to ", n as u64)?;
-        lines::text(rt, b", ")?;
-        written(rt, b"write_index", w, &out)?;
+    for n in 0..files.len() {
+        print!(rt; "cut to {n}, ")?;
+        write_index(rt, 48, b"r", &files[..n])?;
     }
     Ok(())
 }
@@ -265,7 +211,7 @@ fn index_writers(rt: &impl Print) -> io::Result<()> {
 }
 
 fn repository_writers(rt: &impl Print) -> io::Result<()> {
-    let long = [0x61u8; 65];
+    let long = [b'a'; 65];
     write_index(rt, 160, &long[..64], b"\x00\x00\x00\x00")?;
     write_index(rt, 160, &long, b"\x00\x00\x00\x00")?;
     write_index(rt, 160, b"\x80", b"\x00\x00\x00\x00")?;
@@ -313,12 +259,12 @@ pub fn writers(rt: &impl Print) -> io::Result<()> {
 pub fn names(rt: &impl Print) -> io::Result<()> {
     read(
         rt,
-        b"an Index with ../show.mov",
+        "an Index with ../show.mov",
         b"\x00\x01\x01\x00\x00\x00\x00\x00\x00\x00\x00\x01\x00\x00\x00\x0b../show.mov\x00\x00\x00\x00\x00\x00\x00\x00\x00\x00\x00\x00\x00\x00\x00\x00\x00\x00\x00\x00\x00",
     )?;
     read(
         rt,
-        b"a Request of a//b",
+        "a Request of a//b",
         b"\x00\x02\x02\x00\x00\x00\x00\x01r\x00\x00\x00\x00\x00\x00\x04a//b\x00\x00\x00\x00\x00\x00\x00\x00\x00\x00\x00\x05\x00\x00\x00\x20abcdefghijklmnopabcdefghijklmnop",
     )?;
     write_index(

@@ -1,9 +1,10 @@
 -- What the extent of a message tells of the message that was read.
+use Rattle.std.specs.Prelude.{Ok, Err}
+use Rattle.std.specs.declared.result.Result.{Result}
 use Prim.Native.Nat.{ℕ}
 use mathlib.Core.List.{List}
 use mathlib.Core.Path.{◌≡◌, refl, sym, ap, ◌∙◌}
 use mathlib.Core.Bool.{Bool, true, false, cond, true≢false}
-use native.Mathlib.Omega.{arith}
 use Rattle.xdr.specs.Reading.{Reading, taken, refused}
 use Rattle.xdr.specs.Format.{read, read_at}
 use Rattle.xdr.specs.declared.answer.Refusal.{Refusal}
@@ -19,9 +20,9 @@ use Rattle.edition.specs.declared.extent.Extent.{Extent}
 use Rattle.edition.specs.declared.extent.Extent.TheVariants as X
 
 -- the extent of a message that was taken goes by its kind
-abbrev pub extent_by : (named : Bool) (end : ℕ) → Extent
-extent_by true n = X.Named n
-extent_by false n = X.Same n
+abbrev pub extent_by : (named : Bool) (end : ℕ) → Result Extent Refusal
+extent_by true n = Ok (X.Named n)
+extent_by false n = Ok (X.Same n)
 
 extent_kind : (e : Edition) (k : Kind) (b : Body e k) (id n : ℕ) → extent_of (body_answer e k id (taken b n)) ≡ extent_by (has_repository k) n
 extent_kind e is_index b id n = refl
@@ -43,13 +44,13 @@ options_kind e is_options b id n = refl
 
 same_extent : (a b : Bool) (n m : ℕ) → extent_by a n ≡ extent_by b m → (a ≡ b) × (n ≡ m)
 same_extent true true n m e = (refl, cc)
-same_extent true false n m e = let z : ◌≡◌ {A = ℕ} 0 1 = cc in absurd (omega arith)
-same_extent false true n m e = let z : ◌≡◌ {A = ℕ} 0 1 = cc in absurd (omega arith)
+same_extent true false n m e = cc
+same_extent false true n m e = cc
 same_extent false false n m e = (refl, cc)
 
-not_refused : (a : Bool) (n : ℕ) {r : Refusal} {P : Type 0} → extent_by a n ≡ X.Refused r → P
-not_refused true n e = let z : ◌≡◌ {A = ℕ} 0 1 = cc in absurd (omega arith)
-not_refused false n e = let z : ◌≡◌ {A = ℕ} 0 1 = cc in absurd (omega arith)
+not_refused : (a : Bool) (n : ℕ) {r : Refusal} {P : Type 0} → extent_by a n ≡ Err r → P
+not_refused true n e = cc
+not_refused false n e = cc
 
 both_kind : (b : Bool) → cond b false true ≡ false → b ≡ true
 both_kind true e = refl
@@ -65,12 +66,12 @@ pub record Sent (e : Edition) (s : List ℕ) (named : Bool) (end : ℕ) : Type 0
   pub reads : read (message e) s ≡ taken value end
   pub kind : has_repository (kind_in value.0) ≡ named
 
-module _ (e : Edition) (s : List ℕ) {m : Message} (a : m ≡ message_in e s) where
+module _ (e : Edition) (s : List ℕ) {m : Result Message Refusal} (a : m ≡ message_in e s) where
   answered : m ≡ message_answer e (read (message e) s)
   unfolding read_at
   answered = a ∙ ap (message_answer e) (shifted_zero (read (message e) s))
 
-  pub sent : {x : Extent} (named : Bool) (end : ℕ) → x ≡ extent_of m → x ≡ extent_by named end → Sent e s named end
+  pub sent : {x : Result Extent Refusal} (named : Bool) (end : ℕ) → x ≡ extent_of m → x ≡ extent_by named end → Sent e s named end
   sent {x} named end f g = go (read (message e) s) refl
     where
       told : extent_by named end ≡ extent_of (message_answer e (read (message e) s))
@@ -83,17 +84,17 @@ module _ (e : Edition) (s : List ℕ) {m : Message} (a : m ≡ message_in e s) w
       go (refused k p) q = not_refused named end (told ∙ ap (λ (r : Reading (MessageValue e)). extent_of (message_answer e r)) q)
 
   -- one that was not
-  pub unsent : {x : Extent} {r : Refusal} → x ≡ extent_of m → x ≡ X.Refused r → read (message e) s ≡ refused r.number r.place
+  pub unsent : {x : Result Extent Refusal} {r : Refusal} → x ≡ extent_of m → x ≡ Err r → read (message e) s ≡ refused r.number r.place
   unsent {x} {r} f g = go (read (message e) s) refl
     where
-      told : extent_of (message_answer e (read (message e) s)) ≡ X.Refused r
+      told : extent_of (message_answer e (read (message e) s)) ≡ Err r
       told = ap extent_of (sym answered) ∙ sym f ∙ g
 
       go : (y : Reading (MessageValue e)) → read (message e) s ≡ y → read (message e) s ≡ refused r.number r.place
       go (taken v n) q =
           not_refused (has_repository (kind_in v.0)) n (sym (extent_kind e (kind_in v.0) v.1 (id_of v.0) n) ∙ ap (λ (y : Reading (MessageValue e)). extent_of (message_answer e y)) (sym q) ∙ told)
       go (refused k p) q =
-          let same : X.Refused (record { number = k; place = p }) ≡ X.Refused r = ap (λ (y : Reading (MessageValue e)). extent_of (message_answer e y)) (sym q) ∙ told in
+          let same : ◌≡◌ {A = Result Extent Refusal} (Err (record { number = k; place = p })) (Err r) = ap (λ (y : Reading (MessageValue e)). extent_of (message_answer e y)) (sym q) ∙ told in
           let number : k ≡ r.number = cc in
           let place : p ≡ r.place = cc in
           q ∙ ap (λ (i : ℕ). refused i p) number ∙ ap (λ (i : ℕ). refused r.number i) place
@@ -119,7 +120,7 @@ module _ (e : Edition) (s : List ℕ) {m : Message} (a : m ≡ message_in e s) w
 
 -- a Response that was read by itself
 pub response_sent : (e : Edition) {s : List ℕ} {end : ℕ} → ResponseTo e s end → Sent e s false end
-response_sent e {s} {end} h = sent e s (sym h.is) false end refl (ap X.Same h.ends)
+response_sent e {s} {end} h = sent e s (sym h.is) false end refl (ap (λ (n : ℕ). Ok (X.Same n)) h.ends)
 
 pub response_others : (e : Edition) {s : List ℕ} {end : ℕ} → ResponseTo e s end → is_options_in (message_in e s) ≡ false
 response_others e h = ap is_options_in h.is

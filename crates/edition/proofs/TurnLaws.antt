@@ -1,5 +1,5 @@
 -- The bytes of a message that is turned: its header stays, and so do the fields behind the Repository.
-use Prim.Native.Nat.{ℕ, ◌+◌, ◌-◌, ◌≤◌}
+use Prim.Native.Nat.{ℕ, ◌+◌, ◌≤◌}
 use mathlib.Core.List.{List, ◌++◌, append_assoc}
 use mathlib.Core.Path.{◌≡◌, refl, sym, ap, ◌∙◌}
 use mathlib.Core.Bool.{Bool, true, false, true≢false}
@@ -104,10 +104,6 @@ bytes_of {e} {s} {named} {end} b x =
       long = omega (arith, ap length split, length-append h t, size);
       valid = q.1.1;
     }
-
--- its bytes as the part of a slice from the start on
-pub whole_part : {e : Edition} {s : List ℕ} {named : Bool} {end : ℕ} → Sent e s named end → Sent e s named (end - 0)
-whole_part {e} {s} {named} {end} x = let same : end - 0 ≡ end = omega arith in rw same x
 
 -- a message ends within the bytes that it was read from, behind its header
 pub sent_within : {e : Edition} {s : List ℕ} {named : Bool} {end : ℕ} → Sent e s named end → end ≤ length s

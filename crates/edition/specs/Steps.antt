@@ -1,4 +1,7 @@
 -- Turning the bytes of a message that was read: its header and its other fields stay as they are.
+use Rattle.std.specs.Prelude.{Ok, Err}
+use Rattle.std.specs.declared.result.Result.{Result}
+use Rattle.xdr.specs.declared.answer.Refusal.{Refusal}
 use Rattle.std.specs.Prelude.{ℕ, List, ◌++◌, ◌≡◌, Bool, true, false, take, drop}
 use Rattle.xdr.specs.Reading.{Reading, taken, refused}
 use Rattle.xdr.specs.Format.{read_at}
@@ -17,33 +20,33 @@ use Rattle.edition.specs.declared.extent.Extent.{Extent}
 use Rattle.edition.specs.declared.extent.Extent.TheVariants as X
 
 -- what of a message stays
-abbrev pub extent_of : Message → Extent
-extent_of (M.Index id x) = X.Named x.end
-extent_of (M.Request id x) = X.Named x.end
-extent_of (M.Response id x) = X.Same x.end
-extent_of (M.Ping id end) = X.Same end
-extent_of (M.Pong id end) = X.Same end
-extent_of (M.IndexUpdate id x) = X.Named x.end
-extent_of (M.Options id x) = X.Same x.end
-extent_of (M.Refused r) = X.Refused r
+abbrev pub extent_of : Result Message Refusal → Result Extent Refusal
+extent_of (Ok (M.Index id x)) = Ok (X.Named x.end)
+extent_of (Ok (M.Request id x)) = Ok (X.Named x.end)
+extent_of (Ok (M.Response id x)) = Ok (X.Same x.end)
+extent_of (Ok (M.Ping id end)) = Ok (X.Same end)
+extent_of (Ok (M.Pong id end)) = Ok (X.Same end)
+extent_of (Ok (M.IndexUpdate id x)) = Ok (X.Named x.end)
+extent_of (Ok (M.Options id x)) = Ok (X.Same x.end)
+extent_of (Err r) = Err r
 
 -- a Response at the front of some bytes, up to a place
 pub record ResponseTo (e : Edition) (s : List ℕ) (end : ℕ) : Type 0 where
   pub id : ℕ
   pub span : ResponseSpan
-  pub is : message_in e s ≡ M.Response id span
+  pub is : message_in e s ≡ Ok (M.Response id span)
   pub ends : span.end ≡ end
 
 -- whether it is Options
-abbrev pub is_options_in : Message → Bool
-is_options_in (M.Index id x) = false
-is_options_in (M.Request id x) = false
-is_options_in (M.Response id x) = false
-is_options_in (M.Ping id end) = false
-is_options_in (M.Pong id end) = false
-is_options_in (M.IndexUpdate id x) = false
-is_options_in (M.Options id x) = true
-is_options_in (M.Refused r) = false
+abbrev pub is_options_in : Result Message Refusal → Bool
+is_options_in (Ok (M.Index id x)) = false
+is_options_in (Ok (M.Request id x)) = false
+is_options_in (Ok (M.Response id x)) = false
+is_options_in (Ok (M.Ping id end)) = false
+is_options_in (Ok (M.Pong id end)) = false
+is_options_in (Ok (M.IndexUpdate id x)) = false
+is_options_in (Ok (M.Options id x)) = true
+is_options_in (Err r) = false
 
 -- the bytes of an old message with a Repository behind the header
 abbrev pub with_repository : (old repository : List ℕ) → Outcome

@@ -1,5 +1,5 @@
 // Up, with a Repository that is given, and down, without the Repository: the header and the other fields are the same bytes in both editions.
-ghost use Rattle.std.specs.Prelude.{◌≤◌, length};
+ghost use Rattle.std.specs.Prelude.{◌≤◌, length, IfSome};
 ghost use Rattle.xdr.specs.Filling.{gives, Fills};
 ghost use Rattle.edition.specs.Steps.{ResponseTo, with_repository, without_repository};
 ghost use Rattle.edition.specs.Turning.{upgrading, downgrading};
@@ -8,10 +8,10 @@ use crate::extent::{Extent, extent_of, is_options};
 use message::header::{read_header, type_of};
 use message::{DATA_LIMIT, Edition, REPOSITORY_LIMIT};
 use message_write::check_text;
-use xdr::{Bytes, Filling, Refusal, Word};
+use xdr::Refusal;
 
 // A message as it is.
-fn whole(m: &[u8], out: &mut [u8]) -> Filling
+fn whole(m: &[u8], out: &mut [u8]) -> Result<usize, Refusal>
     ensures { Fills (gives m.now) out.old result out.new }
 {
     let n = m.len();
@@ -19,21 +19,22 @@ fn whole(m: &[u8], out: &mut [u8]) -> Filling
         return xdr::refused(14);
     }
     xdr::put_raw(out, 0, m);
-    Filling::Filled(n)
+    Ok(n)
 }
 
 // An old message with a Repository behind its header, once that is checked.
-fn with_repository(m: &[u8], repository: &[u8], out: &mut [u8]) -> Filling
+fn with_repository(m: &[u8], repository: &[u8], out: &mut [u8]) -> Result<usize, Refusal>
     requires { 4 ≤ length m.now }
     ensures { Fills (with_repository m.now repository.now) out.old result out.new }
 {
-    let checked = check_text(repository, REPOSITORY_LIMIT);
-    let Bytes::Taken(_, size) = checked else {
-        let refusal = checked.refusal();
-        return Filling::Refused(Refusal {
-            number: refusal.number,
-            place: 4 + refusal.place,
-        });
+    let size = match check_text(repository, REPOSITORY_LIMIT) {
+        Ok((_, size)) => size,
+        Err(r) => {
+            return Err(Refusal {
+                number: r.number,
+                place: 4 + r.place,
+            });
+        }
     };
     let n = size + m.len();
     if out.len() < n {
@@ -42,78 +43,63 @@ fn with_repository(m: &[u8], repository: &[u8], out: &mut [u8]) -> Filling
     xdr::put_raw(out, 0, &m[0..4]);
     xdr::put_bytes(out, 4, repository);
     xdr::put_raw(out, 4 + size, &m[4..]);
-    Filling::Filled(n)
+    Ok(n)
 }
 
 // A new message without the Repository behind its header.
-fn without_repository(m: &[u8], out: &mut [u8]) -> Filling
+fn without_repository(m: &[u8], out: &mut [u8]) -> Result<usize, Refusal>
     requires { 4 ≤ length m.now }
     ensures { Fills (without_repository m.now) out.old result out.new }
 {
-    let repository = xdr::read_bytes(m, 4, REPOSITORY_LIMIT);
-    let Bytes::Taken(_, rest) = repository else {
-        return Filling::Refused(repository.refusal());
-    };
+    let (_, rest) = xdr::read_bytes(m, 4, REPOSITORY_LIMIT)?;
     let n = 4 + (m.len() - rest);
     if out.len() < n {
         return xdr::refused(14);
     }
     xdr::put_raw(out, 0, &m[0..4]);
     xdr::put_raw(out, 4, &m[rest..]);
-    Filling::Filled(n)
+    Ok(n)
 }
 
-// Where a Response at the front of some bytes ends, 0 where there is none: it is the same in both editions, and long, so that its copy should be
-// all there is to do.
-fn response_end(edition: Edition, m: &[u8]) -> usize
-    ensures { 1 ≤ result → ResponseTo edition m.now result }
+// Where a Response at the front of some bytes ends, if there is one: it is the same in both editions, and long, so that its copy should be all
+// there is to do.
+fn response_end(edition: Edition, m: &[u8]) -> Option<usize>
+    ensures { IfSome result (λ end. ResponseTo edition m.now end) }
 {
-    let head = read_header(edition, m);
-    let Word::Taken(h, _) = head else {
-        return 0;
-    };
+    let (h, _) = read_header(edition, m).ok()?;
     if type_of(h) != 3 {
-        return 0;
+        return None;
     }
-    let data = xdr::read_bytes(m, 4, DATA_LIMIT);
-    let Bytes::Taken(_, end) = data else {
-        return 0;
-    };
-    end
+    let (_, end) = xdr::read_bytes(m, 4, DATA_LIMIT).ok()?;
+    Some(end)
 }
 
 // An old message becomes a new one: it is read, then the Repository is checked if the message is to have one.
-pub fn upgrade(message: &[u8], repository: &[u8], out: &mut [u8]) -> Filling
+pub fn upgrade(message: &[u8], repository: &[u8], out: &mut [u8]) -> Result<usize, Refusal>
     ensures { Fills (upgrading message.now repository.now) out.old result out.new }
 {
-    let response = response_end(Edition::Old, message);
-    if response != 0 {
-        return whole(&message[0..response], out);
+    if let Some(end) = response_end(Edition::Old, message) {
+        return whole(&message[..end], out);
     }
-    let extent = extent_of(message::read(Edition::Old, message));
-    match extent {
-        Extent::Named(end) => with_repository(&message[0..end], repository, out),
-        Extent::Same(end) => whole(&message[0..end], out),
-        Extent::Refused(r) => Filling::Refused(r),
+    match extent_of(message::read(Edition::Old, message))? {
+        Extent::Named(end) => with_repository(&message[..end], repository, out),
+        Extent::Same(end) => whole(&message[..end], out),
     }
 }
 
 // A new message becomes an old one, without its Repository: Options have no meaning there.
-pub fn downgrade(message: &[u8], out: &mut [u8]) -> Filling
+pub fn downgrade(message: &[u8], out: &mut [u8]) -> Result<usize, Refusal>
     ensures { Fills (downgrading message.now) out.old result out.new }
 {
-    let response = response_end(Edition::New, message);
-    if response != 0 {
-        return whole(&message[0..response], out);
+    if let Some(end) = response_end(Edition::New, message) {
+        return whole(&message[..end], out);
     }
     let m = message::read(Edition::New, message);
     if is_options(m) {
         return xdr::refused(18);
     }
-    let extent = extent_of(m);
-    match extent {
-        Extent::Named(end) => without_repository(&message[0..end], out),
-        Extent::Same(end) => whole(&message[0..end], out),
-        Extent::Refused(r) => Filling::Refused(r),
+    match extent_of(m)? {
+        Extent::Named(end) => without_repository(&message[..end], out),
+        Extent::Same(end) => whole(&message[..end], out),
     }
 }

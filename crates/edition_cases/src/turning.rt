@@ -1,43 +1,16 @@
 // Messages of one edition that become messages of the other.
 use crate::writing::left;
+use lines::Hex;
 use std::io;
 
 fn upgrade(rt: &impl Print, m: &[u8], repository: &[u8], room: usize) -> io::Result<()> {
-    lines::text(rt, b"up ")?;
-    lines::bytes(rt, m)?;
-    lines::text(rt, b" with ")?;
-    lines::bytes(rt, repository)?;
-    let mut out = [0xeeu8; 64];
-    upgrade_into(rt, m, repository, &mut out, room)
-}
-
-fn upgrade_into(
-    rt: &impl Print,
-    m: &[u8],
-    repository: &[u8],
-    out: &mut [u8],
-    room: usize,
-) -> io::Result<()> {
-    if room <= out.len() {
-        let w = edition::upgrade(m, repository, &mut out[0..room]);
-        left(rt, b"", w, out)?;
-    }
-    Ok(())
+    print!(rt; "up {} with {}", Hex(m), Hex(repository))?;
+    left(rt, room, |out| edition::upgrade(m, repository, out))
 }
 
 fn downgrade(rt: &impl Print, m: &[u8], room: usize) -> io::Result<()> {
-    lines::text(rt, b"down ")?;
-    lines::bytes(rt, m)?;
-    let mut out = [0xeeu8; 64];
-    downgrade_into(rt, m, &mut out, room)
-}
-
-fn downgrade_into(rt: &impl Print, m: &[u8], out: &mut [u8], room: usize) -> io::Result<()> {
-    if room <= out.len() {
-        let w = edition::downgrade(m, &mut out[0..room]);
-        left(rt, b"", w, out)?;
-    }
-    Ok(())
+    print!(rt; "down {}", Hex(m))?;
+    left(rt, room, |out| edition::downgrade(m, out))
 }
 
 // An Index and an IndexUpdate get the Repository, a Response, a Ping and a Pong stay as they are and don't look at it. It is checked once

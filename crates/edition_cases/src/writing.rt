@@ -1,79 +1,45 @@
 // The writers of the old edition.
+use lines::Hex;
 use std::io;
-use xdr::Filling;
+use xdr::Refusal;
 
-// What a call left in a buffer: the bytes, or the refusal and whether the buffer is as it was.
-pub fn left(rt: &impl Print, label: &[u8], w: Filling, out: &[u8]) -> io::Result<()> {
-    lines::text(rt, label)?;
-    match w {
-        Filling::Filled(n) => {
-            lines::text(rt, b": ")?;
-            if n <= out.len() {
-                lines::bytes(rt, &out[0..n])?;
-            }
-            lines::text(rt, b"\n")
-        }
-        Filling::Refused(r) => lines::refused(rt, out, r),
+// What a call with room for so many bytes leaves in a new buffer: the bytes, or the refusal and whether the buffer is as it was.
+pub(crate) fn left<F: FnOnce(&mut [u8]) -> Result<usize, Refusal>>(
+    rt: &impl Print,
+    room: usize,
+    write: F,
+) -> io::Result<()>
+    requires { F.IsAlwaysCallable write }
+{
+    let mut out = [0xeeu8; 64];
+    if room > out.len() {
+        return Ok(());
+    }
+    match write(&mut out[..room]) {
+        Ok(n) => println!(rt; ": {}", Hex(out.get(..n).unwrap_or(b""))),
+        Err(r) => lines::refused(rt, &out, r),
     }
 }
 
 fn index(rt: &impl Print, id: u32, files: &[u8], room: usize) -> io::Result<()> {
-    let mut out = [0xeeu8; 64];
-    index_into(rt, &mut out, id, files, room)
-}
-
-fn index_into(
-    rt: &impl Print,
-    out: &mut [u8],
-    id: u32,
-    files: &[u8],
-    room: usize,
-) -> io::Result<()> {
-    if room <= out.len() {
-        let w = message_write::write_old_index(&mut out[0..room], id, files);
-        left(rt, b"write_old_index", w, out)?;
-    }
-    Ok(())
+    print!(rt; "write_old_index")?;
+    left(rt, room, |out| {
+        message_write::write_old_index(out, id, files)
+    })
 }
 
 fn update(rt: &impl Print, id: u32, files: &[u8], room: usize) -> io::Result<()> {
-    let mut out = [0xeeu8; 64];
-    update_into(rt, &mut out, id, files, room)
-}
-
-fn update_into(
-    rt: &impl Print,
-    out: &mut [u8],
-    id: u32,
-    files: &[u8],
-    room: usize,
-) -> io::Result<()> {
-    if room <= out.len() {
-        let w = message_write::write_old_index_update(&mut out[0..room], id, files);
-        left(rt, b"write_old_index_update", w, out)?;
-    }
-    Ok(())
+    print!(rt; "write_old_index_update")?;
+    left(rt, room, |out| {
+        message_write::write_old_index_update(out, id, files)
+    })
 }
 
 fn request(rt: &impl Print, id: u32, name: &[u8], size: u32, room: usize) -> io::Result<()> {
-    let mut out = [0xeeu8; 64];
-    request_into(rt, &mut out, id, name, size, room)
-}
-
-fn request_into(
-    rt: &impl Print,
-    out: &mut [u8],
-    id: u32,
-    name: &[u8],
-    size: u32,
-    room: usize,
-) -> io::Result<()> {
-    if room <= out.len() {
-        let hash = [0xabu8; 32];
-        let w = message_write::write_old_request(&mut out[0..room], id, name, 7, size, &hash);
-        left(rt, b"write_old_request", w, out)?;
-    }
-    Ok(())
+    print!(rt; "write_old_request")?;
+    left(rt, room, |out| {
+        message_write::write_old_request(out, id, name, 7, size, &[0xabu8; 32])
+    })
 }
 
 // Each of them, with room, with a byte too little, and with a fault.

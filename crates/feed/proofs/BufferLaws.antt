@@ -1,4 +1,5 @@
 -- The bytes of a word that have come, and bytes that are passed over.
+use Rattle.std.specs.Prelude.{Ok, None}
 use Prim.Native.Nat.{ℕ, zero, suc, ◌+◌, ◌*◌, ◌/◌, ◌%◌, ◌≤◌, ◌<◌}
 use mathlib.Core.List.{List, ◌∷◌, ◌++◌, append_assoc}
 use mathlib.Core.Path.{◌≡◌, refl, sym, ap, ◌∙◌}
@@ -13,7 +14,6 @@ use lib.Dec.{leb}
 use Rattle.xdr.specs.Number.{big_endian}
 use Rattle.feed.specs.Onward.{Rest, skipping}
 use Rattle.feed.specs.Rest.{buffered}
-use Rattle.feed.specs.declared.state.Answer.TheVariants as A
 
 pub length_buffered : (c v : ℕ) → length (buffered c v) ≡ c
 length_buffered zero v = refl
@@ -43,7 +43,7 @@ leb_shift m a b = go (dec_le a b)
 -- some of the bytes that are passed over
 pub skipping_more : (n m : ℕ) (k : Rest) (at : ℕ) (p t : List ℕ) → length p ≡ m → skipping (m + n) k at (p ++ t) ≡ skipping n k (at + m) t
 skipping_more n m k at p t e =
-    ap (λ (x : ℕ). cond (leb (m + n) x) (k (at + (m + n)) (drop (m + n) (p ++ t))) A.Waiting) (length-append p t ∙ ap (λ (x : ℕ). x + length t) e)
-    ∙ ap (λ (x : List ℕ). cond (leb (m + n) (m + length t)) (k (at + (m + n)) x) A.Waiting) (ap (λ (x : ℕ). drop (x + n) (p ++ t)) (sym e) ∙ drop-append-add p t n)
-    ∙ ap (λ (x : ℕ). cond (leb (m + n) (m + length t)) (k x (drop n t)) A.Waiting) (sym (add_assoc at m n))
-    ∙ ap (λ (x : Bool). cond x (k (at + m + n) (drop n t)) A.Waiting) (leb_shift m n (length t))
+    ap (λ (x : ℕ). cond (leb (m + n) x) (k (at + (m + n)) (drop (m + n) (p ++ t))) (Ok None)) (length-append p t ∙ ap (λ (x : ℕ). x + length t) e)
+    ∙ ap (λ (x : List ℕ). cond (leb (m + n) (m + length t)) (k (at + (m + n)) x) (Ok None)) (ap (λ (x : ℕ). drop (x + n) (p ++ t)) (sym e) ∙ drop-append-add p t n)
+    ∙ ap (λ (x : ℕ). cond (leb (m + n) (m + length t)) (k x (drop n t)) (Ok None)) (sym (add_assoc at m n))
+    ∙ ap (λ (x : Bool). cond x (k (at + m + n) (drop n t)) (Ok None)) (leb_shift m n (length t))

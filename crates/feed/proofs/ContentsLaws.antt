@@ -1,4 +1,5 @@
 -- Several bytes of contents at once.
+use Rattle.std.specs.Prelude.{Ok, None}
 use Prim.Native.Nat.{ℕ, ◌+◌, ◌-◌, ◌≤◌, ◌<◌}
 use mathlib.Core.List.{List, ◌++◌, append_assoc}
 use mathlib.Core.Path.{◌≡◌, refl, sym, ap, subst, ◌∙◌}
@@ -15,8 +16,7 @@ use Rattle.feed.specs.Rest.{rest_of, scanned, zeros_from, whole_string, contents
 use Rattle.feed.specs.Sound.{Inside, Sound, reached}
 use Rattle.feed.specs.Steps.Next.{settled}
 use Rattle.feed.specs.Steps.Moves.{Moves}
-use Rattle.feed.specs.declared.state.Answer.{Answer}
-use Rattle.feed.specs.declared.state.Answer.TheVariants as A
+use Rattle.feed.specs.Answer.{Answer}
 use Rattle.feed.specs.declared.state.Cursor.{Cursor}
 use Rattle.feed.specs.declared.state.Moved.{Moved}
 use Rattle.feed.specs.declared.state.Scan.{Scan}
@@ -41,11 +41,11 @@ contents_run rule k place n i c z q zeros bad p t =
     ∙ ap (λ (x : Scan). last (leb (c + z) (length t)) x) (scanned_append rule p (take c t) q i)
   where
     last : Bool → Scan → Answer
-    last there x = cond there (whole_string rule k place n (zeros_from zeros bad (take z (drop c t))) x (drop (c + z) t)) A.Waiting
+    last there x = cond there (whole_string rule k place n (zeros_from zeros bad (take z (drop c t))) x (drop (c + z) t)) (Ok None)
 
     body : ℕ → List ℕ → List ℕ → List ℕ → Answer
     body m pad text after =
-        cond (leb m (length (p ++ t))) (whole_string rule k place n (zeros_from zeros bad pad) (scanned rule q i text) after) A.Waiting
+        cond (leb m (length (p ++ t))) (whole_string rule k place n (zeros_from zeros bad pad) (scanned rule q i text) after) (Ok None)
 
 -- the part of a string that is there
 pub contents_moves : (st : Cursor) (part : List ℕ) (r : Moved) (l : StringField) (k : ℕ) → Sound st → st.goal ≡ G.String l → 3 < st.have

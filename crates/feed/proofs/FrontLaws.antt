@@ -1,4 +1,5 @@
 -- The first bytes of a message.
+use Rattle.std.specs.Prelude.{Some, None}
 use Prim.Native.Nat.{ℕ, zero, suc, ◌+◌, ◌*◌, ◌^◌, ◌≤◌, ◌<◌}
 use mathlib.Core.List.{List, [], ◌∷◌, ◌++◌}
 use mathlib.Core.Path.{◌≡◌, refl, sym, ap, ◌∙◌}
@@ -11,10 +12,8 @@ use lib.ListN.{length, get_or, drop, drop_of_length-le}
 use lib.Seq.{drop-cons}
 use lib.Dec.{leb, eqb}
 use Rattle.xdr.specs.Number.{big_endian}
-use Rattle.message.specs.Header.{type_of, id_of}
-use Rattle.feed.specs.Front.{no_front, front_after, header_in, header_of, FrontFits, FrontOver}
+use Rattle.feed.specs.Front.{no_front, front_after, header_in, header_of, FrontFits, FrontOver, header_fields}
 use Rattle.feed.specs.declared.state.Front.{Front}
-use Rattle.feed.specs.declared.state.Header.TheVariants as H
 
 -- four bytes stay as they are
 front_full : (f : Front) (l : List ℕ) → f.have ≡ 4 → front_after f l ≡ f
@@ -52,19 +51,19 @@ unfolding header_in
 header_is [] = refl
 header_is (a ∷ []) = sym (short (length (a ∷ [])) (omega arith))
   where
-    short : (n : ℕ) → n < 4 → cond (leb 4 n) (H.Known (type_of (big_endian 4 (a ∷ []))) (id_of (big_endian 4 (a ∷ [])))) H.Unknown ≡ H.Unknown
+    short : (n : ℕ) → n < 4 → cond (leb 4 n) (Some (header_fields (big_endian 4 (a ∷ [])))) None ≡ None
     short n h = simp (lt-leb 4 n h)
 header_is (a ∷ b ∷ []) = sym (short (length (a ∷ b ∷ [])) (omega arith))
   where
-    short : (n : ℕ) → n < 4 → cond (leb 4 n) (H.Known (type_of (big_endian 4 (a ∷ b ∷ []))) (id_of (big_endian 4 (a ∷ b ∷ [])))) H.Unknown ≡ H.Unknown
+    short : (n : ℕ) → n < 4 → cond (leb 4 n) (Some (header_fields (big_endian 4 (a ∷ b ∷ [])))) None ≡ None
     short n h = simp (lt-leb 4 n h)
 header_is (a ∷ b ∷ c ∷ []) = sym (short (length (a ∷ b ∷ c ∷ [])) (omega arith))
   where
-    short : (n : ℕ) → n < 4 → cond (leb 4 n) (H.Known (type_of (big_endian 4 (a ∷ b ∷ c ∷ []))) (id_of (big_endian 4 (a ∷ b ∷ c ∷ [])))) H.Unknown ≡ H.Unknown
+    short : (n : ℕ) → n < 4 → cond (leb 4 n) (Some (header_fields (big_endian 4 (a ∷ b ∷ c ∷ [])))) None ≡ None
     short n h = simp (lt-leb 4 n h)
 header_is (a ∷ b ∷ c ∷ d ∷ l) =
     ap header_in (front_first (a ∷ b ∷ c ∷ d ∷ l) (omega arith))
-    ∙ sym (ap (λ (x : Bool). cond x (H.Known (type_of (big_endian 4 (a ∷ b ∷ c ∷ d ∷ l))) (id_of (big_endian 4 (a ∷ b ∷ c ∷ d ∷ l)))) H.Unknown) (le-leb 4 (length (a ∷ b ∷ c ∷ d ∷ l)) (omega arith)))
+    ∙ sym (ap (λ (x : Bool). cond x (Some (header_fields (big_endian 4 (a ∷ b ∷ c ∷ d ∷ l)))) None) (le-leb 4 (length (a ∷ b ∷ c ∷ d ∷ l)) (omega arith)))
 
 -- the first bytes over the first j bytes of a run
 pub record Fronting (f : Front) (run : List ℕ) (g : Front) (j : ℕ) : Type 0 where

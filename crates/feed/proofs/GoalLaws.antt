@@ -1,4 +1,5 @@
 -- What each goal comes to once its word is there.
+use Rattle.std.specs.Prelude.{Ok, Err, None}
 use Prim.Native.Nat.{ℕ, zero, suc, ◌+◌, ◌-◌, ◌≤◌, ◌<◌, min}
 use mathlib.Core.List.{List, ◌∷◌}
 use mathlib.Core.Path.{◌≡◌, refl, sym, ap, ◌∙◌}
@@ -16,12 +17,12 @@ use Rattle.xdr.specs.Pad.{padded, zeros_up_to, all_zero}
 use Rattle.xdr.specs.Format.{Format, nothing, number, bytes, array, pair, checked_at, checked, via, pad_of, contents, bytes_place, read}
 use Rattle.xdr.specs.Fields.{word, hyper, up_to, text}
 use Rattle.record.specs.Limits.{name_limit, flags_bound, blocks_limit, key_limit, value_limit, hash_length}
-use Rattle.record.specs.Block.{Block, is_size, size, hash, to_block, from_block, block, block_count, blocks}
-use Rattle.record.specs.File.{File, to_file, from_file, is_deleted, name, flags, after_name, file, files}
-use Rattle.record.specs.KeyValue.{to_key_value, from_key_value, key_value, options}
+use Rattle.record.specs.Block.{is_size, size, hash, to_block, from_block, block, block_count, blocks}
+use Rattle.record.specs.File.{to_file, from_file, is_deleted, name, flags, after_name, file, files}
+use Rattle.record.specs.KeyValue.{to_key_value, from_key_value, key_value}
 use Rattle.message.specs.Limits.{repository_limit, files_limit, data_limit, options_limit}
 use Rattle.message.specs.Header.{version_of, type_of, reserved_of, is_type, header}
-use Rattle.message.specs.Message.{Kind, is_index, is_request, is_response, is_ping, is_pong, is_index_update, is_options, kind_of, repository, index, to_request, from_request, piece, request, body, message}
+use Rattle.message.specs.Message.{Kind, is_index, is_request, is_response, is_ping, is_pong, is_index_update, is_options, kind_of, repository, index, to_request, from_request, piece, request, body}
 use Rattle.message.specs.declared.edition.Edition.{Edition}
 use Rattle.message.specs.declared.edition.Edition.TheVariants as E
 use Rattle.feed.specs.AtOnce.{stop}
@@ -30,8 +31,7 @@ use Rattle.feed.specs.Rest.{files_left, blocks_left, options_left, rest_of_word,
 use Rattle.feed.specs.Steps.Next.{files_goal, blocks_goal, behind_gap, body_goal, index_goal, request_goal, after_word, after_string}
 use Rattle.feed.specs.Steps.Moves.{string_format}
 use Rattle.feed.specs.declared.state.Scan.{Scan}
-use Rattle.feed.specs.declared.state.Answer.{Answer}
-use Rattle.feed.specs.declared.state.Answer.TheVariants as A
+use Rattle.feed.specs.Answer.{Answer}
 use Rattle.feed.specs.declared.state.Cursor.{Cursor}
 use Rattle.feed.specs.declared.state.Goal.{Goal}
 use Rattle.feed.specs.declared.state.Goal.TheVariants as G
@@ -77,7 +77,7 @@ onward_passed : (m : ℕ) (k : Rest) (at : ℕ) (s : List ℕ) → then_read (nu
 unfolding read
 onward_passed m k at s = go (leb m (length s))
   where
-    go : (b : Bool) → onward (cond b (taken (big_endian m s) m) (refused 1 0)) (λ a. k) at s ≡ cond b (k (at + m) (drop m s)) A.Waiting
+    go : (b : Bool) → onward (cond b (taken (big_endian m s) m) (refused 1 0)) (λ a. k) at s ≡ cond b (k (at + m) (drop m s)) (Ok None)
     go true = refl
     go false = refl
 
@@ -137,7 +137,7 @@ module _ (at : ℕ) (s : List ℕ) (h : 4 ≤ length s) where
       go n true e =
           rw (eqb-true n 32 e)
           (opaque_cases (leb 32 (length (drop 4 s))) true (take 32 (drop 4 s)) 32 (32 + zeros_up_to (pad_of 32 (drop 4 s))) (λ l. k) at s
-          ∙ ap (λ (x : ℕ). cond (leb 32 (length (drop 4 s))) (k x (drop 32 (drop 4 s))) A.Waiting) (sym (add_assoc at 4 32)))
+          ∙ ap (λ (x : ℕ). cond (leb 32 (length (drop 4 s))) (k x (drop 32 (drop 4 s))) (Ok None)) (sym (add_assoc at 4 32)))
       go n false e = simp add-zero
 
 -- both outcomes of a test
@@ -145,7 +145,7 @@ pub branch : (b : Bool) (x y : Cursor) (t : List ℕ) {u v : Answer} → u ≡ r
 branch true x y t e f = e
 branch false x y t e f = f
 
-pub refused_is : (n p : ℕ) (t : List ℕ) → A.Refused (record { number = n; place = p }) ≡ rest (stopped n p) t
+pub refused_is : (n p : ℕ) (t : List ℕ) → Err (record { number = n; place = p }) ≡ rest (stopped n p) t
 unfolding rest
 refused_is n p t = refl
 
@@ -333,10 +333,10 @@ module _ {T : Type 0} {F : Format T} {s : List ℕ} (e : Short F s) where
   unfolding read
   short_via {B} {to} = record { is = ap (mapped to) e.is }
 
-  short_many : (n : ℕ) (k : Rest) (at : ℕ) → many_read (suc n) F k at s ≡ A.Waiting
+  short_many : (n : ℕ) (k : Rest) (at : ℕ) → many_read (suc n) F k at s ≡ Ok None
   short_many n k at = ap (λ (r : Reading T). onward (and_then r (λ a t. mapped (λ l. a ∷ l) (many n (λ u. read F u) t)) s) (λ l. k) at s) e.is
 
-  short_then : (k : Rest) (at : ℕ) → then_read F k at s ≡ A.Waiting
+  short_then : (k : Rest) (at : ℕ) → then_read F k at s ≡ Ok None
   short_then k at = ap (λ (r : Reading T). onward r (λ a. k) at s) e.is
 
 module _ {C : Format ℕ} {s : List ℕ} (e : Short C s) where
@@ -351,7 +351,7 @@ module _ {C : Format ℕ} {s : List ℕ} (e : Short C s) where
 short_text : (limit : ℕ) (s : List ℕ) → length s < 4 → Short (text limit) s
 short_text limit s h = short_checked (short_bytes (short_checked (short_word s h)))
 
-pub field_short : (f : WordField) (p : ℕ) (s : List ℕ) → length s < 4 → rest_of_word f p s ≡ A.Waiting
+pub field_short : (f : WordField) (p : ℕ) (s : List ℕ) → length s < 4 → rest_of_word f p s ≡ Ok None
 unfolding rest_of_word
 field_short (F.Start e) p s h = short_then (short_pair (short_checked (short_checked (short_checked (short_word s h))))) ending p
 field_short F.FileCount p s h = short_then (short_array (short_checked (short_word s h))) ending p
@@ -361,7 +361,7 @@ field_short (F.Block m k) p s h = short_many (short_via (short_pair (short_check
 field_short (F.HashLength m k) p s h = short_then (short_bytes (short_checked (short_word s h))) (blocks_left m k) p
 field_short F.OptionCount p s h = short_then (short_array (short_checked (short_word s h))) ending p
 
-pub string_short : (l : StringField) (p : ℕ) (s : List ℕ) → length s < 4 → rest_of_string l p s ≡ A.Waiting
+pub string_short : (l : StringField) (p : ℕ) (s : List ℕ) → length s < 4 → rest_of_string l p s ≡ Ok None
 unfolding rest_of_string
 string_short L.Index p s h = short_then (short_pair (short_text repository_limit s h)) ending p
 string_short L.Request p s h = short_then (short_via (short_pair (short_text repository_limit s h))) ending p

@@ -1,4 +1,5 @@
 -- Moves over the front of a run, and what feeding it comes to.
+use Rattle.std.specs.Prelude.{Ok, Some, None}
 use Prim.Native.Nat.{ℕ, zero, suc, ◌+◌, ◌*◌, ◌-◌, ◌^◌, ◌≤◌, ◌<◌}
 use mathlib.Core.List.{List, [], ◌∷◌, ◌++◌, append_assoc, append-nil}
 use mathlib.Core.Path.{◌≡◌, refl, sym, ap, subst, ◌∙◌}
@@ -18,8 +19,7 @@ use Rattle.feed.specs.Sound.{Fits, Sound, reached}
 use Rattle.feed.specs.Feeding.{taken_of, Feeding}
 use Rattle.feed.specs.Steps.Next.{after_word, after_length, gap_after, stepped, wants, goal_says, says}
 use Rattle.feed.specs.Steps.Moves.{ReachedAt, Comes, Moves, Through, taken_by}
-use Rattle.feed.specs.declared.state.Answer.{Answer}
-use Rattle.feed.specs.declared.state.Answer.TheVariants as A
+use Rattle.feed.specs.Answer.{Answer}
 use Rattle.feed.specs.declared.state.Cursor.{Cursor}
 use Rattle.feed.specs.declared.state.Moved.{Moved}
 use Rattle.feed.specs.declared.state.Goal.{Goal}
@@ -173,14 +173,14 @@ pub says_run : {st : Cursor} {run : List ℕ} {m : Moved} → Through st run m �
 says_run {st} {run} {m} h = ap (rest st) (sym (append-nil run)) ∙ says_end h [] ∙ rest_says m.state h.comes.sound.fits
 
 -- what is said of a goal that wants bytes, and of one that doesn't
-pub says_wants : (g : Goal) (p : ℕ) → wants g ≡ true → goal_says g p ≡ A.Waiting
+pub says_wants : (g : Goal) (p : ℕ) → wants g ≡ true → goal_says g p ≡ Ok None
 says_wants (G.Word f) p e = refl
 says_wants (G.String l) p e = refl
 says_wants (G.Skip n a) p e = refl
 says_wants G.Ended p e = let z : ◌≡◌ {A = ℕ} 0 1 = cc in absurd (omega arith)
 says_wants (G.Stopped n) p e = let z : ◌≡◌ {A = ℕ} 0 1 = cc in absurd (omega arith)
 
-pub wants_says : (g : Goal) (p : ℕ) → goal_says g p ≡ A.Waiting → wants g ≡ true
+pub wants_says : (g : Goal) (p : ℕ) → goal_says g p ≡ Ok None → wants g ≡ true
 wants_says (G.Word f) p e = refl
 wants_says (G.String l) p e = refl
 wants_says (G.Skip n a) p e = refl
@@ -194,7 +194,7 @@ none_taken (G.Skip k a) p after n m e = let z : ◌≡◌ {A = ℕ} 0 1 = cc in 
 none_taken G.Ended p after n m e = refl
 none_taken (G.Stopped k) p after n m e = refl
 
-some_taken : (g : Goal) (st : Cursor) (i n m : ℕ) → Fits g st → ReachedAt g st (n + i) → (wants g ≡ true → i ≡ m) → taken_by g i m ≡ taken_of A.Waiting (goal_says g st.place) n m
+some_taken : (g : Goal) (st : Cursor) (i n m : ℕ) → Fits g st → ReachedAt g st (n + i) → (wants g ≡ true → i ≡ m) → taken_by g i m ≡ taken_of (Ok None) (goal_says g st.place) n m
 some_taken (G.Word f) st i n m h r w = w refl
 some_taken (G.String l) st i n m h r w = w refl
 some_taken (G.Skip k a) st i n m h r w = w refl
@@ -209,7 +209,7 @@ taken_within G.Ended i m h = h
 taken_within (G.Stopped k) i m h = omega arith
 
 -- a message ends where its last byte was taken
-taken_end : (g : Goal) (st : Cursor) (i n m k : ℕ) → Fits g st → ReachedAt g st (n + i) → goal_says g st.place ≡ A.Ended k → n + taken_by g i m ≡ k
+taken_end : (g : Goal) (st : Cursor) (i n m k : ℕ) → Fits g st → ReachedAt g st (n + i) → goal_says g st.place ≡ Ok (Some k) → n + taken_by g i m ≡ k
 taken_end (G.Word f) st i n m k h r e = let z : ◌≡◌ {A = ℕ} 0 1 = cc in absurd (omega arith)
 taken_end (G.String l) st i n m k h r e = let z : ◌≡◌ {A = ℕ} 0 1 = cc in absurd (omega arith)
 taken_end (G.Skip j a) st i n m k h r e = let z : ◌≡◌ {A = ℕ} 0 1 = cc in absurd (omega arith)
@@ -223,7 +223,7 @@ fed_through {st} {run} {m} s w h = record {
   answered = sym (says_run h);
   taking =
       some_taken m.state.goal m.state m.taken (reached st) (length run) h.comes.sound.fits h.comes.arrived h.whole
-      ∙ ap (λ (x : Answer). taken_of A.Waiting x (reached st) (length run)) (sym (says_run h))
+      ∙ ap (λ (x : Answer). taken_of (Ok None) x (reached st) (length run)) (sym (says_run h))
       ∙ ap (λ (x : Answer). taken_of x (rest st run) (reached st) (length run)) (sym (rest_says st s.fits ∙ says_wants st.goal st.place w));
   within = taken_within m.state.goal m.taken (length run) h.within;
   ending = λ n e w. taken_end m.state.goal m.state m.taken (reached st) (length run) n h.comes.sound.fits h.comes.arrived e;

@@ -1,4 +1,5 @@
 -- Reading a format and going on is reading its parts and going on from each.
+use Rattle.std.specs.Prelude.{Ok, None}
 use Prim.Native.Nat.{ℕ, suc, ◌+◌, ◌-◌, ◌≤◌, ◌<◌, min}
 use mathlib.Core.List.{List, ◌∷◌}
 use mathlib.Core.Path.{◌≡◌, refl, sym, ap, ◌∙◌}
@@ -13,7 +14,6 @@ use Rattle.xdr.specs.Number.{big_endian}
 use Rattle.xdr.specs.Format.{Format, number, array, pair, checked_at, checked, via, read}
 use Rattle.feed.specs.AtOnce.{stop}
 use Rattle.feed.specs.Onward.{Rest, onward, then_read, many_read}
-use Rattle.feed.specs.declared.state.Answer.TheVariants as A
 
 onward_shifted : {A : Type 0} (n : ℕ) (r : Reading A) (k : A → Rest) (at : ℕ) (s : List ℕ) → onward (shifted n r) k at s ≡ onward r k (at + n) (drop n s)
 onward_shifted n (taken a m) k at s = simp (add_assoc, drop-drop)
@@ -92,6 +92,6 @@ unfolding read
 onward_number m k at s h = simp (le-leb m (length s) h)
 
 -- and one that is not
-pub onward_short : (m : ℕ) (k : ℕ → Rest) (at : ℕ) (s : List ℕ) → length s < m → onward (read (number m) s) k at s ≡ A.Waiting
+pub onward_short : (m : ℕ) (k : ℕ → Rest) (at : ℕ) (s : List ℕ) → length s < m → onward (read (number m) s) k at s ≡ Ok None
 unfolding read
 onward_short m k at s h = simp (lt-leb m (length s) h)

@@ -1,8 +1,9 @@
 -- A step from a state keeps what it stands for.
+use Rattle.std.specs.Prelude.{Ok, Err, Some, None}
 use Prim.Native.Nat.{ℕ, zero, suc, ◌+◌, ◌*◌, ◌-◌, ◌^◌, ◌≤◌, ◌<◌}
 use mathlib.Core.List.{List, [], ◌∷◌, ◌++◌}
 use mathlib.Core.Path.{◌≡◌, refl, sym, ap, subst, ◌∙◌}
-use mathlib.Core.Bool.{Bool, true, false, cond, not}
+use mathlib.Core.Bool.{Bool, true, false, cond}
 use native.Mathlib.Omega.{arith}
 use native.Mathlib.Nat.{add-zero}
 use native.Mathlib.Numerals.{add-one}
@@ -16,7 +17,6 @@ use Rattle.feed.specs.Onward.{skipping}
 use Rattle.feed.specs.Rest.{rest_of_word, rest_of_string, rest_after, rest_of, buffered, scan_after, fresh, contents_from, rule_of, limit_of, behind_string, rest_from, rest, gathered, at_goal, stopped}
 use Rattle.feed.specs.Sound.{Inside, Fits}
 use Rattle.feed.specs.Steps.Next.{behind_gap, after_word, settled, after_length, bad_after, inside_after, gap_after, goal_after, stepped, wants, goal_says, says}
-use Rattle.feed.specs.declared.state.Answer.TheVariants as A
 use Rattle.feed.specs.declared.state.Cursor.{Cursor}
 use Rattle.feed.specs.declared.state.Scan.{Scan}
 use Rattle.feed.specs.declared.state.Goal.{Goal}
@@ -147,14 +147,14 @@ goal_step (G.String l) st b t h k e = go (dec_le st.have 3)
         let four : 4 ≤ st.have = omega arith in
         rw (lt-leb st.have 3 (omega arith), le-ltb st.have 3 three, le-ltb st.have 4 four) (inside_step l st b t i.missing)
 goal_step (G.Skip n a) st b t h k e =
-    ap (λ (x : ℕ). cond (leb x 3) (skipping n (rest_after a) st.place (buffered x st.value ++ (b ∷ t))) A.Waiting) h.0
+    ap (λ (x : ℕ). cond (leb x 3) (skipping n (rest_after a) st.place (buffered x st.value ++ (b ∷ t))) (Ok None)) h.0
     ∙ gap_step n a st.place 1 (b ∷ []) t refl h.1
 goal_step G.Ended st b t h k e =
-    ap (λ (x : ℕ). cond (leb x 3) (A.Ended st.place) A.Waiting) h
-    ∙ sym (ap (λ (g : Goal). rest_from g st t) e ∙ ap (λ (x : ℕ). cond (leb x 3) (A.Ended st.place) A.Waiting) h)
+    ap (λ (x : ℕ). cond (leb x 3) (Ok (Some st.place)) (Ok None)) h
+    ∙ sym (ap (λ (g : Goal). rest_from g st t) e ∙ ap (λ (x : ℕ). cond (leb x 3) (Ok (Some st.place)) (Ok None)) h)
 goal_step (G.Stopped n) st b t h k e =
-    ap (λ (x : ℕ). cond (leb x 3) (A.Refused (record { number = n; place = st.place })) A.Waiting) h.0
-    ∙ sym (ap (λ (g : Goal). rest_from g st t) e ∙ ap (λ (x : ℕ). cond (leb x 3) (A.Refused (record { number = n; place = st.place })) A.Waiting) h.0)
+    ap (λ (x : ℕ). cond (leb x 3) (Err (record { number = n; place = st.place })) (Ok None)) h.0
+    ∙ sym (ap (λ (g : Goal). rest_from g st t) e ∙ ap (λ (x : ℕ). cond (leb x 3) (Err (record { number = n; place = st.place })) (Ok None)) h.0)
 
 pub step_rest : (st : Cursor) (b : ℕ) (t : List ℕ) → Fits st.goal st → b < 256 → rest st (b ∷ t) ≡ rest (stepped st b) t
 unfolding stepped rest
@@ -166,17 +166,17 @@ goal_says_lem (G.Word f) st h =
     rw (le-leb st.have 3 h.0) (field_short f st.place (buffered st.have st.value ++ []) (few st.have st.value h.0))
 goal_says_lem (G.String l) st h = go (dec_le st.have 3)
   where
-    go : Dec (st.have ≤ 3) → rest_from (G.String l) st [] ≡ A.Waiting
+    go : Dec (st.have ≤ 3) → rest_from (G.String l) st [] ≡ Ok None
     go (yes y) = rw (le-leb st.have 3 y) (string_short l st.place (buffered st.have st.value ++ []) (few st.have st.value y))
     go (no n) =
         let i : Inside l st = h.1 (omega arith) in
         rw (lt-leb st.have 3 (omega arith))
         (contents_waiting (rule_of l) (rest_of (behind_string l)) st.place st.value st.at st.todo st.pad st.scan st.zeros st.bad [] i.missing)
 goal_says_lem (G.Skip n a) st h =
-    ap (λ (x : ℕ). cond (leb x 3) (skipping n (rest_after a) st.place (buffered x st.value ++ [])) A.Waiting) h.0
+    ap (λ (x : ℕ). cond (leb x 3) (skipping n (rest_after a) st.place (buffered x st.value ++ [])) (Ok None)) h.0
     ∙ simp (lt-leb n 0 h.1)
-goal_says_lem G.Ended st h = ap (λ (x : ℕ). cond (leb x 3) (A.Ended st.place) A.Waiting) h
-goal_says_lem (G.Stopped n) st h = ap (λ (x : ℕ). cond (leb x 3) (A.Refused (record { number = n; place = st.place })) A.Waiting) h.0
+goal_says_lem G.Ended st h = ap (λ (x : ℕ). cond (leb x 3) (Ok (Some st.place)) (Ok None)) h
+goal_says_lem (G.Stopped n) st h = ap (λ (x : ℕ). cond (leb x 3) (Err (record { number = n; place = st.place })) (Ok None)) h.0
 
 pub rest_says : (st : Cursor) → Fits st.goal st → rest st [] ≡ says st
 unfolding rest
@@ -187,8 +187,8 @@ goal_final : (g : Goal) (st : Cursor) (t : List ℕ) → Fits g st → wants g �
 goal_final (G.Word f) st t h e = let z : ◌≡◌ {A = ℕ} 0 1 = cc in absurd (omega arith)
 goal_final (G.String l) st t h e = let z : ◌≡◌ {A = ℕ} 0 1 = cc in absurd (omega arith)
 goal_final (G.Skip n a) st t h e = let z : ◌≡◌ {A = ℕ} 0 1 = cc in absurd (omega arith)
-goal_final G.Ended st t h e = ap (λ (x : ℕ). cond (leb x 3) (A.Ended st.place) A.Waiting) h
-goal_final (G.Stopped n) st t h e = ap (λ (x : ℕ). cond (leb x 3) (A.Refused (record { number = n; place = st.place })) A.Waiting) h.0
+goal_final G.Ended st t h e = ap (λ (x : ℕ). cond (leb x 3) (Ok (Some st.place)) (Ok None)) h
+goal_final (G.Stopped n) st t h e = ap (λ (x : ℕ). cond (leb x 3) (Err (record { number = n; place = st.place })) (Ok None)) h.0
 
 pub rest_final : (st : Cursor) (t : List ℕ) → Fits st.goal st → wants st.goal ≡ false → rest st t ≡ says st
 unfolding rest

@@ -1,4 +1,5 @@
 -- Strings and opaques: read whole, and byte by byte.
+use Rattle.std.specs.Prelude.{Ok, None}
 use Prim.Native.Nat.{ℕ, suc, ◌+◌, ◌-◌, ◌≤◌, ◌<◌, min}
 use mathlib.Core.List.{List, [], ◌∷◌}
 use mathlib.Core.Path.{◌≡◌, refl, sym, ap, ◌∙◌}
@@ -27,8 +28,7 @@ use Rattle.feed.specs.Steps.Next.{bad_after}
 use Rattle.feed.specs.declared.state.Scan.{Scan}
 use Rattle.feed.specs.declared.state.Rule.{Rule}
 use Rattle.feed.specs.declared.state.Rule.TheVariants as R
-use Rattle.feed.specs.declared.state.Answer.{Answer}
-use Rattle.feed.specs.declared.state.Answer.TheVariants as A
+use Rattle.feed.specs.Answer.{Answer}
 use Rattle.feed.proofs.OnwardLaws.{onward_checked_at, onward_checked}
 use Rattle.feed.proofs.TextLaws.{AsksText, text_is, fault_is}
 use Rattle.feed.proofs.PathLaws.{path_is}
@@ -39,12 +39,12 @@ opaque_read limit k at n u =
     cond (leb n limit)
     (cond (leb (padded n) (length u))
     (cond (all_zero (pad_of n u)) (k (take n u) (at + (4 + padded n)) (drop (padded n) u)) (stop 6 (at + (4 + (n + zeros_up_to (pad_of n u))))))
-    A.Waiting)
+    (Ok None))
     (stop 5 at)
 
 pub opaque_cases : (c d : Bool) (l : List ℕ) (m p : ℕ) (k : List ℕ → Rest) (at : ℕ) (s : List ℕ)
     → onward (relocated bytes_place (shifted 4 (cond c (cond d (taken l m) (refused 6 p)) (refused 1 0)))) k at s
-    ≡ cond c (cond d (k l (at + (4 + m)) (drop m (drop 4 s))) (stop 6 (at + (4 + p)))) A.Waiting
+    ≡ cond c (cond d (k l (at + (4 + m)) (drop m (drop 4 s))) (stop 6 (at + (4 + p)))) (Ok None)
 opaque_cases true true l m p k at s = simp drop-drop
 opaque_cases true false l m p k at s = refl
 opaque_cases false d l m p k at s = refl
@@ -58,7 +58,7 @@ onward_opaque limit k at s h = rw (le-leb 4 (length s) h) (go (big_endian 4 s) (
         ≡ cond b
         (cond (leb (padded n) (length (drop 4 s)))
         (cond (all_zero (pad_of n (drop 4 s))) (k (take n (drop 4 s)) (at + (4 + padded n)) (drop (padded n) (drop 4 s))) (stop 6 (at + (4 + (n + zeros_up_to (pad_of n (drop 4 s)))))))
-        A.Waiting)
+        (Ok None))
         (stop 5 at)
     go n true =
         opaque_cases (leb (padded n) (length (drop 4 s))) (all_zero (pad_of n (drop 4 s))) (take n (drop 4 s)) (padded n) (n + zeros_up_to (pad_of n (drop 4 s))) k at s
@@ -116,7 +116,7 @@ string_is rule limit k at n u = ap (λ (x : Answer). cond (leb n limit) x (stop 
     ok = ruled rule k at (take n u) (at + (4 + padded n)) (drop (padded n) u)
 
     go : Dec (padded n ≤ length u)
-        → cond (leb (padded n) (length u)) (cond (eqb (zeros_up_to (pad_of n u)) (length (pad_of n u))) ok (stop 6 (at + (4 + (n + zeros_up_to (pad_of n u)))))) A.Waiting
+        → cond (leb (padded n) (length u)) (cond (eqb (zeros_up_to (pad_of n u)) (length (pad_of n u))) ok (stop 6 (at + (4 + (n + zeros_up_to (pad_of n u)))))) (Ok None)
         ≡ contents_from rule k at n 0 n (padded n - n) fresh 0 false u
     go (yes h) =
         let long : length (take n u) ≡ n = length-take-le n u (omega arith) in
@@ -125,9 +125,9 @@ string_is rule limit k at n u = ap (λ (x : Answer). cond (leb n limit) x (stop 
         let none : 0 + zeros_up_to (pad_of n u) ≡ zeros_up_to (pad_of n u) = zero-add (zeros_up_to (pad_of n u)) in
         rw (le-leb (padded n) (length u) h, pad)
         (ap (λ (x : Answer). cond (eqb (zeros_up_to (pad_of n u)) (padded n - n)) x (stop 6 (at + (4 + (n + zeros_up_to (pad_of n u)))))) (ruled_is rule k at n (take n u) (drop (padded n) u) long)
-        ∙ sym (ap (λ (x : ℕ). cond (leb x (length u)) (whole_string rule k at n (0 + zeros_up_to (pad_of n u)) (scanned rule fresh 0 (take n u)) (drop x u)) A.Waiting) all
-        ∙ ap (λ (x : ℕ). cond (leb (padded n) (length u)) (whole_string rule k at n x (scanned rule fresh 0 (take n u)) (drop (padded n) u)) A.Waiting) none
-        ∙ ap (λ (x : Bool). cond x (whole_string rule k at n (zeros_up_to (pad_of n u)) (scanned rule fresh 0 (take n u)) (drop (padded n) u)) A.Waiting) (le-leb (padded n) (length u) h)))
+        ∙ sym (ap (λ (x : ℕ). cond (leb x (length u)) (whole_string rule k at n (0 + zeros_up_to (pad_of n u)) (scanned rule fresh 0 (take n u)) (drop x u)) (Ok None)) all
+        ∙ ap (λ (x : ℕ). cond (leb (padded n) (length u)) (whole_string rule k at n x (scanned rule fresh 0 (take n u)) (drop (padded n) u)) (Ok None)) none
+        ∙ ap (λ (x : Bool). cond x (whole_string rule k at n (zeros_up_to (pad_of n u)) (scanned rule fresh 0 (take n u)) (drop (padded n) u)) (Ok None)) (le-leb (padded n) (length u) h)))
     go (no h) =
         let short : length u < n + (padded n - n) = omega arith in
         rw (lt-leb (padded n) (length u) (omega arith), lt-leb (n + (padded n - n)) (length u) short) refl
@@ -169,15 +169,15 @@ module _ (rule : Rule) (k : Rest) (place n i z : ℕ) (q : Scan) (zeros : ℕ) (
   pub contents_byte : (c : ℕ) → contents_from rule k place n i (suc c) z q zeros bad (b ∷ t) ≡ contents_from rule k place n (suc i) c z (scan_after rule q i b) zeros bad t
   contents_byte c =
       let a : suc c + z ≡ suc (c + z) = omega arith in
-      ap (λ (x : ℕ). cond (leb x (suc (length t))) (whole_string rule k place n (zeros_from zeros bad (take z (drop c t))) (scanned rule q i (b ∷ take c t)) (drop x (b ∷ t))) A.Waiting) a
-      ∙ ap (λ (x : Bool). cond x (whole_string rule k place n (zeros_from zeros bad (take z (drop c t))) (scanned rule q i (b ∷ take c t)) (drop (c + z) t)) A.Waiting) (leb-suc-suc (c + z) (length t))
+      ap (λ (x : ℕ). cond (leb x (suc (length t))) (whole_string rule k place n (zeros_from zeros bad (take z (drop c t))) (scanned rule q i (b ∷ take c t)) (drop x (b ∷ t))) (Ok None)) a
+      ∙ ap (λ (x : Bool). cond x (whole_string rule k place n (zeros_from zeros bad (take z (drop c t))) (scanned rule q i (b ∷ take c t)) (drop (c + z) t)) (Ok None)) (leb-suc-suc (c + z) (length t))
 
   pub pad_byte : contents_from rule k place n i 0 (suc z) q zeros bad (b ∷ t) ≡ contents_from rule k place n i 0 z q (cond (bad_after bad b) zeros (zeros + 1)) (bad_after bad b) t
   pad_byte =
       let a : 0 + suc z ≡ suc (0 + z) = omega arith in
-      ap (λ (x : ℕ). cond (leb x (suc (length t))) (whole_string rule k place n (zeros_from zeros bad (b ∷ take z t)) q (drop x (b ∷ t))) A.Waiting) a
-      ∙ ap (λ (x : Bool). cond x (whole_string rule k place n (zeros_from zeros bad (b ∷ take z t)) q (drop (0 + z) t)) A.Waiting) (leb-suc-suc (0 + z) (length t))
-      ∙ ap (λ (x : ℕ). cond (leb (0 + z) (length t)) (whole_string rule k place n x q (drop (0 + z) t)) A.Waiting) (zeros_byte zeros bad b (take z t))
+      ap (λ (x : ℕ). cond (leb x (suc (length t))) (whole_string rule k place n (zeros_from zeros bad (b ∷ take z t)) q (drop x (b ∷ t))) (Ok None)) a
+      ∙ ap (λ (x : Bool). cond x (whole_string rule k place n (zeros_from zeros bad (b ∷ take z t)) q (drop (0 + z) t)) (Ok None)) (leb-suc-suc (0 + z) (length t))
+      ∙ ap (λ (x : ℕ). cond (leb (0 + z) (length t)) (whole_string rule k place n x q (drop (0 + z) t)) (Ok None)) (zeros_byte zeros bad b (take z t))
 
 -- nothing is to come any more
 pub contents_whole : (rule : Rule) (k : Rest) (place n i : ℕ) (q : Scan) (zeros : ℕ) (bad : Bool) (t : List ℕ)
@@ -191,5 +191,5 @@ contents_whole rule k place n i q zeros bad t =
 
 -- fewer than are to come: more is waited for
 pub contents_waiting : (rule : Rule) (k : Rest) (place n i c z : ℕ) (q : Scan) (zeros : ℕ) (bad : Bool) (t : List ℕ) → length t < c + z
-    → contents_from rule k place n i c z q zeros bad t ≡ A.Waiting
+    → contents_from rule k place n i c z q zeros bad t ≡ Ok None
 contents_waiting rule k place n i c z q zeros bad t h = simp (lt-leb (c + z) (length t) h)

@@ -7,11 +7,15 @@ use lib.ListN.{length, drop}
 use lib.Seq.{drop-append-le}
 use Rattle.xdr.specs.Reading.{Reading, taken}
 use Rattle.xdr.specs.Format.{Format, read, read_at}
-use Rattle.xdr.proofs.Steps.{Reads, shifted_zero}
+use Rattle.xdr.proofs.Steps.{Reads, passed, shifted_zero}
+use Rattle.xdr.proofs.Strings.{string_ends}
+use Rattle.xdr.proofs.Parts.{via_parts, pair_parts}
 use Rattle.xdr.proofs.Within.{within}
 use Rattle.xdr.proofs.Steady.{cut_short, steady}
-use Rattle.record.specs.File.{file}
-use Rattle.record.specs.KeyValue.{key_value}
+use Rattle.record.specs.File.{File, file}
+use Rattle.record.specs.KeyValue.{KeyValue, key_value}
+use Rattle.record.proofs.NameSteps.{name_string}
+use Rattle.record.proofs.FileLaws.{file_parts}
 use Rattle.feed.specs.Onward.{onward, then_read}
 use Rattle.feed.specs.Rest.{rest_of, limit_of, behind_string, options_goal, at_goal}
 use Rattle.feed.specs.Sound.{most, Sound}
@@ -32,6 +36,23 @@ use Rattle.feed.proofs.MoveLaws.{fresh_at, reached_fresh}
 pub whole_at : {A : Type 0} {F : Format A} {s : List ℕ} {v : A} {n : ℕ} → Reads F s 0 (taken v n) → WholeAt F s n
 unfolding read_at
 whole_at {A} {F} {s} {v} {n} h = record { value = v; is = sym (shifted_zero (read F s)) ∙ h.is }
+
+-- a string, an option or a file takes at least a byte
+
+pub string_some : (l : StringField) {s v : List ℕ} {n : ℕ} → Reads (string_format l) s 0 (taken v n) → 1 ≤ n
+string_some L.Index h = omega (arith, string_ends (passed h))
+string_some L.Request h = omega (arith, string_ends (passed h))
+string_some L.RequestName h = omega (arith, string_ends (name_string h))
+string_some L.Data h = omega (arith, string_ends h)
+string_some (L.File k) h = omega (arith, string_ends (name_string h))
+string_some (L.Key k) h = omega (arith, string_ends (passed h))
+string_some (L.Value k) h = omega (arith, string_ends (passed h))
+
+pub option_some : {s : List ℕ} {o : KeyValue} {n : ℕ} → Reads key_value s 0 (taken o n) → 1 ≤ n
+option_some h = omega (arith, string_ends (passed (pair_parts (via_parts h)).2))
+
+pub file_some : {s : List ℕ} {f : File} {n : ℕ} → Reads file s 0 (taken f n) → 1 ≤ n
+file_some h = omega (arith, (file_parts h).ends)
 
 whole_within : {A : Type 0} (F : Format A) (s : List ℕ) (v : A) (n : ℕ) → read F s ≡ taken v n → n ≤ length s
 whole_within F s v n e = rw e at (within F s)

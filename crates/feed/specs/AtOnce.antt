@@ -1,19 +1,18 @@
 -- What is said of bytes that are read all at once.
-use Rattle.std.specs.Prelude.{ℕ, List, cond, eqb}
+use Rattle.std.specs.Prelude.{ℕ, List, cond, eqb, Ok, Err, Some, None}
 use Rattle.xdr.specs.Reading.{Reading, taken, refused}
 use Rattle.xdr.specs.Format.{read}
 use Rattle.message.specs.Message.{message}
 use Rattle.message.specs.declared.edition.Edition.{Edition}
-use Rattle.feed.specs.declared.state.Answer.{Answer}
-use Rattle.feed.specs.declared.state.Answer.TheVariants as A
+use Rattle.feed.specs.Answer.{Answer}
 
 -- a refusal: with 1 more bytes are waited for
 abbrev pub stop : (number place : ℕ) → Answer
-stop k p = cond (eqb k 1) A.Waiting (A.Refused (record { number = k; place = p }))
+stop k p = cond (eqb k 1) (Ok None) (Err (record { number = k; place = p }))
 
 -- what is said of a reading
 abbrev pub said : {A : Type 0} → Reading A → Answer
-said (taken a n) = A.Ended n
+said (taken a n) = Ok (Some n)
 said (refused k p) = stop k p
 
 -- what is said of bytes: that of reading a message of an edition from their start

@@ -1,3 +1,4 @@
+pub mod Answer
 pub mod AtOnce
 pub mod Onward
 pub mod Rest

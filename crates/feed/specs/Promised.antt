@@ -1,11 +1,10 @@
 -- What is promised of runs.
-use Rattle.std.specs.Prelude.{ℕ, ◌+◌, ◌≤◌, List, [], ◌++◌, ◌≡◌, length}
+use Rattle.std.specs.Prelude.{ℕ, ◌+◌, ◌≤◌, List, [], ◌++◌, ◌≡◌, length, Ok, Some, None}
 use Rattle.message.specs.declared.edition.Edition.{Edition}
 use Rattle.feed.specs.AtOnce.{at_once}
 use Rattle.feed.specs.Front.{header_in, header_of}
 use Rattle.feed.specs.Opened.{opened}
 use Rattle.feed.specs.Feeding.{taken_of, FedBy}
-use Rattle.feed.specs.declared.state.Answer.TheVariants as A
 use Rattle.feed.specs.declared.state.Feed.{Feed}
 use Rattle.feed.specs.declared.state.Fed.{Fed}
 
@@ -20,5 +19,5 @@ pub record Promised (e : Edition) (before run : List ℕ) (r : Fed) : Type 0 whe
   pub answer : r.answer ≡ at_once e (before ++ run)
   pub taken : r.taken ≡ taken_of (at_once e before) (at_once e (before ++ run)) (length before) (length run)
   pub within : r.taken ≤ length run
-  pub ends : (n : ℕ) → at_once e before ≡ A.Waiting → r.answer ≡ A.Ended n → length before + r.taken ≡ n
+  pub ends : (n : ℕ) → at_once e before ≡ Ok None → r.answer ≡ Ok (Some n) → length before + r.taken ≡ n
   pub header : header_in r.state.front ≡ header_of (before ++ run)

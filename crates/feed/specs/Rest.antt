@@ -1,5 +1,5 @@
 -- What a state stands for: what the bytes still to come make of the message.
-use Rattle.std.specs.Prelude.{ℕ, zero, suc, ◌+◌, ◌-◌, ◌/◌, ◌%◌, List, [], ◌∷◌, ◌++◌, Bool, true, false, cond, length, take, drop, leb, eqb}
+use Rattle.std.specs.Prelude.{ℕ, zero, suc, ◌+◌, ◌-◌, ◌/◌, ◌%◌, List, [], ◌∷◌, ◌++◌, Bool, true, false, cond, length, take, drop, leb, eqb, Ok, Err, Some, None}
 use Rattle.xdr.specs.Pad.{padded, zeros_up_to}
 use Rattle.xdr.specs.Text.{followers, lowest, highest, is_within}
 use Rattle.xdr.specs.Fields.{text}
@@ -13,8 +13,7 @@ use Rattle.message.specs.declared.edition.Edition.{Edition}
 use Rattle.message.specs.declared.edition.Edition.TheVariants as E
 use Rattle.feed.specs.AtOnce.{stop}
 use Rattle.feed.specs.Onward.{Rest, ending, then_read, many_read, skipping}
-use Rattle.feed.specs.declared.state.Answer.{Answer}
-use Rattle.feed.specs.declared.state.Answer.TheVariants as A
+use Rattle.feed.specs.Answer.{Answer}
 use Rattle.feed.specs.declared.state.Cursor.{Cursor}
 use Rattle.feed.specs.declared.state.Scan.{Scan}
 use Rattle.feed.specs.declared.state.Goal.{Goal}
@@ -71,8 +70,8 @@ abbrev pub rest_of : Goal → ℕ → List ℕ → Answer
 rest_of (G.Word f) at s = rest_of_word f at s
 rest_of (G.String l) at s = rest_of_string l at s
 rest_of (G.Skip n a) at s = skipping n (rest_after a) at s
-rest_of G.Ended at s = A.Ended at
-rest_of (G.Stopped n) at s = A.Refused (record { number = n; place = at })
+rest_of G.Ended at s = Ok (Some at)
+rest_of (G.Stopped n) at s = Err (record { number = n; place = at })
 
 -- the bytes that a number was made of, of which so many have come
 abbrev pub buffered : ℕ → ℕ → List ℕ
@@ -147,7 +146,7 @@ abbrev pub contents_from : Rule → Rest → (place n i c z : ℕ) → Scan → 
 contents_from rule k place n i c z q zeros bad t =
     cond (leb (c + z) (length t))
     (whole_string rule k place n (zeros_from zeros bad (take z (drop c t))) (scanned rule q i (take c t)) (drop (c + z) t))
-    A.Waiting
+    (Ok None)
 
 -- the rule of each
 abbrev pub rule_of : StringField → Rule
@@ -188,10 +187,10 @@ behind_string (L.Value k) = options_goal k
 abbrev pub inside : Cursor → Goal → List ℕ → Answer
 inside st (G.String l) t =
     contents_from (rule_of l) (rest_of (behind_string l)) st.place st.value st.at st.todo st.pad st.scan st.zeros st.bad t
-inside st (G.Word f) t = A.Waiting
-inside st (G.Skip n a) t = A.Waiting
-inside st G.Ended t = A.Waiting
-inside st (G.Stopped n) t = A.Waiting
+inside st (G.Word f) t = Ok None
+inside st (G.Skip n a) t = Ok None
+inside st G.Ended t = Ok None
+inside st (G.Stopped n) t = Ok None
 
 -- what the bytes still to come make of a state with a goal
 abbrev pub rest_from : Goal → Cursor → List ℕ → Answer

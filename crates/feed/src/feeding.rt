@@ -12,22 +12,22 @@ use crate::front::front_after;
 use crate::goals::at_goal;
 use crate::moves::{through, wants};
 use crate::sound::is_sound;
-use crate::state::{Answer, Cursor, Fed, Feed, Front, Goal, Header, Led, WordField};
+use crate::state::{Cursor, Fed, Feed, Front, Goal, Header, Led, WordField};
 use message::Edition;
 use message::header::{id_of, type_of};
 use xdr::Refusal;
 
 // What a state says.
-fn says(state: Cursor) -> Answer
+fn says(state: Cursor) -> Result<Option<usize>, Refusal>
     ensures { result ≡ says_state state }
 {
     let goal = state.goal;
     match goal {
-        Goal::Word(_) => Answer::Waiting,
-        Goal::String(_) => Answer::Waiting,
-        Goal::Skip(_, _) => Answer::Waiting,
-        Goal::Ended => Answer::Ended(state.place),
-        Goal::Stopped(number) => Answer::Refused(Refusal {
+        Goal::Word(_) => Ok(None),
+        Goal::String(_) => Ok(None),
+        Goal::Skip(_, _) => Ok(None),
+        Goal::Ended => Ok(Some(state.place)),
+        Goal::Stopped(number) => Err(Refusal {
             number,
             place: state.place,
         }),
@@ -106,7 +106,7 @@ fn unsound(state: Feed) -> Fed
 {
     Fed {
         state,
-        answer: Answer::Refused(Refusal::at_start(22)),
+        answer: Err(Refusal::at_start(22)),
         taken: 0,
     }
 }
@@ -154,14 +154,17 @@ impl Feed {
     }
 
     // The type and the ID of the message, once its header has come.
-    pub fn header(self) -> Header
+    pub fn header(self) -> Option<Header>
         ensures { result ≡ header_in self.front }
     {
         let front = self.front;
         if front.have != 4 {
-            return Header::Unknown;
+            return None;
         }
-        Header::Known(type_of(front.value), id_of(front.value))
+        Some(Header {
+            kind: type_of(front.value),
+            id: id_of(front.value),
+        })
     }
 
     // So many bytes are surely still missing: with fewer it would still wait.

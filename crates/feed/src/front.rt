@@ -21,14 +21,11 @@ pub(crate) fn front_after(front: Front, run: &[u8]) -> Front
     ensures { FrontOver front run.now result }
 {
     let mut f = front;
-    let mut i = 0;
-    while i < run.len() {
+    for b in run {
         if f.have == 4 {
             return f;
         }
-        let next = one_more(f.have, f.value, run[i]);
-        f = next;
-        i += 1;
+        f = one_more(f.have, f.value, *b);
     }
     f
 }

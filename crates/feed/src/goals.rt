@@ -33,7 +33,7 @@ pub(crate) fn at_goal(goal: Goal, place: usize) -> Cursor
     gathered(goal, place, 0, 0)
 }
 
-// The state of a refusal.
+// The state of a refusal, by its number.
 pub(crate) fn stopped(number: u32, place: usize) -> Cursor
     ensures { result ≡ stopped_state number place }
 {
@@ -90,7 +90,7 @@ fn request_goal(edition: Edition) -> Goal
     }
 }
 
-// The goal of a body, by the type.
+// The goal of a body, by the type, which is the header's number.
 pub(crate) fn body_goal(edition: Edition, kind: u32) -> Goal
     ensures { result ≡ body_goal edition (kind_of kind) }
 {

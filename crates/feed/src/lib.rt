@@ -11,4 +11,4 @@ pub mod state;
 mod steps;
 mod words;
 
-pub use state::{Answer, Fed, Feed, Header};
+pub use state::{Fed, Feed, Header};

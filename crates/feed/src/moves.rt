@@ -5,10 +5,9 @@ ghost use Rattle.feed.specs.declared.state.WordField.TheVariants as F;
 ghost use Rattle.feed.specs.declared.state.StringField.TheVariants as L;
 ghost use Rattle.feed.specs.Sound.{Sound};
 ghost use Rattle.feed.specs.Steps.Next.{wants as wants_bytes};
-ghost use Rattle.xdr.specs.Fields.{opaque, text};
-ghost use Rattle.record.specs.File.{name, file};
-ghost use Rattle.record.specs.KeyValue.{key_value};
-ghost use Rattle.feed.specs.Steps.Moves.{WholeAt, string_format, Moves, Through};
+ghost use Rattle.xdr.specs.Answers.{bytes_answer};
+ghost use Rattle.xdr.specs.Format.{read_at};
+ghost use Rattle.feed.specs.Steps.Moves.{string_format, Moves, Through};
 
 use crate::goals::{
     at_goal, behind_string, blocks_goal, files_goal, limit_of, options_goal, rule_of,
@@ -17,8 +16,7 @@ use crate::scan::scan_over;
 use crate::state::{Cursor, Gap, Goal, Moved, StringField, WordField};
 use crate::steps::{after_length, gap_after, settled, step};
 use crate::words::after_word;
-use record::{FileRead, OptionRead};
-use xdr::{Bytes, Word};
+use xdr::Refusal;
 
 // Whether a goal wants more bytes.
 pub(crate) fn wants(goal: Goal) -> bool
@@ -49,7 +47,7 @@ fn whole_word(field: WordField, state: Cursor, part: &[u8]) -> Moved
     requires { Sound state × (state.goal ≡ G.Word field) × (state.have ≡ 0) × (0 < length part.now) }
     ensures { Moves state part.now result }
 {
-    let Word::Taken(w, _) = xdr::read_word(part, 0) else {
+    let Ok((w, _)) = xdr::read_word(part, 0) else {
         return byte_move(state, part);
     };
     Moved {
@@ -99,7 +97,7 @@ fn least(a: u32, b: usize) -> u32
     a
 }
 
-// Over the contents that are there.
+// Over the contents that are there. What the rule makes of them is a variable of its own: written into the state, each byte took longer.
 fn contents_move(string: StringField, state: Cursor, part: &[u8]) -> Moved
     requires { Sound state × (state.goal ≡ G.String string) × (3 < state.have) × (0 < length part.now) }
     ensures { Moves state part.now result }
@@ -110,19 +108,16 @@ fn contents_move(string: StringField, state: Cursor, part: &[u8]) -> Moved
     }
     let k = least(todo, part.len());
     let e = k as usize;
-    let scan = state.scan;
-    let q = scan_over(rule_of(string), scan, state.at, &part[..e]);
+    let q = scan_over(rule_of(string), state.scan, state.at, &part[..e]);
     Moved {
         state: settled(
             string,
-            state.place,
-            state.value,
-            state.at + k,
-            todo - k,
-            state.pad,
-            q,
-            state.zeros,
-            state.bad,
+            Cursor {
+                at: state.at + k,
+                todo: todo - k,
+                scan: q,
+                ..state
+            },
         ),
         taken: e,
     }
@@ -133,7 +128,7 @@ fn whole_length(string: StringField, state: Cursor, part: &[u8]) -> Moved
     requires { Sound state × (state.goal ≡ G.String string) × (state.have ≡ 0) × (0 < length part.now) }
     ensures { Moves state part.now result }
 {
-    let Word::Taken(w, _) = xdr::read_word(part, 0) else {
+    let Ok((w, _)) = xdr::read_word(part, 0) else {
         return byte_move(state, part);
     };
     Moved {
@@ -142,73 +137,18 @@ fn whole_length(string: StringField, state: Cursor, part: &[u8]) -> Moved
     }
 }
 
-// Where the file at the front of a part ends: 0 where no whole file is there.
-fn file_end(part: &[u8]) -> usize
-    ensures { 1 ≤ result → WholeAt file part.now result }
-{
-    let read = record::read_file(part);
-    let FileRead::Taken(f) = read else {
-        return 0;
-    };
-    f.next
-}
-
-// Where the option at the front of a part ends, likewise.
-fn option_end(part: &[u8]) -> usize
-    ensures { 1 ≤ result → WholeAt key_value part.now result }
-{
-    let read = record::read_option(part);
-    let OptionRead::Taken(o) = read else {
-        return 0;
-    };
-    o.next
-}
-
-// Where an opaque ends, likewise.
-fn opaque_end(part: &[u8], limit: u32) -> usize
-    ensures { 1 ≤ result → WholeAt (opaque limit) part.now result }
-{
-    let read = xdr::read_bytes(part, 0, limit);
-    let Bytes::Taken(_, end) = read else {
-        return 0;
-    };
-    end
-}
-
-// Where a string ends, likewise.
-fn text_end(part: &[u8], limit: u32) -> usize
-    ensures { 1 ≤ result → WholeAt (text limit) part.now result }
-{
-    let read = xdr::read_text(part, 0, limit);
-    let Bytes::Taken(_, end) = read else {
-        return 0;
-    };
-    end
-}
-
-// Where a Name ends, likewise.
-fn name_end(part: &[u8]) -> usize
-    ensures { 1 ≤ result → WholeAt name part.now result }
-{
-    let read = record::read_name(part, 0);
-    let Bytes::Taken(_, end) = read else {
-        return 0;
-    };
-    end
-}
-
-// Where each string ends, likewise.
-fn string_end(string: StringField, part: &[u8]) -> usize
-    ensures { 1 ≤ result → WholeAt (string_format string) part.now result }
+// The string at the front of a part.
+fn read_string(string: StringField, part: &[u8]) -> Result<(usize, usize), Refusal>
+    ensures { result ≡ bytes_answer (read_at (string_format string) part.now 0) }
 {
     match string {
-        StringField::Index => text_end(part, 64),
-        StringField::Request => text_end(part, 64),
-        StringField::RequestName => name_end(part),
-        StringField::Data => opaque_end(part, 131072),
-        StringField::File(_) => name_end(part),
-        StringField::Key(_) => text_end(part, 64),
-        StringField::Value(_) => text_end(part, 255),
+        StringField::Index => xdr::read_text(part, 0, 64),
+        StringField::Request => xdr::read_text(part, 0, 64),
+        StringField::RequestName => record::read_name(part, 0),
+        StringField::Data => xdr::read_bytes(part, 0, 131072),
+        StringField::File(_) => record::read_name(part, 0),
+        StringField::Key(_) => xdr::read_text(part, 0, 64),
+        StringField::Value(_) => xdr::read_text(part, 0, 255),
     }
 }
 
@@ -217,10 +157,9 @@ fn string_leap(string: StringField, state: Cursor, part: &[u8]) -> Moved
     requires { Sound state × (state.goal ≡ G.String string) × (state.have ≡ 0) × (0 < length part.now) }
     ensures { Moves state part.now result }
 {
-    let n = string_end(string, part);
-    if n == 0 {
+    let Ok((_, n)) = read_string(string, part) else {
         return whole_length(string, state, part);
-    }
+    };
     if (limit_of(string) as usize) + 8 < n {
         return whole_length(string, state, part);
     }
@@ -235,16 +174,15 @@ fn file_move(files: u32, state: Cursor, part: &[u8]) -> Moved
     requires { Sound state × (state.goal ≡ G.String (L.File files)) × (state.have ≡ 0) × (0 < length part.now) }
     ensures { Moves state part.now result }
 {
-    let n = file_end(part);
-    if n == 0 {
+    let Ok(file) = record::read_file(part) else {
         return string_leap(StringField::File(files), state, part);
-    }
-    if 42000 < n {
+    };
+    if 42000 < file.next {
         return string_leap(StringField::File(files), state, part);
     }
     Moved {
-        state: at_goal(files_goal(files), state.place + n),
-        taken: n,
+        state: at_goal(files_goal(files), state.place + file.next),
+        taken: file.next,
     }
 }
 
@@ -253,16 +191,15 @@ fn option_move(options: u32, state: Cursor, part: &[u8]) -> Moved
     requires { Sound state × (state.goal ≡ G.String (L.Key options)) × (state.have ≡ 0) × (0 < length part.now) }
     ensures { Moves state part.now result }
 {
-    let n = option_end(part);
-    if n == 0 {
+    let Ok(option) = record::read_option(part) else {
         return string_leap(StringField::Key(options), state, part);
-    }
-    if 400 < n {
+    };
+    if 400 < option.next {
         return string_leap(StringField::Key(options), state, part);
     }
     Moved {
-        state: at_goal(options_goal(options), state.place + n),
-        taken: n,
+        state: at_goal(options_goal(options), state.place + option.next),
+        taken: option.next,
     }
 }
 
@@ -329,7 +266,7 @@ fn advance(state: Cursor, part: &[u8]) -> Moved
     }
 }
 
-// As far as a run goes, or the message.
+// As far as a run goes, or the message. Each move takes as many bytes as it finds, so that no iterator goes along with it.
 pub(crate) fn through(state: Cursor, run: &[u8]) -> Moved
     requires { Sound state }
     ensures { Through state run.now result }

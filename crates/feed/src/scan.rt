@@ -139,11 +139,10 @@ fn scan_each(rule: Rule, scan: Scan, i: u32, part: &[u8]) -> Scan
     ensures { result ≡ scanned rule scan i part.now }
 {
     let mut q = scan;
-    let mut j = 0;
-    while j < part.len() {
-        let next = scan_after(rule, q, i + (j as u32), part[j]);
-        q = next;
-        j += 1;
+    let mut at = i;
+    for b in part {
+        q = scan_after(rule, q, at, *b);
+        at += 1;
     }
     q
 }

@@ -55,6 +55,7 @@ pub enum Goal {
 // What the rules have made of a string so far: the followers that the text rule still wants (4 where it is broken), the range of the next
 // one, the position of that sequence's lead byte, and the part of a name that the last byte belongs to (0 empty, 1 a dot, 2 two dots, 3 one
 // that leads down, 4 where the name does not).
+// Both stay numbers: a host's words hold each as a byte of any value, and what they are at another value is left as it came.
 #[derive(Clone, Copy)]
 pub struct Scan {
     pub left: u8,
@@ -81,19 +82,12 @@ pub struct Cursor {
     pub bad: bool,
 }
 
-// What is said after a run: still waiting, a message has ended at a place, or refused.
-#[derive(Clone, Copy)]
-pub enum Answer {
-    Waiting,
-    Ended(usize),
-    Refused(Refusal),
-}
-
-// What a run led to: where the reading stands, the answer, and how many bytes of the run were taken.
+// What a run led to: where the reading stands, the answer (no place while it is waiting, the place where a message has ended, or the refusal),
+// and how many bytes of the run were taken.
 #[derive(Clone, Copy)]
 pub struct Led {
     pub state: Cursor,
-    pub answer: Answer,
+    pub answer: Result<Option<usize>, Refusal>,
     pub taken: usize,
 }
 
@@ -118,17 +112,18 @@ pub struct Feed {
     pub front: Front,
 }
 
-// What a run gives: the state to go on with, the answer, and how many bytes of the run were taken.
+// What a run gives: the state to go on with, the answer (no place while it is waiting, the place where a message has ended, or the refusal),
+// and how many bytes of the run were taken.
 #[derive(Clone, Copy)]
 pub struct Fed {
     pub state: Feed,
-    pub answer: Answer,
+    pub answer: Result<Option<usize>, Refusal>,
     pub taken: usize,
 }
 
-// The type and the ID of a message, once its header has come.
+// What a message's header tells: its type and its ID. The type is a number, since it may be one that no message has.
 #[derive(Clone, Copy)]
-pub enum Header {
-    Known(u32, u32),
-    Unknown,
+pub struct Header {
+    pub kind: u32,
+    pub id: u32,
 }

@@ -7,8 +7,8 @@ ghost use Rattle.feed.specs.Sound.{Inside, Fits, Sound};
 ghost use Rattle.feed.specs.Steps.Next.{after_word, after_string, settled as settled_state, after_length, bad_after, inside_after, gap_after, goal_after, stepped as stepped_state};
 
 use crate::goals::{at_goal, behind_gap, behind_string, gathered, limit_of, rule_of, stopped};
-use crate::scan::{fills, fresh, leads, passes, scan_after};
-use crate::state::{Cursor, Gap, Goal, Scan, StringField, WordField};
+use crate::scan::{fills, leads, passes, scan_after};
+use crate::state::{Cursor, Gap, Goal, StringField, WordField};
 use crate::words::after_word;
 
 // The pad of so many bytes.
@@ -20,19 +20,21 @@ fn pad_of(n: u32) -> u32
 }
 
 // After a string that is whole.
-fn after_string(string: StringField, place: usize, n: u32, zeros: u32, scan: Scan) -> Cursor
-    requires { (place ≤ 22000000) × (n ≤ 131072) }
-    ensures { result ≡ after_string string place n zeros scan }
+fn after_string(string: StringField, state: Cursor) -> Cursor
+    requires { (state.place ≤ 22000000) × (state.value ≤ 131072) }
+    ensures { result ≡ after_string string state.place state.value state.zeros state.scan }
 {
-    let len = n as usize;
-    if zeros != pad_of(n) {
-        return stopped(6, place + (4 + (len + (zeros as usize))));
+    let place = state.place;
+    let len = state.value as usize;
+    if state.zeros != pad_of(state.value) {
+        return stopped(6, place + (4 + (len + (state.zeros as usize))));
     }
     let rule = rule_of(string);
+    let scan = state.scan;
     if !passes(rule, scan) {
         return stopped(7, place + (4 + (scan.start as usize)));
     }
-    if !fills(rule, n) {
+    if !fills(rule, state.value) {
         return stopped(8, place);
     }
     if !leads(rule, scan) {
@@ -44,35 +46,18 @@ fn after_string(string: StringField, place: usize, n: u32, zeros: u32, scan: Sca
     )
 }
 
-// A string of which `todo` bytes and `pad` of its pad are still to come: where none are, it is whole.
-pub(crate) fn settled(
-    string: StringField,
-    place: usize,
-    n: u32,
-    at: u32,
-    todo: u32,
-    pad: u32,
-    scan: Scan,
-    zeros: u32,
-    bad: bool,
-) -> Cursor
-    requires { (place ≤ 22000000) × (n ≤ 131072) × (todo + pad ≤ 131075) }
-    ensures { result ≡ settled_state string place n at todo pad scan zeros bad }
+// A string whose length has come: where none of its bytes and of its pad are still to come, it is whole.
+pub(crate) fn settled(string: StringField, state: Cursor) -> Cursor
+    requires { (state.place ≤ 22000000) × (state.value ≤ 131072) × (state.todo + state.pad ≤ 131075) }
+    ensures { result ≡ settled_state string state.place state.value state.at state.todo state.pad state.scan state.zeros state.bad }
 {
-    if todo + pad == 0 {
-        return after_string(string, place, n, zeros, scan);
+    if state.todo + state.pad == 0 {
+        return after_string(string, state);
     }
     Cursor {
         goal: Goal::String(string),
-        place,
         have: 4,
-        value: n,
-        at,
-        todo,
-        pad,
-        scan,
-        zeros,
-        bad,
+        ..state
     }
 }
 
@@ -82,7 +67,16 @@ pub(crate) fn after_length(string: StringField, place: usize, n: u32) -> Cursor
     ensures { result ≡ after_length string place n }
 {
     if n <= limit_of(string) {
-        settled(string, place, n, 0, n, pad_of(n), fresh(), 0, false)
+        let start = at_goal(Goal::String(string), place);
+        settled(
+            string,
+            Cursor {
+                value: n,
+                todo: n,
+                pad: pad_of(n),
+                ..start
+            },
+        )
     } else {
         stopped(5, place)
     }
@@ -114,19 +108,16 @@ fn pad_after(string: StringField, state: Cursor, b: u8) -> Cursor
     requires { (state.place ≤ 22000000) × Inside string state × (state.todo ≡ 0) }
     ensures { result ≡ inside_after string state b }
 {
-    let scan = state.scan;
-    let zeros = state.zeros;
     let bad = bad_after(state.bad, b);
     settled(
         string,
-        state.place,
-        state.value,
-        state.at,
-        0,
-        state.pad - 1,
-        scan,
-        zeros_after(bad, zeros),
-        bad,
+        Cursor {
+            todo: 0,
+            pad: state.pad - 1,
+            zeros: zeros_after(bad, state.zeros),
+            bad,
+            ..state
+        },
     )
 }
 
@@ -139,17 +130,14 @@ fn inside_after(string: StringField, state: Cursor, b: u8) -> Cursor
     if todo == 0 {
         return pad_after(string, state, b);
     }
-    let scan = state.scan;
     settled(
         string,
-        state.place,
-        state.value,
-        state.at + 1,
-        todo - 1,
-        state.pad,
-        scan_after(rule_of(string), scan, state.at, b),
-        state.zeros,
-        state.bad,
+        Cursor {
+            at: state.at + 1,
+            todo: todo - 1,
+            scan: scan_after(rule_of(string), state.scan, state.at, b),
+            ..state
+        },
     )
 }
 

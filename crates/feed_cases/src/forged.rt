@@ -1,5 +1,5 @@
 // States that no call handed back.
-use crate::line::{close, fed};
+use crate::line;
 use feed::Feed;
 use feed::state::{Cursor, Front, Gap, Goal, Scan, WordField};
 use std::io;
@@ -32,23 +32,27 @@ fn at(goal: Goal, place: usize, have: u32) -> Feed {
     }
 }
 
+fn forged(rt: &impl Print, label: &str, state: Feed, runs: &[&[u8]]) -> io::Result<()> {
+    print!(rt; "forged, {label}:")?;
+    line::all(rt, state, runs)
+}
+
 // Two that aren't sound are refused and stay so. One that is sound is gone on with: the number of options at place 100.
 pub fn run(rt: &impl Print) -> io::Result<()> {
-    lines::text(rt, b"forged, no bytes to pass over:")?;
-    let state = fed(
+    let passing = at(Goal::Skip(0, Gap::Offset), 0, 0);
+    forged(
         rt,
-        at(Goal::Skip(0, Gap::Offset), 0, 0),
-        b"\x00\x00\x04\x00",
+        "no bytes to pass over",
+        passing,
+        &[b"\x00\x00\x04\x00", b"\x00"],
     )?;
-    close(rt, fed(rt, state, b"\x00")?)?;
-    lines::text(rt, b"forged, a word that is whole:")?;
-    let state = fed(rt, at(Goal::Word(WordField::FileCount), 4, 4), b"\x00")?;
-    close(rt, fed(rt, state, b"")?)?;
-    lines::text(rt, b"forged, the number of options:")?;
-    let state = fed(
+    let whole = at(Goal::Word(WordField::FileCount), 4, 4);
+    forged(rt, "a word that is whole", whole, &[b"\x00", b""])?;
+    let count = at(Goal::Word(WordField::OptionCount), 100, 0);
+    forged(
         rt,
-        at(Goal::Word(WordField::OptionCount), 100, 0),
-        b"\x00\x00",
-    )?;
-    close(rt, fed(rt, state, b"\x00\x00")?)
+        "the number of options",
+        count,
+        &[b"\x00\x00", b"\x00\x00"],
+    )
 }

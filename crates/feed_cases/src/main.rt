@@ -20,6 +20,7 @@ fn main(rt: HostRuntime) -> io::Result<()> {
     strings::pads(&rt)?;
     strings::texts(&rt)?;
     strings::names(&rt)?;
+    bodies::indexes(&rt)?;
     bodies::types(&rt)?;
     bodies::faults(&rt)?;
     bodies::long_response(&rt)?;

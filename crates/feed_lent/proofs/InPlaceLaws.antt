@@ -1,4 +1,5 @@
 -- Words that change in place are those of a state that the run leads to.
+use Rattle.std.specs.Prelude.{Ok, Err, Some, None}
 use Prim.Native.Nat.{ℕ, zero, suc, ◌+◌, ◌*◌, ◌-◌, ◌/◌, ◌%◌, ◌^◌, ◌≤◌, ◌<◌}
 use mathlib.Core.List.{List}
 use mathlib.Core.Path.{◌≡◌, refl, sym, ap, subst, ◌∙◌}
@@ -20,8 +21,7 @@ use Rattle.feed.specs.Front.{no_front, front_after, FrontFits, FrontOver}
 use Rattle.feed.specs.Missing.{missing_of, missing_in}
 use Rattle.feed.specs.Feeding.{Feeding}
 use Rattle.feed.specs.Steps.Next.{gap_after, wants}
-use Rattle.feed.specs.declared.state.Answer.{Answer}
-use Rattle.feed.specs.declared.state.Answer.TheVariants as A
+use Rattle.feed.specs.Answer.{Answer}
 use Rattle.feed.specs.declared.state.Cursor.{Cursor}
 use Rattle.feed.specs.declared.state.Scan.{Scan}
 use Rattle.feed.specs.declared.state.Front.{Front}
@@ -166,13 +166,13 @@ module _ (ws run : List ℕ) (u : UnderWay ws) where
         ∙ ap (λ (x : ℕ). kept g (get_or ws 4 0 + get_or ws 5 0 * 4294967296 + length run) x (get_or ws 7 0) ws (leb 32 (get_or ws 0 0))) h.none
         ∙ ap (λ (x : ℕ). kept g (get_or ws 4 0 + get_or ws 5 0 * 4294967296 + length run) 0 x ws (leb 32 (get_or ws 0 0))) h.zero
 
-    pub fed_gap : FedLent ws run (record { answer = A.Waiting; taken = length run }) (passed_over ws (length run))
+    pub fed_gap : FedLent ws run (record { answer = Ok None; taken = length run }) (passed_over ws (length run))
     unfolding feed_of
     fed_gap =
         let g : Goal = G.Skip (get_or ws 1 0 - length run) (gap_of (get_or ws 0 0 - 17) (get_or ws 2 0) (get_or ws 3 0)) in
         let p : ℕ = (feed_of ws).cursor.place + length run in
         in_place gap_sound fits_front
-        (subst (λ (x : Cursor). Feeding (feed_of ws).cursor run (record { state = x; answer = A.Waiting; taken = length run })) (sym gap_kept)
+        (subst (λ (x : Cursor). Feeding (feed_of ws).cursor run (record { state = x; answer = Ok None; taken = length run })) (sym gap_kept)
         (other_feeding (at_goal g p) (get_or ws 8 0) (get_or ws 9 0) (get_or ws 10 0) (scan_of (get_or ws 11 0) (get_or ws 12 0)) (get_or ws 13 0) (leb 32 (get_or ws 0 0)) (omega arith)
         (rests_feeding gap_sound
         (gap_rests (feed_of ws).cursor run (get_or ws 1 0) (gap_of (get_or ws 0 0 - 17) (get_or ws 2 0) (get_or ws 3 0)) gap_sound gap_is o h.few
@@ -208,7 +208,7 @@ module _ (ws run : List ℕ) (u : UnderWay ws) where
     unfolding feed_of
     word_sound = sound_at (goal_of (get_or ws 0 0) (get_or ws 1 0) (get_or ws 2 0) (get_or ws 3 0)) word_is h.room (fits_gathers (goal_of (get_or ws 0 0) (get_or ws 1 0) (get_or ws 2 0) (get_or ws 3 0)) (feed_of ws).cursor word_gathers h.few h.number)
 
-    pub fed_byte : FedLent ws run (record { answer = A.Waiting; taken = length run }) (one_more ws (get_or run 0 0))
+    pub fed_byte : FedLent ws run (record { answer = Ok None; taken = length run }) (one_more ws (get_or run 0 0))
     unfolding feed_of
     fed_byte =
         in_place word_sound fits_front
@@ -246,10 +246,10 @@ module _ (ws run : List ℕ) (u : UnderWay ws) where
         ∙ ap (λ (x : Scan). strung (G.String (string_at ws)) 4 i m (get_or ws 10 0) x (get_or ws 13 0) (leb 32 (get_or ws 0 0))) e
 
     pub fed_contents : {after : List ℕ} → length run ≤ get_or ws 9 0 → length run < get_or ws 9 0 + get_or ws 10 0 → OverContents ws run after
-        → FedLent ws run (record { answer = A.Waiting; taken = length run }) after
+        → FedLent ws run (record { answer = Ok None; taken = length run }) after
     unfolding feed_of
     fed_contents {after} few more c =
-        subst (λ (x : List ℕ). FedLent ws run (record { answer = A.Waiting; taken = length run }) x) (sym c.are)
+        subst (λ (x : List ℕ). FedLent ws run (record { answer = Ok None; taken = length run }) x) (sym c.are)
         (in_place string_sound fits_front
         (rests_feeding string_sound
         (contents_rests (feed_of ws).cursor run (string_at ws) string_sound string_is (omega (arith, is_inside.four)) o few more refl (contents_kept c.back)))
@@ -267,7 +267,7 @@ module _ (ws run : List ℕ) (u : UnderWay ws) where
         ∙ ap (λ (x : ℕ). strung (G.String (string_at ws)) 4 (get_or ws 8 0) x z q zeros (leb 32 (get_or ws 0 0))) t
         ∙ ap (λ (x : Bool). strung (G.String (string_at ws)) 4 (get_or ws 8 0) 0 z q zeros x) (lt-leb 32 (get_or ws 0 0) (omega (arith, h.high)))
 
-    pub fed_zero : get_or ws 9 0 ≡ 0 → 1 < get_or ws 10 0 → length run ≡ 1 → get_or run 0 0 ≡ 0 → FedLent ws run (record { answer = A.Waiting; taken = length run }) (zero_over ws)
+    pub fed_zero : get_or ws 9 0 ≡ 0 → 1 < get_or ws 10 0 → length run ≡ 1 → get_or run 0 0 ≡ 0 → FedLent ws run (record { answer = Ok None; taken = length run }) (zero_over ws)
     unfolding feed_of
     fed_zero t p n z =
         in_place string_sound fits_front
@@ -342,11 +342,11 @@ module _ (ws run : List ℕ) (u : Unread ws) where
     wanted : wants (feed_of ws).cursor.goal ≡ true
     wanted = wants_at (feed_of ws).cursor (G.Word (F.Start (edition_of (get_or ws 0 0)))) first_is refl
 
-    pub first_ended : {n : ℕ} → at_once (edition_of (get_or ws 0 0)) run ≡ A.Ended n → FedLent ws run (record { answer = A.Ended n; taken = n }) (closed ws 21 0 n w)
+    pub first_ended : {n : ℕ} → at_once (edition_of (get_or ws 0 0)) run ≡ Ok (Some n) → FedLent ws run (record { answer = Ok (Some n); taken = n }) (closed ws 21 0 n w)
     first_ended {n} e =
         closing G.Ended 21 0 n refl (omega arith) (fed_through first_sound wanted (once_ended (edition_of (get_or ws 0 0)) (feed_of ws).cursor run first_sound first_is first_have n e))
 
-    pub first_refused : {r : Refusal} → at_once (edition_of (get_or ws 0 0)) run ≡ A.Refused r → FedLent ws run (record { answer = A.Refused r; taken = length run }) (closed ws 22 r.number r.place w)
+    pub first_refused : {r : Refusal} → at_once (edition_of (get_or ws 0 0)) run ≡ Err r → FedLent ws run (record { answer = Err r; taken = length run }) (closed ws 22 r.number r.place w)
     first_refused {r} e =
         closing (G.Stopped r.number) 22 r.number r.place refl (omega arith) (fed_through first_sound wanted (once_refused (edition_of (get_or ws 0 0)) (feed_of ws).cursor run first_sound first_is first_have r e))
 

@@ -1,4 +1,5 @@
 -- Laying a state out in words, and taking it up.
+use Rattle.std.specs.Prelude.{Err}
 use Prim.Native.Nat.{ℕ, ◌+◌, ◌*◌, ◌-◌, ◌/◌, ◌%◌, ◌<◌, ◌≤◌}
 use mathlib.Core.List.{List, [], ◌∷◌}
 use mathlib.Core.Path.{◌≡◌, refl, sym, ap, subst, ◌∙◌}
@@ -12,8 +13,7 @@ use Rattle.message.specs.declared.edition.Edition.TheVariants as E
 use Rattle.feed.specs.Sound.{is_sound}
 use Rattle.feed.specs.Feeding.{FedBy}
 use Rattle.feed_lent.specs.Lent.{word_tagged, string_tagged, gap_tagged, goal_tagged, strings, gaps, late_word_of, string_of, gap_of, goal_of, tag_in, scan_word, scan_of, words_of, feed_of, Lent, FedLent}
-use Rattle.feed.specs.declared.state.Answer.{Answer}
-use Rattle.feed.specs.declared.state.Answer.TheVariants as A
+use Rattle.feed.specs.Answer.{Answer}
 use Rattle.feed.specs.declared.state.Cursor.{Cursor}
 use Rattle.feed.specs.declared.state.Scan.{Scan}
 use Rattle.feed.specs.declared.state.Feed.{Feed}
@@ -189,14 +189,14 @@ lent_as st ha hb hc hd e = record { are = e; back = ap feed_of e ∙ feed_back s
 
 -- what feeding words gives
 
-pub fed_unsound : {ws run : List ℕ} {r : Said} → is_sound (feed_of ws) ≡ false → r.answer ≡ A.Refused (record { number = 22; place = 0 }) → r.taken ≡ 0 → FedLent ws run r ws
+pub fed_unsound : {ws run : List ℕ} {r : Said} → is_sound (feed_of ws) ≡ false → r.answer ≡ Err (record { number = 22; place = 0 }) → r.taken ≡ 0 → FedLent ws run r ws
 fed_unsound {ws} {run} {r} e a t = record {
   by = record {
     feeding = λ s. absurd (differ s e);
     fronting = λ s. absurd (differ s e);
     refusing = λ s.
         ap (λ (x : Answer). record { state = feed_of ws; answer = x; taken = r.taken }) a
-        ∙ ap (λ (x : ℕ). record { state = feed_of ws; answer = A.Refused (record { number = 22; place = 0 }); taken = x }) t;
+        ∙ ap (λ (x : ℕ). record { state = feed_of ws; answer = Err (record { number = 22; place = 0 }); taken = x }) t;
   };
   kept = λ s. refl;
 }

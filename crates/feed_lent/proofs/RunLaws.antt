@@ -1,4 +1,5 @@
 -- A run that ends within a field, and the first run.
+use Rattle.std.specs.Prelude.{Ok, None}
 use Prim.Native.Nat.{ℕ, ◌+◌, ◌*◌, ◌-◌, ◌<◌, ◌≤◌}
 use mathlib.Core.List.{List}
 use mathlib.Core.Path.{◌≡◌, refl, sym, ap, ◌∙◌}
@@ -13,7 +14,6 @@ use Rattle.feed.specs.Feeding.{Feeding}
 use Rattle.feed.specs.Steps.Next.{inside_after, settled, gap_after, goal_after, stepped, wants}
 use Rattle.feed.specs.Steps.Moves.{Through, taken_by}
 use Rattle.feed_lent.specs.Steps.{Rests, gathers}
-use Rattle.feed.specs.declared.state.Answer.TheVariants as A
 use Rattle.feed.specs.declared.state.Cursor.{Cursor}
 use Rattle.feed.specs.declared.state.Scan.{Scan}
 use Rattle.feed.specs.declared.state.Goal.{Goal}
@@ -32,7 +32,7 @@ taken_whole (G.Skip n a) i m w = refl
 taken_whole G.Ended i m w = refl
 taken_whole (G.Stopped n) i m w = let z : ◌≡◌ {A = ℕ} 0 1 = cc in absurd (omega arith)
 
-pub rests_feeding : {st : Cursor} {run : List ℕ} {next : Cursor} → Sound st → Rests st run next → Feeding st run (record { state = next; answer = A.Waiting; taken = length run })
+pub rests_feeding : {st : Cursor} {run : List ℕ} {next : Cursor} → Sound st → Rests st run next → Feeding st run (record { state = next; answer = Ok None; taken = length run })
 rests_feeding {st} {run} {next} s h =
     fed_as (sym (says_wants next.goal next.place h.after)) (sym (taken_whole next.goal (length run) (length run) h.after))
     (fed_through s h.before all)

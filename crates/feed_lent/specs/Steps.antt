@@ -1,5 +1,7 @@
 -- What only the steps of the code and their proofs need: runs that end within a field, and the words after them.
-use Rattle.std.specs.Prelude.{ℕ, ◌+◌, ◌*◌, ◌-◌, ◌/◌, ◌%◌, ◌^◌, ◌≤◌, ◌<◌, List, [], ◌∷◌, ◌≡◌, Bool, true, false, cond, length, get_or, leb, ltb, eqb}
+use Rattle.std.specs.declared.result.Result.{Result}
+use Rattle.xdr.specs.declared.answer.Refusal.{Refusal}
+use Rattle.std.specs.Prelude.{ℕ, ◌+◌, ◌*◌, ◌-◌, ◌/◌, ◌%◌, ◌^◌, ◌≤◌, ◌<◌, List, [], ◌∷◌, ◌≡◌, Bool, true, false, cond, length, get_or, leb, ltb, eqb, Ok, Err, Some}
 use Rattle.message.specs.declared.edition.Edition.{Edition}
 use Rattle.message.specs.declared.edition.Edition.TheVariants as E
 use Rattle.message.specs.declared.answer.Message.{Message}
@@ -9,8 +11,7 @@ use Rattle.feed.specs.Rest.{rule_of, scanned}
 use Rattle.feed.specs.Sound.{most_string, most_gap, longest, Bounded, parts_test}
 use Rattle.feed.specs.Steps.Next.{wants}
 use Rattle.feed.specs.Steps.Moves.{Moves}
-use Rattle.feed.specs.declared.state.Answer.{Answer}
-use Rattle.feed.specs.declared.state.Answer.TheVariants as A
+use Rattle.feed.specs.Answer.{Answer}
 use Rattle.feed.specs.declared.state.Cursor.{Cursor}
 use Rattle.feed.specs.declared.state.Scan.{Scan}
 use Rattle.feed.specs.declared.state.Goal.{Goal}
@@ -32,16 +33,20 @@ gathers (G.Skip n a) = false
 gathers G.Ended = false
 gathers (G.Stopped n) = false
 
+-- where a message ends
+abbrev pub message_end : Message → ℕ
+message_end (M.Index id x) = x.end
+message_end (M.Request id x) = x.end
+message_end (M.Response id x) = x.end
+message_end (M.Ping id end) = end
+message_end (M.Pong id end) = end
+message_end (M.IndexUpdate id x) = x.end
+message_end (M.Options id x) = x.end
+
 -- what is said of an answer of the reading at once
-abbrev pub end_of : Message → Answer
-end_of (M.Index id x) = A.Ended x.end
-end_of (M.Request id x) = A.Ended x.end
-end_of (M.Response id x) = A.Ended x.end
-end_of (M.Ping id end) = A.Ended end
-end_of (M.Pong id end) = A.Ended end
-end_of (M.IndexUpdate id x) = A.Ended x.end
-end_of (M.Options id x) = A.Ended x.end
-end_of (M.Refused r) = stop r.number r.place
+abbrev pub end_of : Result Message Refusal → Answer
+end_of (Ok m) = Ok (Some (message_end m))
+end_of (Err r) = stop r.number r.place
 
 -- the header has come, and the place is a short one
 pub record UnderWay (ws : List ℕ) : Type 0 where

@@ -1,5 +1,5 @@
 // Feeding a run to words.
-ghost use Rattle.std.specs.Prelude.{◌≡◌, ◌<◌, length};
+ghost use Rattle.std.specs.Prelude.{◌≡◌, ◌<◌, length, Ok, None};
 ghost use Rattle.feed.specs.Missing.{missing_in};
 ghost use Rattle.feed_lent.specs.Lent.{feed_of, FedLent};
 ghost use Rattle.feed_lent.specs.Steps.{UnderWay, StringAt, Unread, edition_of, missing_by};
@@ -10,18 +10,17 @@ use crate::fields::{
 };
 use crate::lent::{Said, packed, tag_in, unpacked};
 use crate::once::at_once;
-use feed::Answer;
 use feed::feeding::word_missing;
 use feed::sound::is_sound;
 use message::Edition;
-use xdr::{Refusal, Word};
+use xdr::Refusal;
 
 // A run that ends within a field.
 fn waiting(taken: usize) -> Said
-    ensures { result ≡ record { answer = Answer.Waiting; taken = taken } }
+    ensures { result ≡ record { answer = Ok None; taken = taken } }
 {
     Said {
-        answer: Answer::Waiting,
+        answer: Ok(None),
         taken,
     }
 }
@@ -33,7 +32,7 @@ fn feed_state(words: &mut [u32; 16], run: &[u8]) -> Said
     let state = unpacked(words);
     if !is_sound(state) {
         return Said {
-            answer: Answer::Refused(Refusal::at_start(22)),
+            answer: Err(Refusal::at_start(22)),
             taken: 0,
         };
     }
@@ -62,23 +61,22 @@ fn feed_first(words: &mut [u32; 16], run: &[u8]) -> Said
     requires { Unread words.old }
     ensures { FedLent words.old run.now result words.new }
 {
-    let Word::Taken(header, _) = xdr::read_word(run, 0) else {
+    let Ok((header, _)) = xdr::read_word(run, 0) else {
         return feed_state(words, run);
     };
-    let answer = at_once(edition_of(words[0]), run);
-    match answer {
-        Answer::Waiting => feed_state(words, run),
-        Answer::Ended(end) => {
-            *words = closed(words, 21, 0, end, header);
+    match at_once(edition_of(words[0]), run) {
+        Ok(None) => feed_state(words, run),
+        Ok(Some(end)) => {
+            closed(words, 21, 0, end, header);
             Said {
-                answer: Answer::Ended(end),
+                answer: Ok(Some(end)),
                 taken: end,
             }
         }
-        Answer::Refused(r) => {
-            *words = closed(words, 22, r.number, r.place, header);
+        Err(r) => {
+            closed(words, 22, r.number, r.place, header);
             Said {
-                answer: Answer::Refused(r),
+                answer: Err(r),
                 taken: run.len(),
             }
         }
@@ -92,11 +90,11 @@ fn feed_string(words: &mut [u32; 16], run: &[u8]) -> Said
 {
     let len = run.len();
     if is_in_contents(words[9], words[10], len) {
-        *words = contents_over(words, run);
+        contents_over(words, run);
         return waiting(len);
     }
     if is_in_pad(words[9], words[10], run) {
-        *words = zero_over(words);
+        zero_over(words);
         return waiting(len);
     }
     feed_state(words, run)
@@ -109,11 +107,11 @@ fn feed_on(words: &mut [u32; 16], run: &[u8]) -> Said
 {
     let len = run.len();
     if is_in_gap(words, len) {
-        *words = passed_over(words, len as u32);
+        passed_over(words, len as u32);
         return waiting(len);
     }
     if is_in_word(words, len) {
-        *words = one_more(words, run[0]);
+        one_more(words, run[0]);
         return waiting(len);
     }
     if is_in_string(words) {

@@ -1,7 +1,7 @@
 // Whether a run ends within the field at hand, by the words, and the words after it. The tests say no to whatever is out of the ordinary:
 // a run that they do not know is fed to the state that the words are.
 ghost use Rattle.std.specs.Prelude.{◌≡◌, true, ◌+◌, ◌<◌, ◌≤◌, length, get_or};
-ghost use Rattle.feed_lent.specs.Steps.{UnderWay, InGap, InWord, InString, GapAt, WordAt, StringAt, Unread, passed_over, one_more, OverContents, zero_over, closed};
+ghost use Rattle.feed_lent.specs.Steps.{UnderWay, GapAt, WordAt, StringAt, Unread, passed_over, one_more, OverContents, zero_over, closed};
 
 use crate::lent::{high_half, low_half, scan_of, scan_word};
 use crate::tags::{gap_of, string_of, word_of};
@@ -19,19 +19,11 @@ pub(crate) fn is_under_way(words: &[u32; 16]) -> bool
     words[14] == 4
 }
 
-// Whether so many bytes end within bytes that are passed over, by the words of a goal, a place and a word.
-fn ends_in_gap(
-    tag: u32,
-    n: u32,
-    m: u32,
-    k: u32,
-    place: u32,
-    have: u32,
-    value: u32,
-    len: usize,
-) -> bool
-    ensures { result ≡ true → InGap tag n m k place have value len }
+// Whether so many bytes end within bytes that are passed over.
+pub(crate) fn is_in_gap(words: &[u32; 16], len: usize) -> bool
+    ensures { result ≡ true → GapAt words.now len }
 {
+    let [tag, n, m, k, place, _, have, value, ..] = *words;
     if tag < 17 {
         return false;
     }
@@ -51,53 +43,20 @@ fn ends_in_gap(
     room_for(place as usize, (n as u64) + most)
 }
 
-// The same by all words.
-pub(crate) fn is_in_gap(words: &[u32; 16], len: usize) -> bool
-    ensures { result ≡ true → GapAt words.now len }
-{
-    ends_in_gap(
-        words[0], words[1], words[2], words[3], words[4], words[6], words[7], len,
-    )
-}
-
 // The words after so many of them.
-pub(crate) fn passed_over(words: &[u32; 16], k: u32) -> [u32; 16]
-    requires { (k ≤ get_or words.now 1 0) × (get_or words.now 4 0 + k ≤ 22000000) }
-    ensures { result ≡ passed_over words.now k }
+pub(crate) fn passed_over(words: &mut [u32; 16], k: u32)
+    requires { (k ≤ get_or words.old 1 0) × (get_or words.old 4 0 + k ≤ 22000000) }
+    ensures { words.new ≡ passed_over words.old k }
 {
-    [
-        words[0],
-        words[1] - k,
-        words[2],
-        words[3],
-        words[4] + k,
-        words[5],
-        words[6],
-        words[7],
-        words[8],
-        words[9],
-        words[10],
-        words[11],
-        words[12],
-        words[13],
-        words[14],
-        words[15],
-    ]
+    words[1] -= k;
+    words[4] += k;
 }
 
 // Whether one byte is one of a word or a length, and not its last.
-fn ends_in_word(
-    tag: u32,
-    n: u32,
-    m: u32,
-    k: u32,
-    place: u32,
-    have: u32,
-    value: u32,
-    len: usize,
-) -> bool
-    ensures { result ≡ true → InWord tag n m k place have value len }
+pub(crate) fn is_in_word(words: &[u32; 16], len: usize) -> bool
+    ensures { result ≡ true → WordAt words.now len }
 {
+    let [tag, _, m, k, place, _, have, value, ..] = *words;
     if tag == 0 {
         return false;
     }
@@ -119,54 +78,36 @@ fn ends_in_word(
     room_for(place as usize, most_string(string_of(tag - 10, k)))
 }
 
-// The same by all words.
-pub(crate) fn is_in_word(words: &[u32; 16], len: usize) -> bool
-    ensures { result ≡ true → WordAt words.now len }
-{
-    ends_in_word(
-        words[0], words[1], words[2], words[3], words[4], words[6], words[7], len,
-    )
-}
-
 // The words after it.
-pub(crate) fn one_more(words: &[u32; 16], b: u8) -> [u32; 16]
-    requires { (get_or words.now 6 0 < 3) × (get_or words.now 7 0 < 16777216) }
-    ensures { result ≡ one_more words.now b }
+pub(crate) fn one_more(words: &mut [u32; 16], b: u8)
+    requires { (get_or words.old 6 0 < 3) × (get_or words.old 7 0 < 16777216) }
+    ensures { words.new ≡ one_more words.old b }
 {
-    [
-        words[0],
-        words[1],
-        words[2],
-        words[3],
-        words[4],
-        words[5],
-        words[6] + 1,
-        words[7] * 256 + (b as u32),
-        words[8],
-        words[9],
-        words[10],
-        words[11],
-        words[12],
-        words[13],
-        words[14],
-        words[15],
-    ]
+    words[6] += 1;
+    words[7] = words[7] * 256 + (b as u32);
 }
 
-// Whether words are those of a state within a string: by the words of a goal, a place and a string.
-fn holds_string(
-    tag: u32,
-    k: u32,
-    place: u32,
-    have: u32,
-    value: u32,
-    at: u32,
-    todo: u32,
-    pad: u32,
-    zeros: u32,
-) -> bool
-    ensures { result ≡ true → InString tag k place have value at todo pad zeros }
+// Whether words are those of a state within a string.
+pub(crate) fn is_in_string(words: &[u32; 16]) -> bool
+    ensures { result ≡ true → StringAt words.now }
 {
+    let [
+        tag,
+        _,
+        _,
+        k,
+        place,
+        _,
+        have,
+        value,
+        at,
+        todo,
+        pad,
+        _,
+        _,
+        zeros,
+        ..
+    ] = *words;
     if tag < 10 {
         return false;
     }
@@ -180,15 +121,6 @@ fn holds_string(
     room_for(place as usize, most_string(string))
 }
 
-// The same by all words.
-pub(crate) fn is_in_string(words: &[u32; 16]) -> bool
-    ensures { result ≡ true → StringAt words.now }
-{
-    holds_string(
-        words[0], words[3], words[4], words[6], words[7], words[8], words[9], words[10], words[13],
-    )
-}
-
 // Whether so many bytes are contents, and more of the string is to come.
 pub(crate) fn is_in_contents(todo: u32, pad: u32, len: usize) -> bool
     ensures { result ≡ true → (len ≤ todo) × (len < todo + pad) }
@@ -200,36 +132,18 @@ pub(crate) fn is_in_contents(todo: u32, pad: u32, len: usize) -> bool
 }
 
 // The words after them.
-pub(crate) fn contents_over(words: &[u32; 16], run: &[u8]) -> [u32; 16]
-    requires { StringAt words.now × (length run.now ≤ get_or words.now 9 0) }
-    ensures { OverContents words.now run.now result }
+pub(crate) fn contents_over(words: &mut [u32; 16], run: &[u8])
+    requires { StringAt words.old × (length run.now ≤ get_or words.old 9 0) }
+    ensures { OverContents words.old run.now words.new }
 {
     let k = run.len() as u32;
     let string = string_of(words[0] - 10, words[3]);
-    let scan = scan_on(
-        rule_of(string),
-        scan_of(words[11], words[12]),
-        words[8],
-        run,
-    );
-    [
-        words[0],
-        words[1],
-        words[2],
-        words[3],
-        words[4],
-        words[5],
-        words[6],
-        words[7],
-        words[8] + k,
-        words[9] - k,
-        words[10],
-        scan_word(scan),
-        scan.start,
-        words[13],
-        words[14],
-        words[15],
-    ]
+    let before = scan_of(words[11], words[12]);
+    let scan = scan_on(rule_of(string), before, words[8], run);
+    words[8] += k;
+    words[9] -= k;
+    words[11] = scan_word(scan);
+    words[12] = scan.start;
 }
 
 // Whether a run is one zero of a pad, and not its last byte.
@@ -249,28 +163,12 @@ pub(crate) fn is_in_pad(todo: u32, pad: u32, run: &[u8]) -> bool
 }
 
 // The words after it.
-pub(crate) fn zero_over(words: &[u32; 16]) -> [u32; 16]
-    requires { (1 < get_or words.now 10 0) × (get_or words.now 13 0 < 3) }
-    ensures { result ≡ zero_over words.now }
+pub(crate) fn zero_over(words: &mut [u32; 16])
+    requires { (1 < get_or words.old 10 0) × (get_or words.old 13 0 < 3) }
+    ensures { words.new ≡ zero_over words.old }
 {
-    [
-        words[0],
-        words[1],
-        words[2],
-        words[3],
-        words[4],
-        words[5],
-        words[6],
-        words[7],
-        words[8],
-        words[9],
-        words[10] - 1,
-        words[11],
-        words[12],
-        words[13] + 1,
-        words[14],
-        words[15],
-    ]
+    words[10] -= 1;
+    words[13] += 1;
 }
 
 // Whether no byte has come.
@@ -302,31 +200,15 @@ pub(crate) fn is_unread(words: &[u32; 16]) -> bool
 }
 
 // The words of a message that has ended or was refused at a place, by its tag, a refusal's number and its header.
-pub(crate) fn closed(
-    words: &[u32; 16],
-    tag: u32,
-    number: u32,
-    place: usize,
-    header: u32,
-) -> [u32; 16]
-    ensures { result ≡ closed words.now tag number place header }
+pub(crate) fn closed(words: &mut [u32; 16], tag: u32, number: u32, place: usize, header: u32)
+    ensures { words.new ≡ closed words.old tag number place header }
 {
-    [
-        tag,
-        number,
-        words[2],
-        words[3],
-        low_half(place),
-        high_half(place),
-        0,
-        0,
-        words[8],
-        words[9],
-        words[10],
-        words[11],
-        words[12],
-        words[13],
-        4,
-        header,
-    ]
+    words[0] = tag;
+    words[1] = number;
+    words[4] = low_half(place);
+    words[5] = high_half(place);
+    words[6] = 0;
+    words[7] = 0;
+    words[14] = 4;
+    words[15] = header;
 }

@@ -6,13 +6,14 @@ ghost use Rattle.std.specs.Prelude.{◌≡◌, cond, ◌+◌, ◌*◌, ◌<◌, 
 ghost use Rattle.feed_lent.specs.Lent.{tag_in, scan_word, scan_of, feed_of, Lent};
 
 use crate::tags::{goal_of, goal_tagged};
+use feed::Feed;
 use feed::state::{Cursor, Front, Scan};
-use feed::{Answer, Feed};
+use xdr::Refusal;
 
-// What is said of a run, and how many of its bytes were taken.
+// What is said of a run (no place while it is waiting, the place where a message has ended, or the refusal), and how many of its bytes were taken.
 #[derive(Clone, Copy)]
 pub struct Said {
-    pub answer: Answer,
+    pub answer: Result<Option<usize>, Refusal>,
     pub taken: usize,
 }
 

@@ -1,4 +1,5 @@
-// A goal as numbers: a tag that says which it is, and what it counts.
+// A goal as numbers: a tag that says which it is, and what it counts. They stay numbers here and wherever they are passed on, since the words
+// are a host's, and any number may stand in them.
 ghost use Rattle.std.specs.Prelude.{◌≡◌, cond};
 ghost use Rattle.feed_lent.specs.Lent.{edition_tag, word_tagged, string_tagged, gap_tagged, goal_tagged, late_word_of, word_of, string_of, gap_of, goal_of};
 

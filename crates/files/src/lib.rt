@@ -1,33 +1,31 @@
-// Files to read. One that is no regular file is not opened: a pipe would be waited for without end.
+// Files to read, and what is said where lines can't be written. A file that is no regular one is not opened: a pipe would be waited for without end.
 #![tactic(auto)]
 
+mod lost;
 mod status;
 mod table;
 
+pub use lost::told;
 use std::fs;
 use std::io::ErrorKind;
 use std::rt::Files;
 pub use table::{Sizes, first, load, read_full};
 
-// What opening gives: a file; that there is no such file; or that there is one, which can't be read.
-#[derive(Drop)]
-pub enum Opened<F> {
-    File(F),
+// Why there is no file to read: there is none of that name, or there is one that can't be read.
+#[derive(Clone, Copy, PartialEq, Eq, Debug)]
+pub enum OpenError {
     Absent,
     Unreadable,
 }
 
 // Opens a regular file for reading. A name that is no text is of no file that can be read.
-pub fn open<R: Files>(rt: &R, name: &[u8]) -> Opened<R::File> {
-    let Some(path) = status::path_of(name) else {
-        return Opened::Unreadable;
-    };
+pub fn open<R: Files>(rt: &R, name: &[u8]) -> Result<R::File, OpenError> {
+    let path = status::path_of(name).ok_or(OpenError::Unreadable)?;
     if status::is_other(status::mode_of(rt, path)) {
-        return Opened::Unreadable;
+        return Err(OpenError::Unreadable);
     }
-    match fs::open(rt, path) {
-        Ok(file) => Opened::File(file),
-        Err(e) if e.kind() == ErrorKind::NotFound => Opened::Absent,
-        Err(_) => Opened::Unreadable,
-    }
+    fs::open(rt, path).map_err(|e| match e.kind() {
+        ErrorKind::NotFound => OpenError::Absent,
+        _ => OpenError::Unreadable,
+    })
 }

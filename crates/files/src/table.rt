@@ -3,7 +3,7 @@ ghost use Rattle.std.specs.Prelude.{◌≤◌, ◌≡◌, length, take};
 ghost use Rattle.xdr.specs.Buffer.{Puts};
 ghost use Rattle.files.specs.StandIn.{stand_in};
 
-use crate::{Opened, open};
+use crate::{OpenError, open};
 use std::io::Read;
 use std::rt::Files;
 
@@ -22,10 +22,7 @@ fn stand_in(absent: bool, buf: &mut [u8]) -> usize
     ensures puts { Puts (stand_in absent) buf.old 0 result buf.new }
     ensures upper_bound { result ≤ length buf.new }
 {
-    if absent {
-        return xdr::put_word(buf, 0, 0);
-    }
-    0
+    if absent { xdr::put_word(buf, 0, 0) } else { 0 }
 }
 
 // Reads until a buffer is full, there is no more or a read fails, and gives how many bytes there are.
@@ -33,6 +30,7 @@ pub fn read_full<R: Read>(reader: &mut R, buf: &mut [u8]) -> usize
     ensures { result ≤ length buf.new }
 {
     let mut done = 0;
+    // A `while`, since a read may give fewer bytes than there is room for.
     while done < buf.len() {
         match reader.read(&mut buf[done..]) {
             Ok(0) | Err(_) => break,
@@ -48,9 +46,8 @@ pub fn load(rt: &impl Files, name: &[u8], buf: &mut [u8]) -> usize
     ensures { result ≤ length buf.new }
 {
     match open(rt, name) {
-        Opened::File(mut file) => read_full(&mut file, buf),
-        Opened::Absent => stand_in(true, buf),
-        Opened::Unreadable => stand_in(false, buf),
+        Ok(mut file) => read_full(&mut file, buf),
+        Err(e) => stand_in(e == OpenError::Absent, buf),
     }
 }
 

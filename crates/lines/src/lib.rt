@@ -4,7 +4,7 @@
 ghost use Rattle.std.specs.Prelude.{◌≡◌};
 ghost use Rattle.lines.specs.Buffer.{is_untouched};
 
-use std::io;
+use std::{fmt, io};
 use xdr::Refusal;
 
 pub fn text(rt: &impl Print, s: &[u8]) -> io::Result<()> {
@@ -16,51 +16,46 @@ pub fn number(rt: &impl Print, n: u64) -> io::Result<()> {
 }
 
 // Bytes in hexadecimal.
-pub fn bytes(rt: &impl Print, s: &[u8]) -> io::Result<()> {
-    let mut i = 0;
-    while i < s.len() {
-        let byte = s[i];
-        print!(rt; "{byte:02x}")?;
-        i += 1;
+#[derive(Clone, Copy)]
+pub struct Hex<'a>(pub &'a [u8]);
+
+impl<'a> fmt::Display for Hex<'a> {
+    fn fmt<W: fmt::Write>(&self, f: &mut fmt::Formatter<W>) -> fmt::Result {
+        for byte in self.0 {
+            write!(f, "{byte:02x}")?;
+        }
+        Ok(())
     }
-    Ok(())
+}
+
+// The same, printed.
+pub fn bytes(rt: &impl Print, s: &[u8]) -> io::Result<()> {
+    print!(rt; "{}", Hex(s))
 }
 
 // The number and the place of a refusal, and the end of the line.
 pub fn refusal(rt: &impl Print, r: Refusal) -> io::Result<()> {
-    text(rt, b"refused ")?;
-    number(rt, r.number as u64)?;
-    text(rt, b" at ")?;
-    number(rt, r.place as u64)?;
-    text(rt, b"\n")
+    println!(rt; "refused {} at {}", r.number, r.place)
 }
 
 // Whether a buffer still holds what the cases fill it with before a call.
 fn untouched(out: &[u8]) -> bool
     ensures { result ≡ is_untouched out.now }
 {
-    let mut i = 0;
-    while i < out.len() {
-        if out[i] != 0xee {
-            return false;
-        }
-        i += 1;
-    }
-    true
+    out.iter().all(|b| *b == 0xee)
 }
 
 // What a call left of the buffer.
-pub fn buffer(rt: &impl Print, out: &[u8]) -> io::Result<()> {
+pub fn buffer(out: &[u8]) -> &'static str {
     if untouched(out) {
-        text(rt, b", buffer as it was")
+        "buffer as it was"
     } else {
-        text(rt, b", buffer changed")
+        "buffer changed"
     }
 }
 
 // What a refused call left of the buffer, and the refusal.
 pub fn refused(rt: &impl Print, out: &[u8], r: Refusal) -> io::Result<()> {
-    buffer(rt, out)?;
-    text(rt, b": ")?;
+    print!(rt; ", {}: ", buffer(out))?;
     refusal(rt, r)
 }

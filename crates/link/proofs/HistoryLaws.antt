@@ -1,6 +1,9 @@
 -- After any calls, whatever each issue was told, a link holds exactly the requests issued and since then neither answered nor dropped, each with the
 -- hash that was asked for.
-use Prim.Native.Nat.{ℕ, suc, ◌+◌, ◌≤◌}
+use Rattle.std.specs.Prelude.{Ok, Err}
+use Rattle.std.specs.declared.result.Result.{Result}
+use Rattle.xdr.specs.declared.answer.Refusal.{Refusal}
+use Prim.Native.Nat.{ℕ, suc, ◌≤◌}
 use native.Mathlib.Omega.{arith}
 use mathlib.Core.Path.{◌≡◌, refl, sym, ap, subst, ◌∙◌}
 use mathlib.Core.Bool.{Bool, true, false, cond}
@@ -13,20 +16,17 @@ use borrow.Author.Tests.{eq-eqb, ne_eqb, leb-true}
 use Rattle.xdr.specs.Filling.{Outcome, gives, refuses, in_room}
 use Rattle.message.specs.Answers.{message_in}
 use Rattle.message.specs.Kinds.{response_in}
-use Rattle.message.specs.declared.answer.ResponseSpan.{ResponseSpan}
 use Rattle.message.specs.declared.kind.ResponseIn.{ResponseIn}
-use Rattle.message.specs.declared.kind.ResponseIn.TheVariants as P
 use Rattle.message.specs.declared.edition.Edition.TheVariants as E
 use Rattle.message_write.specs.Writing.{request_bytes}
 use Rattle.xdr.proofs.FillingLaws.{given_room}
 use Rattle.link.specs.Requests.{is_consecutive}
 use Rattle.link.specs.OneLink.{outstanding, window_fits, empty_link, issuing, appended, issued_link, without_oldest, released, answered_by, emptied}
-use Rattle.link.specs.Hashes.{Asked, asked, with_hashes, no_hashes, without_first, hashes_released, is_content, arrival_of}
+use Rattle.link.specs.Hashes.{Asked, asked, with_hashes, no_hashes, without_first, arrival_of}
 use Rattle.link.specs.History.{Hashed, LinkCall, issue, answer, drop, Event, issue_was, answer_was, drop_was, hashed_issued, hashed_answered, after_call, event, final, history, issued, settles, settled, kept, standing, issued_ids, ids_from}
 use Rattle.link.specs.declared.request.Request.{Request}
 use Rattle.link.specs.declared.list.Link.{Link}
 use Rattle.link.specs.declared.outcome.LinkAnswered.{LinkAnswered}
-use Rattle.link.specs.declared.outcome.Arrival.TheVariants as A
 use Rattle.link.proofs.RequestLaws.{both}
 use Rattle.link.proofs.LinkLaws.{Orderly, orderly_facts, orderly_made}
 use Rattle.link.proofs.IssueLaws.{issuing_tells}
@@ -101,20 +101,6 @@ moved_issue held limit q r n o size h room (gives l) e g =
     }
 moved_issue held limit q r n o size h room (refuses k p) e g = stays q (issue_was q.link.next size h (refuses k p)) g (λ id. refl) refl
 
-settles_arrived : (i id : ℕ) (x : ResponseSpan) (r : Request) (hs m : List ℕ) (a b c : Bool)
-    → eqb x.«data».length 0 ≡ a → eqb x.«data».length r.size ≡ b → is_content hs m x.«data» ≡ c
-    → settles i (answer_was (P.Taken id x) (arrival_of hs m (released r x.«data»))) ≡ eqb id i
-settles_arrived i id x r hs m true b c p q s = rw p refl
-settles_arrived i id x r hs m false true true p q s = rw (p, q, s) refl
-settles_arrived i id x r hs m false true false p q s = rw (p, q, s) refl
-settles_arrived i id x r hs m false false c p q s = rw (p, q) refl
-
-hashes_gone : (hs : List ℕ) (r : Request) (x : ResponseSpan) (a b : Bool) → eqb x.«data».length 0 ≡ a → eqb x.«data».length r.size ≡ b
-    → hashes_released hs (released r x.«data») ≡ without_first hs
-hashes_gone hs r x true b p q = rw p refl
-hashes_gone hs r x false true p q = rw (p, q) refl
-hashes_gone hs r x false false p q = rw (p, q) refl
-
 rest_length : (q : Link) (r : Request) (rs : List Request) → Good q → outstanding q ≡ r ∷ rs → length rs ≤ 15
 rest_length q r rs g e =
     let s : Orderly q = orderly_facts q g.orderly in
@@ -123,14 +109,14 @@ rest_length q r rs g e =
     omega arith
 
 -- an answer to the oldest
-module _ (q : Hashed) (m : List ℕ) (id : ℕ) (x : ResponseSpan) (r : Request) (rs : List Request) (e : outstanding q.link ≡ r ∷ rs) (g : Sound q) where
+module _ (q : Hashed) (m : List ℕ) (x : ResponseIn) (r : Request) (rs : List Request) (e : outstanding q.link ≡ r ∷ rs) (g : Sound q) where
   abbrev was : Event
-  was = answer_was (P.Taken id x) (arrival_of q.hashes m (released r x.«data»))
+  was = answer_was (Ok x) (arrival_of q.hashes m (Ok (released r x.response.«data»)))
 
   abbrev then : Hashed
   then = record { link = without_oldest q.link; hashes = without_first q.hashes }
 
-  moved_oldest : r.id ≡ id → Moved q was then
+  moved_oldest : r.id ≡ x.id → Moved q was then
   moved_oldest same =
       let k : Link = q.link in
       let hs : List ℕ = q.hashes in
@@ -138,15 +124,14 @@ module _ (q : Hashed) (m : List ℕ) (id : ℕ) (x : ResponseSpan) (r : Request)
       let few : length rs ≤ 15 = rest_length k r rs g.good e in
       let out : outstanding (without_oldest k) ≡ rs = outstanding_without k r rs g.good e in
       let o : is_consecutive (r ∷ rs) k.next ≡ true = ap (λ (l : List Request). is_consecutive l k.next) (sym e) ∙ s.ordered in
-      let d : Apart id rs = subst (λ (i : ℕ). Apart i rs) same (first_apart r rs k.next o few) in
-      let st : (i : ℕ) → settles i was ≡ eqb id i = λ i. settles_arrived i id x r hs m (eqb x.«data».length 0) (eqb x.«data».length r.size) (is_content hs m x.«data») refl refl refl in
+      let d : Apart x.id rs = subst (λ (i : ℕ). Apart i rs) same (first_apart r rs k.next o few) in
       let rest : asked_in then ≡ with_hashes rs (list.drop 32 hs) = ap (λ (l : List Request). with_hashes l (without_first hs)) out ∙ ap (with_hashes rs) (without_first_lem hs (omega (arith, g.hashed))) ∙ hashes_behind rs (list.drop 32 hs) (replicate 32 0) (omega (arith, few, length-drop 32 hs, g.hashed)) in
       record {
         sound = record { good = good_without k r rs g.good e; hashed = length_hashes hs g.hashed };
         keeps = λ es.
-            let first : kept (was ∷ es) (with_hashes (r ∷ rs) hs) ≡ kept (was ∷ es) (with_hashes rs (list.drop 32 hs)) = rw (st r.id, eq-eqb id r.id (sym same)) in
+            let first : kept (was ∷ es) (with_hashes (r ∷ rs) hs) ≡ kept (was ∷ es) (with_hashes rs (list.drop 32 hs)) = rw (eq-eqb x.id r.id (sym same)) in
             ap (kept es) rest
-            ∙ sym (kept_apart id was es rs (list.drop 32 hs) st d)
+            ∙ sym (kept_apart x.id was es rs (list.drop 32 hs) (λ i. refl) d)
             ∙ sym first
             ∙ ap (λ (l : List Request). kept (was ∷ es) (with_hashes l hs)) (sym e)
             ∙ sym (append-nil (kept (was ∷ es) (asked_in q)));
@@ -156,12 +141,11 @@ moved_answer : (q : Hashed) (m : List ℕ) → Sound q
     → Moved q (answer_was (response_in (message_in E.New m)) (arrival_of q.hashes m (answered_by q.link (response_in (message_in E.New m))).release)) (hashed_answered q.hashes (answered_by q.link (response_in (message_in E.New m))))
 moved_answer q m g = go (response_in (message_in E.New m)) (answered_by q.link (response_in (message_in E.New m))) (answer_was_lem q.link (response_in (message_in E.New m)))
   where
-    go : (y : ResponseIn) (a : LinkAnswered) → AnswerWas q.link y a → Moved q (answer_was y (arrival_of q.hashes m a.release)) (hashed_answered q.hashes a)
-    go y a (refused_so r) = stays q (answer_was y (A.Refused r)) g (λ i. refl) refl
-    go y a (freed id x r rs k o s) =
-        let gone : hashes_released q.hashes (released r x.«data») ≡ without_first q.hashes = hashes_gone q.hashes r x (eqb x.«data».length 0) (eqb x.«data».length r.size) refl refl in
-        subst (λ (z : ResponseIn). Moved q (answer_was z (arrival_of q.hashes m (released r x.«data»))) (hashed_answered q.hashes a)) (sym k)
-        (subst (λ (hs : List ℕ). Moved q (was q m id x r rs o g) (record { link = without_oldest q.link; hashes = hs })) (sym gone) (moved_oldest q m id x r rs o g s))
+    go : (y : Result ResponseIn Refusal) (a : LinkAnswered) → AnswerWas q.link y a → Moved q (answer_was y (arrival_of q.hashes m a.release)) (hashed_answered q.hashes a)
+    go y a (refused_so r) = stays q (answer_was y (Err r)) g (λ i. refl) refl
+    go y a (freed x r rs k o s) =
+        subst (λ (z : Result ResponseIn Refusal). Moved q (answer_was z (arrival_of q.hashes m (Ok (released r x.response.«data»)))) (hashed_answered q.hashes a)) (sym k)
+        (moved_oldest q m x r rs o g s)
 
 moved_drop : (q : Hashed) → Sound q → Moved q (drop_was true) (record { link = emptied q.link; hashes = no_hashes })
 moved_drop q g =
@@ -213,7 +197,7 @@ window_kept (answer m) q = go (answered_by q.link (response_in (message_in E.New
   where
     go : (a : LinkAnswered) → AnswerWas q.link (response_in (message_in E.New m)) a → a.link.window ≡ q.link.window
     go a (refused_so r) = refl
-    go a (freed id x r rs k o s) = refl
+    go a (freed x r rs k o s) = refl
 window_kept drop q = refl
 
 pub windows_kept : (cs : List LinkCall) (q : Hashed) → (final q cs).link.window ≡ q.link.window
@@ -222,12 +206,12 @@ windows_kept (c ∷ cs) q = windows_kept cs (after_call q c) ∙ window_kept c q
 
 -- the IDs issued follow one another from the next ID on: no other call than an accepted issue takes one
 
-next_answered : (q : Link) (m : ResponseIn) → (answered_by q m).link.next ≡ q.next
+next_answered : (q : Link) (m : Result ResponseIn Refusal) → (answered_by q m).link.next ≡ q.next
 next_answered q m = go (answered_by q m) (answer_was_lem q m)
   where
     go : (a : LinkAnswered) → AnswerWas q m a → a.link.next ≡ q.next
     go a (refused_so r) = refl
-    go a (freed id x r rs k o s) = refl
+    go a (freed x r rs k o s) = refl
 
 pub ids_follow : (cs : List LinkCall) (q : Hashed) → issued_ids (history q cs) ≡ ids_from q.link.next (length (issued_ids (history q cs)))
 ids_follow [] q = refl

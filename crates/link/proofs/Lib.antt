@@ -6,6 +6,5 @@ pub mod AnswerLaws
 pub mod Moves
 pub mod AskedLaws
 pub mod HistoryLaws
-mod ShiftLaws
 mod HashLaws
 pub mod OwnedArray

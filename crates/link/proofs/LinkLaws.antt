@@ -13,22 +13,22 @@ use Rattle.link.specs.OneLink.{window_fits, outstanding, shape_fits, is_orderly}
 use Rattle.link.specs.Steps.{orderly_bytes}
 use Rattle.link.specs.declared.request.Request.{Request}
 use Rattle.link.specs.declared.list.Link.{Link}
-use Rattle.link.specs.declared.list.Tally.TheVariants.{Unsound, Bytes}
+use Rattle.std.specs.Prelude.{Some, None}
 use Rattle.link.proofs.RequestLaws.{both, Passed}
 
 -- a tally
 
 pub tally_done : (q : Link) (i follower sum : ℕ) → i ≤ 0 → shape_fits q ≡ true
-    → Passed (slice i q.count q.entries) q.next follower sum → Bytes sum ≡ orderly_bytes q
+    → Passed (slice i q.count q.entries) q.next follower sum → Some sum ≡ orderly_bytes q
 unfolding is_orderly
 tally_done q zero follower sum z s p = rw (s, p.ordered, p.summed)
 tally_done q (suc i) follower sum z s p = absurd (omega arith)
 
-pub tally_shape : (q : Link) → shape_fits q ≡ false → Unsound ≡ orderly_bytes q
+pub tally_shape : (q : Link) → shape_fits q ≡ false → None ≡ orderly_bytes q
 unfolding is_orderly
 tally_shape q s = rw s
 
-pub tally_not : (q : Link) → is_consecutive (outstanding q) q.next ≡ false → Unsound ≡ orderly_bytes q
+pub tally_not : (q : Link) → is_consecutive (outstanding q) q.next ≡ false → None ≡ orderly_bytes q
 unfolding is_orderly
 tally_not q e = rw (e, and-false (shape_fits q))
 
@@ -38,19 +38,19 @@ shape_count q s =
     let n : q.count ≤ q.window = leb-true _ _ (both (leb q.count q.window) _ (both (window_fits q.window) _ s).1).0 in
     omega arith
 
-pub bytes_of : (b : Bool) (m n : ℕ) → Bytes n ≡ cond b (Bytes m) Unsound → (b ≡ true) × (n ≡ m)
+pub bytes_of : (b : Bool) (m n : ℕ) → Some n ≡ cond b (Some m) None → (b ≡ true) × (n ≡ m)
 bytes_of true m n e = (refl, cc)
-bytes_of false m n e = let z : ◌≡◌ {A = ℕ} 0 1 = cc in absurd (omega arith)
+bytes_of false m n e = cc
 
-pub unsound_of : (b : Bool) (m : ℕ) → Unsound ≡ cond b (Bytes m) Unsound → b ≡ false
-unsound_of true m e = let z : ◌≡◌ {A = ℕ} 0 1 = cc in absurd (omega arith)
+pub unsound_of : (b : Bool) (m : ℕ) → None ≡ cond b (Some m) None → b ≡ false
+unsound_of true m e = cc
 unsound_of false m e = refl
 
 -- what a tally tells
-pub tally_bytes : (q : Link) (n : ℕ) → Bytes n ≡ orderly_bytes q → (is_orderly q ≡ true) × (n ≡ total (outstanding q))
+pub tally_bytes : (q : Link) (n : ℕ) → Some n ≡ orderly_bytes q → (is_orderly q ≡ true) × (n ≡ total (outstanding q))
 tally_bytes q n e = bytes_of (is_orderly q) (total (outstanding q)) n e
 
-pub tally_unsound : (q : Link) → Unsound ≡ orderly_bytes q → is_orderly q ≡ false
+pub tally_unsound : (q : Link) → None ≡ orderly_bytes q → is_orderly q ≡ false
 tally_unsound q e = unsound_of (is_orderly q) (total (outstanding q)) e
 
 -- the facts of an orderly link

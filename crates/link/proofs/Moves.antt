@@ -68,7 +68,7 @@ good_appended q n g below fits =
 -- one fewer
 front : (n : ℕ) (es : List Request) (b r : Request) (rs : List Request) → take n es ≡ r ∷ rs → n ≤ length es
     → take (n - 1) (drop 1 es ++ (b ∷ [])) ≡ rs
-front zero es b r rs e h = let z : ◌≡◌ {A = ℕ} 0 1 = cc in absurd (omega arith)
+front zero es b r rs e h = cc
 front (suc k) [] b r rs e h = absurd (omega arith)
 front (suc k) (x ∷ xs) b r rs e h =
     let p : suc k - 1 ≡ k = omega arith in

@@ -13,7 +13,7 @@ use Rattle.link.specs.declared.request.Request.{Request}
 
 pub both : (a b : Bool) → (a && b) ≡ true → (a ≡ true) × (b ≡ true)
 both true b p = (refl, p)
-both false b p = let z : ◌≡◌ {A = ℕ} 0 1 = cc in absurd (omega arith)
+both false b p = cc
 
 -- a part that is not in order
 pub is_consecutive_drop : (k : ℕ) (rs : List Request) (next : ℕ) → is_consecutive (drop k rs) next ≡ false → is_consecutive rs next ≡ false
@@ -77,9 +77,11 @@ counted_sixteen n es e l = subst (λ (m : ℕ). m ≤ 16) (sym e) (subst (λ (m 
     most (suc n) [] = omega arith
     most (suc n) (x ∷ xs) = let h = most n xs in omega arith
 
--- one entry more in a sum that goes backwards
-pub total_more : (es : List Request) (n i : ℕ) → n ≤ length es → 0 < i → i ≤ n → total (slice (i - 1) n es) ≡ total (slice i n es) + (get_or es (i - 1) blank).size
-total_more es n i f p b =
-    let e : suc (i - 1) ≡ i = omega arith in
-    let s : slice (i - 1) n es ≡ get_or es (i - 1) blank ∷ slice i n es = slice-cons (i - 1) n es blank (omega arith) f ∙ ap (λ (k : ℕ). get_or es (i - 1) blank ∷ slice k n es) e in
-    ap total s ∙ omega arith
+-- one entry more in a sum
+pub total_next : (es : List Request) (i : ℕ) → i < length es → total (take (i + 1) es) ≡ total (take i es) + (get_or es i blank).size
+total_next [] i h = absurd (omega arith)
+total_next (e ∷ es) zero h = omega arith
+total_next (e ∷ es) (suc i) h =
+    let next = total_next es i (omega arith) in
+    let k : suc i + 1 ≡ suc (i + 1) = omega arith in
+    ap (λ (k : ℕ). total (take k (e ∷ es))) k ∙ omega arith

@@ -1,6 +1,8 @@
 -- The hashes of a link's requests (document 02, §6): 32 bytes for each of its entries, in their order; and what an answer brings, by the hash
 -- that was asked for.
-use Rattle.std.specs.Prelude.{ℕ, ◌+◌, ◌*◌, Bool, cond, List, [], ◌∷◌, ◌++◌, length, take, drop, replicate, leb}
+use Rattle.std.specs.Prelude.{Ok, Err, ℕ, ◌+◌, ◌*◌, Bool, cond, List, [], ◌∷◌, ◌++◌, length, take, drop, replicate, leb}
+use Rattle.std.specs.declared.result.Result.{Result}
+use Rattle.xdr.specs.declared.answer.Refusal.{Refusal}
 use Rattle.xdr.specs.Buffer.{put}
 use Rattle.xdr.specs.Filling.{Outcome, gives, refuses}
 use Rattle.order.specs.Order.{is_equal, compare_lists}
@@ -49,19 +51,21 @@ abbrev pub without_first : (hashes : List ℕ) → List ℕ
 without_first hs = cond (leb 32 (length hs)) (drop 32 hs ++ replicate 32 0) hs
 
 -- an answer that released the oldest request takes its hash away
-abbrev pub hashes_released : (hashes : List ℕ) → Release → List ℕ
-hashes_released hs (R.Data id size d) = without_first hs
-hashes_released hs (R.NotAvailable id size) = without_first hs
-hashes_released hs (R.WrongSize id size) = without_first hs
-hashes_released hs (R.Refused r) = hs
+abbrev pub hashes_released : (hashes : List ℕ) → Result Release Refusal → List ℕ
+hashes_released hs (Ok r) = without_first hs
+hashes_released hs (Err r) = hs
 
 -- data have the hash that the oldest request asked for
 unfoldable pub is_content : (hashes message : List ℕ) → Span → Bool
 is_content hs m d = is_equal (compare_lists (digest (span_bytes m d)) (take 32 hs))
 
--- what an answer brought: data as long as asked are wrong content where their hash differs
-abbrev pub arrival_of : (hashes message : List ℕ) → Release → Arrival
-arrival_of hs m (R.Data id size d) = cond (is_content hs m d) (A.Data id size d) (A.WrongContent id size)
-arrival_of hs m (R.NotAvailable id size) = A.NotAvailable id size
-arrival_of hs m (R.WrongSize id size) = A.WrongSize id size
-arrival_of hs m (R.Refused r) = A.Refused r
+-- what a release brought: data as long as asked are wrong content where their hash differs
+abbrev pub arrived : (hashes message : List ℕ) → Release → Arrival
+arrived hs m (R.Data id size d) = cond (is_content hs m d) (A.Data id size d) (A.WrongContent id size)
+arrived hs m (R.NotAvailable id size) = A.NotAvailable id size
+arrived hs m (R.WrongSize id size) = A.WrongSize id size
+
+-- what an answer brought
+abbrev pub arrival_of : (hashes message : List ℕ) → Result Release Refusal → Result Arrival Refusal
+arrival_of hs m (Ok r) = Ok (arrived hs m r)
+arrival_of hs m (Err r) = Err r

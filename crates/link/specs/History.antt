@@ -1,11 +1,12 @@
 -- Calls on one link in a row, each given the link and the hashes that the one before handed back; which requests they issued, with the hashes
 -- asked for, and which of those were since then neither answered nor dropped.
-use Rattle.std.specs.Prelude.{ℕ, zero, suc, Bool, true, false, cond, ◌||◌, List, [], ◌∷◌, ◌++◌, map, eqb}
+use Rattle.std.specs.Prelude.{Ok, Err, ℕ, zero, suc, Bool, true, false, cond, ◌||◌, List, [], ◌∷◌, ◌++◌, map, eqb}
+use Rattle.std.specs.declared.result.Result.{Result}
+use Rattle.xdr.specs.declared.answer.Refusal.{Refusal}
 use Rattle.xdr.specs.Filling.{Outcome, gives, refuses, in_room}
 use Rattle.message.specs.Answers.{message_in}
 use Rattle.message.specs.Kinds.{response_in}
 use Rattle.message.specs.declared.kind.ResponseIn.{ResponseIn}
-use Rattle.message.specs.declared.kind.ResponseIn.TheVariants as P
 use Rattle.message.specs.declared.edition.Edition.TheVariants as E
 use Rattle.message_write.specs.Writing.{request_bytes}
 use Rattle.link.specs.Requests.{after}
@@ -14,7 +15,6 @@ use Rattle.link.specs.Hashes.{Asked, no_hashes, hashes_issued, hashes_released, 
 use Rattle.link.specs.declared.list.Link.{Link}
 use Rattle.link.specs.declared.outcome.LinkAnswered.{LinkAnswered}
 use Rattle.link.specs.declared.outcome.Arrival.{Arrival}
-use Rattle.link.specs.declared.outcome.Arrival.TheVariants as A
 
 -- a link with the hashes of its requests
 pub record Hashed : Type 0 where
@@ -31,7 +31,7 @@ pub data LinkCall : Type 0 where
 -- and what it brought; of a drop whether it was accepted
 pub data Event : Type 0 where
   issue_was : (id size : ℕ) (hash : List ℕ) → Outcome → Event
-  answer_was : ResponseIn → Arrival → Event
+  answer_was : Result ResponseIn Refusal → Result Arrival Refusal → Event
   drop_was : Bool → Event
 
 -- a link and its hashes after a Request was written or not
@@ -72,17 +72,14 @@ issued (answer_was m o) = []
 issued (drop_was t) = []
 
 -- an answer that was taken
-abbrev pub is_taken : Arrival → Bool
-is_taken (A.Data id size d) = true
-is_taken (A.NotAvailable id size) = true
-is_taken (A.WrongSize id size) = true
-is_taken (A.WrongContent id size) = true
-is_taken (A.Refused r) = false
+abbrev pub is_taken : Result Arrival Refusal → Bool
+is_taken (Ok a) = true
+is_taken (Err r) = false
 
 -- a message is the Response with an ID
-abbrev pub responds : (id : ℕ) → ResponseIn → Bool
-responds id (P.Taken k x) = eqb k id
-responds id (P.Refused r) = false
+abbrev pub responds : (id : ℕ) → Result ResponseIn Refusal → Bool
+responds id (Ok x) = eqb x.id id
+responds id (Err r) = false
 
 -- an event settles the request of an ID: the Response to it was taken, or the link was dropped
 abbrev pub settles : (id : ℕ) → Event → Bool

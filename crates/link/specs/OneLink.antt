@@ -1,5 +1,7 @@
 -- The outstanding requests of one link: which links are in order, and what each call does, where an issue is told the bytes held of a limit.
-use Rattle.std.specs.Prelude.{ℕ, zero, suc, ◌+◌, ◌-◌, Bool, cond, ◌&&◌, ◌||◌, List, [], ◌∷◌, ◌++◌, ◌≡◌, length, take, drop, set, replicate, leb, eqb}
+use Rattle.std.specs.Prelude.{Ok, Err, Some, None, ℕ, ◌+◌, ◌-◌, Bool, cond, ◌&&◌, ◌||◌, List, [], ◌∷◌, ◌++◌, ◌≡◌, length, take, drop, set, replicate, leb, eqb}
+use Rattle.std.specs.declared.result.Result.{Result}
+use Rattle.std.specs.declared.option.Option.{Option}
 use Rattle.xdr.specs.Answers.{at_start}
 use Rattle.xdr.specs.Filling.{Outcome, gives, refuses, in_room, Fills}
 use Rattle.xdr.specs.declared.answer.Refusal.{Refusal}
@@ -7,7 +9,6 @@ use Rattle.message.specs.Limits.{id_limit}
 use Rattle.message.specs.Message.{message}
 use Rattle.message.specs.declared.answer.Span.{Span}
 use Rattle.message.specs.declared.kind.ResponseIn.{ResponseIn}
-use Rattle.message.specs.declared.kind.ResponseIn.TheVariants as P
 use Rattle.message.specs.declared.edition.Edition.TheVariants as E
 use Rattle.message_write.specs.Writing.{writing}
 use Rattle.link.specs.Requests.{blank, after, is_consecutive}
@@ -46,15 +47,15 @@ empty_link window = record { window = window; next = 0; count = 0; entries = rep
 abbrev pub is_full : Link → Bool
 is_full q = leb q.window q.count || leb window_limit q.count
 
--- 16 where the window is full, 17 where the bytes held and the Length exceed the limit, 0 where both pass
-abbrev pub fault_within : (held limit : ℕ) → Link → (size : ℕ) → ℕ
-fault_within held limit q size = cond (is_full q) 16 (cond (leb (held + size) limit) 0 17)
+-- 16 where the window is full, 17 where the bytes held and the Length exceed the limit, none where both pass
+abbrev pub fault_within : (held limit : ℕ) → Link → (size : ℕ) → Option ℕ
+fault_within held limit q size = cond (is_full q) (Some 16) (cond (leb (held + size) limit) None (Some 17))
 
 -- a fault of the fields comes first, then 16 or 17
-abbrev pub with_fault : (fault : ℕ) → Outcome → Outcome
-with_fault zero o = o
-with_fault (suc k) (gives l) = refuses (suc k) 0
-with_fault (suc k) (refuses m p) = refuses m p
+abbrev pub with_fault : (fault : Option ℕ) → Outcome → Outcome
+with_fault None o = o
+with_fault (Some k) (gives l) = refuses k 0
+with_fault (Some k) (refuses m p) = refuses m p
 
 -- issuing a Request with a body and a Length, under the next ID, where so many bytes are held of a limit
 abbrev pub issuing : (held limit : ℕ) → Link → (body : List ℕ) → (size : ℕ) → Outcome
@@ -91,17 +92,17 @@ released r d = cond (eqb d.length 0) (R.NotAvailable r.id r.size) (cond (eqb d.l
 
 -- a refused answer: the link is handed back as it was
 abbrev pub kept_with : Link → Refusal → LinkAnswered
-kept_with q r = record { link = q; release = R.Refused r }
+kept_with q r = record { link = q; release = Err r }
 
 -- a Response with an ID to some requests, the oldest first (20)
 abbrev pub settled_by : Link → List Request → (id : ℕ) → Span → LinkAnswered
 settled_by q [] id d = kept_with q (at_start 20)
-settled_by q (r ∷ rs) id d = cond (eqb r.id id) (record { link = without_oldest q; release = released r d }) (kept_with q (at_start 20))
+settled_by q (r ∷ rs) id d = cond (eqb r.id id) (record { link = without_oldest q; release = Ok (released r d) }) (kept_with q (at_start 20))
 
 -- a Response, or why there is none (reading, then 18)
-abbrev pub answered_by : Link → ResponseIn → LinkAnswered
-answered_by q (P.Taken id x) = settled_by q (outstanding q) id x.«data»
-answered_by q (P.Refused r) = kept_with q r
+abbrev pub answered_by : Link → Result ResponseIn Refusal → LinkAnswered
+answered_by q (Ok x) = settled_by q (outstanding q) x.id x.response.«data»
+answered_by q (Err r) = kept_with q r
 
 -- dropping the link releases everything; the next ID goes on
 abbrev pub emptied : Link → Link

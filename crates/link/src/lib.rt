@@ -11,6 +11,6 @@ pub mod outcome;
 pub mod request;
 
 pub use hashes::{keep, settle};
-pub use list::{Link, Tally, window_fits};
+pub use list::{Link, window_fits};
 pub use outcome::{Arrival, LinkAnswered, LinkIssued, Release};
 pub use request::Request;

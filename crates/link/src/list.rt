@@ -9,8 +9,8 @@ ghost use Rattle.link.specs.Steps.{orderly_bytes, barred_answer, issued_by};
 
 use crate::outcome::{LinkAnswered, LinkIssued, Release};
 use crate::request::{Request, following, shifted, stands_before};
-use message::{Edition, ID_LIMIT, ResponseIn, Span};
-use xdr::{Filling, Refusal};
+use message::{Edition, ID_LIMIT, Span};
+use xdr::Refusal;
 
 // The requests are the first `count` entries, the oldest first; the others don't count; calls from an opening leave them
 // blank.
@@ -22,58 +22,36 @@ pub struct Link {
     pub entries: [Request; 16],
 }
 
-// The bytes outstanding of a link that passed the check, or that it didn't.
-#[derive(Clone, Copy)]
-pub enum Tally {
-    Unsound,
-    Bytes(u32),
-}
-
 // Whether a window is 1 to 16.
 pub fn window_fits(window: u32) -> bool
     ensures { result ≡ window_fits window }
 {
-    if window < 1 {
-        return false;
-    }
-    window <= Link::WINDOW_LIMIT
+    1 <= window && window <= Link::WINDOW_LIMIT
 }
 
 // What came of an answer with so much data to the oldest request.
 fn settled(oldest: Request, data: Span) -> Release
     ensures { result ≡ released oldest «data» }
 {
+    let Request { id, size } = oldest;
     if data.length == 0 {
-        Release::NotAvailable {
-            id: oldest.id,
-            size: oldest.size,
-        }
-    } else if data.length == oldest.size as usize {
-        Release::Data {
-            id: oldest.id,
-            size: oldest.size,
-            data,
-        }
+        Release::NotAvailable { id, size }
+    } else if data.length == size as usize {
+        Release::Data { id, size, data }
     } else {
-        Release::WrongSize {
-            id: oldest.id,
-            size: oldest.size,
-        }
+        Release::WrongSize { id, size }
     }
 }
 
 // The answer for a request that the window or the limit does not let pass, by what writing it into no room answered: a fault of its fields
-// comes first.
-fn barred(fault: u32, answer: Filling) -> Filling
+// comes first. The fault is the number that the refusal gets.
+fn barred(fault: u32, answer: Result<usize, Refusal>) -> Result<usize, Refusal>
     ensures { result ≡ barred_answer fault answer }
 {
-    let Filling::Refused(r) = answer else {
-        return xdr::refused(fault);
-    };
-    if r.number == 14 {
-        return xdr::refused(fault);
+    match answer {
+        Err(r) if r.number != 14 => answer,
+        _ => xdr::refused(fault),
     }
-    answer
 }
 
 impl Link {
@@ -96,93 +74,72 @@ impl Link {
     fn shape_fits(self) -> bool
         ensures { result ≡ shape_fits self }
     {
-        if !window_fits(self.window) {
-            return false;
-        }
-        if self.window < self.count {
-            return false;
-        }
-        self.next <= ID_LIMIT
+        window_fits(self.window) && self.count <= self.window && self.next <= ID_LIMIT
     }
 
-    // The bytes outstanding, from the youngest request to the oldest, each held to the ID that follows it.
-    pub fn orderly_bytes(self) -> Tally
+    // The bytes outstanding of a link in order: from the youngest request to the oldest, each held to the ID that follows it.
+    pub fn orderly_bytes(self) -> Option<u32>
         ensures { result ≡ orderly_bytes self }
     {
         if !self.shape_fits() {
-            return Tally::Unsound;
+            return None;
         }
         let mut next = self.next;
-        let mut sum: u32 = 0;
-        let mut i = self.count as usize;
-        while 0 < i {
-            i = i - 1;
+        let mut sum = 0;
+        for i in (0..self.count as usize).rev() {
             let e = self.entries[i];
             if !stands_before(e, next) {
-                return Tally::Unsound;
+                return None;
             }
             next = e.id;
-            sum = sum + e.size;
+            sum += e.size;
         }
-        Tally::Bytes(sum)
+        Some(sum)
     }
 
     // How many requests are outstanding.
     pub fn outstanding(self) -> u32
         ensures { result ≡ length (outstanding self) }
     {
-        if self.count < 16 { self.count } else { 16 }
+        self.count.min(Link::WINDOW_LIMIT)
     }
 
     // The sum of their Lengths.
     pub fn outstanding_bytes(self) -> u64
         ensures { result ≡ total (outstanding self) }
     {
-        let n = self.outstanding() as usize;
-        let mut sum: u64 = 0;
-        let mut i = n;
-        while 0 < i {
-            i = i - 1;
-            let e = self.entries[i];
-            sum = sum + e.size as u64;
+        let mut sum = 0;
+        for e in &self.entries[..self.outstanding() as usize] {
+            sum += e.size as u64;
         }
         sum
     }
 
-    // 16, 17, or 0 where neither stands against a request of this length.
-    fn fault_within(self, held: u32, limit: u32, size: u32) -> u32
+    // 16 or 17, where either stands against a request of this length.
+    fn fault_within(self, held: u32, limit: u32, size: u32) -> Option<u32>
         ensures { result ≡ fault_within held limit self size }
     {
-        if self.window <= self.count {
-            return 16;
-        }
-        if Link::WINDOW_LIMIT <= self.count {
-            return 16;
+        if self.window <= self.count || Link::WINDOW_LIMIT <= self.count {
+            return Some(16);
         }
         if held as u64 + size as u64 <= limit as u64 {
-            return 0;
+            return None;
         }
-        17
+        Some(17)
     }
 
     // Appends the request that was written, or hands on the refusal.
-    fn issued(self, size: u32, filling: Filling) -> LinkIssued
+    fn issued(self, size: u32, filling: Result<usize, Refusal>) -> LinkIssued
         requires { self.count < 16 }
         ensures { result ≡ issued_by self size filling }
     {
         let id = self.next;
-        let Filling::Filled(_) = filling else {
-            return LinkIssued {
-                link: self,
-                id,
-                filling,
-            };
-        };
-        let slot = self.count as usize;
         let mut link = self;
-        link.entries[slot] = Request { id, size };
-        link.count = self.count + 1;
-        link.next = following(id);
+        if filling.is_ok() {
+            link.entries[self.count as usize] = Request { id, size };
+            link.count += 1;
+            link.next = following(id);
+        }
         LinkIssued { link, id, filling }
     }
 
@@ -202,8 +159,7 @@ impl Link {
             (request_bytes Edition.New repository.now name.now offset size hash.now) size)
             self size out.old result out.new }
     {
-        let fault = self.fault_within(held, limit, size);
-        if fault != 0 {
+        if let Some(fault) = self.fault_within(held, limit, size) {
             let mut none = [0u8; 1];
             let answer = message_write::write_request(
                 &mut none, self.next, repository, name, offset, size, hash,
@@ -224,27 +180,20 @@ impl Link {
     fn settle(self, id: u32, data: Span) -> LinkAnswered
         ensures { result ≡ settled_by self (outstanding self) id «data» }
     {
-        if self.count == 0 {
-            return LinkAnswered {
-                link: self,
-                release: Release::Refused(Refusal::at_start(20)),
-            };
-        }
         let oldest = self.entries[0];
-        if oldest.id != id {
+        if self.count == 0 || oldest.id != id {
             return LinkAnswered {
                 link: self,
-                release: Release::Refused(Refusal::at_start(20)),
+                release: Err(Refusal::at_start(20)),
             };
         }
         LinkAnswered {
             link: Link {
-                window: self.window,
-                next: self.next,
                 count: self.count - 1,
                 entries: shifted(self.entries),
+                ..self
             },
-            release: settled(oldest, data),
+            release: Ok(settled(oldest, data)),
         }
     }
 
@@ -253,10 +202,10 @@ impl Link {
         ensures { result ≡ answered_by self (response_in (message_in Edition.New message.now)) }
     {
         match message::response_in(message::read(Edition::New, message)) {
-            ResponseIn::Taken { id, response: x } => self.settle(id, x.data),
-            ResponseIn::Refused(r) => LinkAnswered {
+            Ok(x) => self.settle(x.id, x.response.data),
+            Err(r) => LinkAnswered {
                 link: self,
-                release: Release::Refused(r),
+                release: Err(r),
             },
         }
     }
@@ -266,10 +215,8 @@ impl Link {
         ensures { result ≡ emptied self }
     {
         Link {
-            window: self.window,
             next: self.next,
-            count: 0,
-            entries: [Request { id: 0, size: 0 }; 16],
+            ..Link::empty(self.window)
         }
     }
 }

@@ -22,24 +22,14 @@ pub fn following(id: u32) -> u32
 pub fn stands_before(e: Request, next: u32) -> bool
     ensures { result ≡ stands_before e next }
 {
-    if ID_LIMIT < e.id {
-        return false;
-    }
-    if following(e.id) != next {
-        return false;
-    }
-    record::is_size(e.size)
+    e.id <= ID_LIMIT && following(e.id) == next && record::is_size(e.size)
 }
 
 // The requests moved down by one, over the first.
 pub fn shifted(entries: [Request; 16]) -> [Request; 16]
     ensures { result ≡ drop 1 entries ++ (blank ∷ []) }
 {
-    let mut out = entries;
-    for i in 0..15 {
-        let e = entries[i + 1];
-        out[i] = e;
-    }
-    out[15] = Request { id: 0, size: 0 };
+    let mut out = [Request { id: 0, size: 0 }; 16];
+    out[..15].copy_from_slice(&entries[1..]);
     out
 }

@@ -9,8 +9,8 @@ use Rattle.xdr.specs.Format.{Valid}
 use Rattle.record.specs.File.{File, file}
 use Rattle.order.specs.Order.{compare_lists}
 use Rattle.table.specs.Newest.{compare_files}
-use Rattle.order.specs.declared.compare.Order.{Order}
-use Rattle.order.specs.declared.compare.Order.TheVariants.{Less, Equal, Greater}
+use Rattle.std.specs.declared.cmp.Ordering.{Ordering}
+use Rattle.std.specs.declared.cmp.Ordering.TheVariants.{Less, Equal, Greater}
 use Rattle.order.proofs.OrderLaws.{Below, equal_same, below_trans, below_irrefl, below_asym}
 use Rattle.table.proofs.NewestLaws.{at_least_itself, at_least_reversed, at_least_trans, at_least_same}
 use Rattle.record.proofs.RisingLaws.{Above, Rising, rising_is, rising_test}
@@ -45,7 +45,7 @@ later g l f t = record { cover = t.cover; within = Memᴰ.tail t.within; named =
 pub through : (l : List File) (f g : File) → g.name ≡ f.name → AtLeast g f → Covered l g → Covered l f
 through l f g e h t = record { cover = t.cover; within = t.within; named = t.named ∙ e; high = at_least_trans f g t.cover h t.high }
 
-higher_covers : (f g : File) (gs : List File) → f.name ≡ g.name → (o : Order) → compare_files f g ≡ o → Covered (higher_by o f g ∷ gs) f × Covered (higher_by o f g ∷ gs) g
+higher_covers : (f g : File) (gs : List File) → f.name ≡ g.name → (o : Ordering) → compare_files f g ≡ o → Covered (higher_by o f g ∷ gs) f × Covered (higher_by o f g ∷ gs) g
 higher_covers f g gs n Less e =
     (record { cover = g; within = Memᴰ.head refl; named = sym n; high = at_least_reversed f g e }, itself (g ∷ gs) g (Memᴰ.head refl))
 higher_covers f g gs n Equal e =
@@ -60,7 +60,7 @@ insert_covers f (g ∷ gs) y m = go (compare_lists f.name g.name) refl (Memᴰ.c
     same : (l : List File) (x : File) → y ≡ x → Covered l x → Covered l y
     same l x e t = rw e t
 
-    go : (o : Order) → compare_lists f.name g.name ≡ o → (y ≡ f) ⊎ (y ∈ (g ∷ gs)) → (y ∈ (f ∷ gs) → Covered (insert higher f gs) y) → Covered (placed higher o f g gs (insert higher f gs)) y
+    go : (o : Ordering) → compare_lists f.name g.name ≡ o → (y ≡ f) ⊎ (y ∈ (g ∷ gs)) → (y ∈ (f ∷ gs) → Covered (insert higher f gs) y) → Covered (placed higher o f g gs (insert higher f gs)) y
     go Less n (inl e) ih = itself (f ∷ g ∷ gs) y (Memᴰ.head e)
     go Less n (inr k) ih = itself (f ∷ g ∷ gs) y (Memᴰ.tail k)
     go Equal n (inl e) ih = same (higher_by (compare_files f g) f g ∷ gs) f e (higher_covers f g gs (equal_same f.name g.name n) (compare_files f g) refl).0

@@ -1,6 +1,5 @@
 -- Laws of merged tables.
 pub mod TwoLaws
-pub mod NextLaws
 pub mod StepLaws
 pub mod NoteLaws
 pub mod NotingLaws

@@ -1,4 +1,6 @@
 -- The pass over the merged records: what is left at the places of both tables.
+use Rattle.std.specs.Prelude.{Some, None}
+use Rattle.std.specs.declared.option.Option.{Option}
 use Prim.Native.Nat.{ℕ, ◌+◌, ◌≤◌}
 use mathlib.Core.List.{List, []}
 use mathlib.Core.Path.{◌≡◌, sym, subst, ◌∙◌}
@@ -17,8 +19,6 @@ use Rattle.merge.specs.Merged.{higher}
 use Rattle.merge.specs.Answer.{merged_records}
 use Rattle.merge.specs.Steps.Next.{next_of}
 use Rattle.merge.specs.declared.next.Pick.{Pick}
-use Rattle.merge.specs.declared.next.Next.{Next}
-use Rattle.merge.specs.declared.next.Next.TheVariants.{End, More}
 use Rattle.merge.proofs.TwoLaws.{merged_two}
 use Rattle.merge.proofs.StepLaws.{Took, Steps, steps}
 use Rattle.merge.proofs.NotingLaws.{Noting, noting_none}
@@ -62,10 +62,10 @@ module _ (a b : List ℕ) (p : IsBytes a) (q : IsBytes b) (g : is_good a ≡ tru
 module _ {a b : List ℕ} {i j : ℕ} (l : Left a b i j) where
   -- the next step, by the answer that was given
 
-  pub took : {r : Next} {s : Pick} → r ≡ next_of a i b j → r ≡ More s → Took a l.fs b l.gs (i + j) s
+  pub took : {r : Option Pick} {s : Pick} → r ≡ next_of a i b j → r ≡ Some s → Took a l.fs b l.gs (i + j) s
   took e f = subst (Steps a i l.fs b j l.gs) (sym e ∙ f) (steps l.fs l.gs l.left l.right)
 
-  pub none_left : {r : Next} → r ≡ next_of a i b j → r ≡ End → rest l ≡ []
+  pub none_left : {r : Option Pick} → r ≡ next_of a i b j → r ≡ None → rest l ≡ []
   none_left e f = subst (Steps a i l.fs b j l.gs) (sym e ∙ f) (steps l.fs l.gs l.left l.right)
 
   -- what is left after it

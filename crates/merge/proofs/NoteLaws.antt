@@ -1,4 +1,6 @@
 -- Notes of records: how one is put among them, and what is put of them.
+use Rattle.std.specs.Prelude.{Some, None}
+use Rattle.std.specs.declared.option.Option.{Option}
 use Prim.Native.Nat.{ℕ, zero, suc, ◌+◌, ◌-◌, ◌≤◌, ◌<◌}
 use mathlib.Core.List.{List, [], ◌∷◌, ◌++◌, append_assoc, append-nil}
 use mathlib.Core.Path.{◌≡◌, refl, sym, ap, subst, ◌∙◌}
@@ -7,16 +9,13 @@ use mathlib.Core.Bool.{Bool, true, false, cond, ◌&&◌}
 use native.Mathlib.Omega.{arith}
 use native.Mathlib.Numerals.{add-one}
 use borrow.Author.Tests.{le-leb, lt-leb, leb-true, leb-false, ltb-true, eqb-true}
-use lib.ListN.{length, take, drop, get_or, set, length-append, length-drop}
-use lib.Seq.{drop-cons, drop-drop, sets-eq, take-add}
+use lib.ListN.{length, take, drop, set, length-append}
+use lib.Seq.{drop-drop, sets-eq, take-add}
 use lib.Dec.{leb, ltb, eqb}
 use Rattle.xdr.specs.Buffer.{over, put, put_count, Puts}
 use Rattle.xdr.proofs.BufferLaws.{over_over, length_over}
 use Rattle.order.specs.Order.{part}
-use Rattle.merge.specs.Steps.Notes.{note_of, noted, noted_all, joined_of}
-use Rattle.merge.specs.declared.next.Pick.{Pick}
-use Rattle.merge.specs.declared.notes.Joined.{Joined}
-use Rattle.merge.specs.declared.notes.Joined.TheVariants.{Apart, One}
+use Rattle.merge.specs.Steps.Notes.{noted, noted_all, joined_of}
 use Rattle.record.proofs.RisingLaws.{both_true}
 
 -- two stores where there is room for them
@@ -29,13 +28,6 @@ pair_put l at x y h = (
       ∙ ap (λ (r : List ℕ). take at l ++ (x ∷ y ∷ r)) (sym (drop-drop 2 at l))
       ∙ simp (le-leb (at + 2) (length l) h),
 )
-
--- what was put is what it is, by a test that was made
-pub put_by : (out : List ℕ) (at : ℕ) {l m o : List ℕ} {n : ℕ} → l ≡ m → (n ≡ put_count out at l) × (o ≡ put out at l) → (n ≡ put_count out at m) × (o ≡ put out at m)
-put_by out at e p = (p.0 ∙ ap (put_count out at) e, p.1 ∙ ap (put out at) e)
-
-pub note_by : (s : Pick) {t : Bool} → s.left ≡ t → cond t (s.start ∷ s.end ∷ []) (s.end ∷ s.start ∷ []) ≡ note_of s
-note_by s e = ap (λ (u : Bool). cond u (s.start ∷ s.end ∷ []) (s.end ∷ s.start ∷ [])) (sym e)
 
 pub noted_by : (a b : List ℕ) (x y : ℕ) {t : Bool} → leb x y ≡ t → cond t (part a x y) (part b y x) ≡ noted a b x y
 noted_by a b x y e = ap (λ (u : Bool). cond u (part a x y) (part b y x)) (sym e)
@@ -86,24 +78,26 @@ record JoinedRight (x y u v p q : ℕ) : Type 0 where
   first : p ≡ u
   last : q ≡ y
 
-joined_by : (x y u v : ℕ) {p q : ℕ} → joined_of x y u v ≡ One p q → JoinedLeft x y u v p q ⊎ JoinedRight x y u v p q
+joined_by : (x y u v : ℕ) {p q : ℕ} → joined_of x y u v ≡ Some (p, q) → JoinedLeft x y u v p q ⊎ JoinedRight x y u v p q
 joined_by x y u v {p} {q} e = go (leb x y) refl e
   where
-    left : leb x y ≡ true → (t : Bool) → (eqb u y && leb u v) ≡ t → cond t (One x v) Apart ≡ One p q → JoinedLeft x y u v p q
+    left : leb x y ≡ true → (t : Bool) → (eqb u y && leb u v) ≡ t → cond {A = Option (ℕ × ℕ)} t (Some (x, v)) None ≡ Some (p, q) → JoinedLeft x y u v p q
     left h true f g =
         let w = both_true (eqb u y) (leb u v) f in
         let same = eqb-true u y w.0 in
-        record { low = leb-true x y h; high = omega (arith, same, leb-true u v w.1); next = same; first = cc; last = cc }
-    left h false f g = let z : ◌≡◌ {A = ℕ} 0 1 = cc in absurd (omega arith)
+        let both : ◌≡◌ {A = ℕ × ℕ} (p, q) (x, v) = cc in
+        record { low = leb-true x y h; high = omega (arith, same, leb-true u v w.1); next = same; first = ap (λ (z : ℕ × ℕ). z.0) both; last = ap (λ (z : ℕ × ℕ). z.1) both }
+    left h false f g = cc
 
-    right : leb x y ≡ false → (t : Bool) → (eqb v x && ltb v u) ≡ t → cond t (One u y) Apart ≡ One p q → JoinedRight x y u v p q
+    right : leb x y ≡ false → (t : Bool) → (eqb v x && ltb v u) ≡ t → cond {A = Option (ℕ × ℕ)} t (Some (u, y)) None ≡ Some (p, q) → JoinedRight x y u v p q
     right h true f g =
         let w = both_true (eqb v x) (ltb v u) f in
         let same = eqb-true v x w.0 in
-        record { low = leb-false x y h; high = omega (arith, same, ltb-true v u w.1); next = same; first = cc; last = cc }
-    right h false f g = let z : ◌≡◌ {A = ℕ} 0 1 = cc in absurd (omega arith)
+        let both : ◌≡◌ {A = ℕ × ℕ} (p, q) (u, y) = cc in
+        record { low = leb-false x y h; high = omega (arith, same, ltb-true v u w.1); next = same; first = ap (λ (z : ℕ × ℕ). z.0) both; last = ap (λ (z : ℕ × ℕ). z.1) both }
+    right h false f g = cc
 
-    go : (t : Bool) → leb x y ≡ t → cond t (cond (eqb u y && leb u v) (One x v) Apart) (cond (eqb v x && ltb v u) (One u y) Apart) ≡ One p q
+    go : (t : Bool) → leb x y ≡ t → cond {A = Option (ℕ × ℕ)} t (cond (eqb u y && leb u v) (Some (x, v)) None) (cond (eqb v x && ltb v u) (Some (u, y)) None) ≡ Some (p, q)
         → JoinedLeft x y u v p q ⊎ JoinedRight x y u v p q
     go true h f = inl (left h (eqb u y && leb u v) refl f)
     go false h f = inr (right h (eqb v x && ltb v u) refl f)
@@ -116,7 +110,7 @@ module _ (a b : List ℕ) where
   noted_right {x} {y} h = sym (noted_by a b x y (lt-leb x y h))
 
   -- their bytes stand together
-  pub joined_noted : (x y u v : ℕ) {p q : ℕ} → joined_of x y u v ≡ One p q → noted a b p q ≡ noted a b x y ++ noted a b u v
+  pub joined_noted : (x y u v : ℕ) {p q : ℕ} → joined_of x y u v ≡ Some (p, q) → noted a b p q ≡ noted a b x y ++ noted a b u v
   joined_noted x y u v {p} {q} e = ⊎_elim left right (joined_by x y u v e)
     where
       left : JoinedLeft x y u v p q → noted a b p q ≡ noted a b x y ++ noted a b u v
@@ -138,78 +132,55 @@ module _ (a b : List ℕ) where
           ∙ ap (λ (l : List ℕ). noted a b x y ++ l) (sym (noted_right {x = u} {y = v} (omega (arith, j.next, j.high))))
 
   -- the first of those that are left
-  pub noted_next : (notes : List ℕ) (k : ℕ) → k + 2 ≤ length notes
-      → noted_all a b (drop k notes) ≡ noted a b (get_or notes k 0) (get_or notes (k + 1) 0) ++ noted_all a b (drop (k + 2) notes)
+  noted_next : (u v : ℕ) (rest : List ℕ) → noted_all a b (u ∷ v ∷ rest) ≡ noted a b u v ++ noted_all a b rest
   unfolding noted_all
-  noted_next notes k h =
-      let two : suc (k + 1) ≡ k + 2 = omega arith in
-      let second : drop (k + 1) notes ≡ get_or notes (k + 1) 0 ∷ drop (k + 2) notes =
-      drop-cons notes (k + 1) 0 (omega arith) ∙ ap (λ (i : ℕ). get_or notes (k + 1) 0 ∷ drop i notes) two in
-      let first : drop k notes ≡ get_or notes k 0 ∷ drop (k + 1) notes =
-      drop-cons notes k 0 (omega arith) ∙ ap (λ (i : ℕ). get_or notes k 0 ∷ drop i notes) (sym (add-one k)) in
-      ap (noted_all a b) (first ∙ ap (λ (x : List ℕ). get_or notes k 0 ∷ x) second)
+  noted_next u v rest = refl
 
-  pub noted_none : (l : List ℕ) → length l < 2 → noted_all a b l ≡ []
+  noted_none : (l : List ℕ) → length l < 2 → noted_all a b l ≡ []
   unfolding noted_all
   noted_none [] h = refl
   noted_none (x ∷ []) h = refl
   noted_none (x ∷ y ∷ l) h = absurd (omega arith)
 
   -- what is left to put into a buffer makes of it what all make of the first: a stretch that is not put yet, and the notes behind it
-  pub record ToPut (notes out₀ : List ℕ) (at : ℕ) (out : List ℕ) (to x y k : ℕ) : Type 0 where
-    pub makes : over out to (noted a b x y ++ noted_all a b (drop k notes)) ≡ over out₀ at (noted_all a b notes)
-    pub room : to + length (noted a b x y ++ noted_all a b (drop k notes)) ≤ length out
+  pub record ToPut (notes out₀ : List ℕ) (at : ℕ) (out : List ℕ) (to x y : ℕ) (left : List ℕ) : Type 0 where
+    pub makes : over out to (noted a b x y ++ noted_all a b left) ≡ over out₀ at (noted_all a b notes)
+    pub room : to + length (noted a b x y ++ noted_all a b left) ≤ length out
 
-  pub to_put_first : (notes out : List ℕ) (at : ℕ) → at + length (noted_all a b notes) ≤ length out → ToPut notes out at out at 0 0 0
-  to_put_first notes out at h = record { makes = refl; room = h }
-
-  pub to_put_same : {notes out₀ : List ℕ} {at : ℕ} {out o : List ℕ} {to t x p y q k : ℕ} → o ≡ out → p ≡ x → q ≡ y → t ≡ to → ToPut notes out₀ at out to x y k → ToPut notes out₀ at o t p q k
-  to_put_same {notes} {out₀} {at} {out} {o} {to} {t} {x} {p} {y} {q} {k} e f g h l =
-      subst (λ (b : List ℕ). ToPut notes out₀ at b t p q k) (sym e) (subst (λ (i : ℕ). ToPut notes out₀ at out i p q k) (sym h)
-      (subst (λ (i : ℕ). ToPut notes out₀ at out to i q k) (sym f) (subst (λ (i : ℕ). ToPut notes out₀ at out to x i k) (sym g) l)))
-
-  module _ {notes out₀ : List ℕ} {at : ℕ} {out : List ℕ} {to x y k : ℕ} (l : ToPut notes out₀ at out to x y k) where
+  module _ {notes out₀ : List ℕ} {at : ℕ} {out : List ℕ} {to x y u v : ℕ} {rest : List ℕ} (l : ToPut notes out₀ at out to x y (u ∷ v ∷ rest)) where
     -- the next goes with the stretch
-    pub to_put_joined : {u v p q : ℕ} {r : Joined} → k + 2 ≤ length notes → u ≡ get_or notes k 0 → v ≡ get_or notes (k + 1) 0 → r ≡ joined_of x y u v → r ≡ One p q
-        → ToPut notes out₀ at out to p q (k + 2)
-    to_put_joined {u} {v} {p} {q} h eu ev e f =
-        let same : noted a b p q ++ noted_all a b (drop (k + 2) notes) ≡ noted a b x y ++ noted_all a b (drop k notes) =
-        ap (λ (n : List ℕ). n ++ noted_all a b (drop (k + 2) notes)) (joined_noted x y u v (sym e ∙ f))
-        ∙ append_assoc (noted a b x y) (noted a b u v) (noted_all a b (drop (k + 2) notes))
-        ∙ ap (λ (i : ℕ). noted a b x y ++ (noted a b i v ++ noted_all a b (drop (k + 2) notes))) eu
-        ∙ ap (λ (i : ℕ). noted a b x y ++ (noted a b (get_or notes k 0) i ++ noted_all a b (drop (k + 2) notes))) ev
-        ∙ ap (λ (n : List ℕ). noted a b x y ++ n) (sym (noted_next notes k h)) in
+    pub to_put_joined : {p q : ℕ} {r : Option (ℕ × ℕ)} → r ≡ joined_of x y u v → r ≡ Some (p, q) → ToPut notes out₀ at out to p q rest
+    to_put_joined {p} {q} e f =
+        let same : noted a b p q ++ noted_all a b rest ≡ noted a b x y ++ noted_all a b (u ∷ v ∷ rest) =
+        ap (λ (n : List ℕ). n ++ noted_all a b rest) (joined_noted x y u v (sym e ∙ f))
+        ∙ append_assoc (noted a b x y) (noted a b u v) (noted_all a b rest)
+        ∙ ap (λ (n : List ℕ). noted a b x y ++ n) (sym (noted_next u v rest)) in
         record { makes = ap (over out to) same ∙ l.makes; room = subst (λ (n : List ℕ). to + length n ≤ length out) (sym same) l.room }
 
     -- the stretch is put, and the next begins another
     fits : to + length (noted a b x y) ≤ length out
-    fits = omega (arith, l.room, length-append (noted a b x y) (noted_all a b (drop k notes)))
+    fits = omega (arith, l.room, length-append (noted a b x y) (noted_all a b (u ∷ v ∷ rest)))
 
-    pub to_put_next : {u v n : ℕ} {o : List ℕ} → k + 2 ≤ length notes → u ≡ get_or notes k 0 → v ≡ get_or notes (k + 1) 0 → Puts (noted a b x y) out to n o
-        → ToPut notes out₀ at o (to + n) u v (k + 2)
-    to_put_next {u} {v} {n} {o} h eu ev p =
+    pub to_put_next : {n : ℕ} {o : List ℕ} → Puts (noted a b x y) out to n o → ToPut notes out₀ at o (to + n) u v rest
+    to_put_next {n} {o} p =
         let z = noted a b x y in
-        let same : noted a b u v ++ noted_all a b (drop (k + 2) notes) ≡ noted_all a b (drop k notes) =
-        ap (λ (i : ℕ). noted a b i v ++ noted_all a b (drop (k + 2) notes)) eu
-        ∙ ap (λ (i : ℕ). noted a b (get_or notes k 0) i ++ noted_all a b (drop (k + 2) notes)) ev
-        ∙ sym (noted_next notes k h) in
+        let same : noted a b u v ++ noted_all a b rest ≡ noted_all a b (u ∷ v ∷ rest) = sym (noted_next u v rest) in
         let is : o ≡ over out to z = p.1 ∙ put_fits out to z fits in
         let count : n ≡ length z = p.0 ∙ count_fits out to z fits in
         record {
-          makes = ap (λ (w : List ℕ). over w (to + n) (noted a b u v ++ noted_all a b (drop (k + 2) notes))) is
-              ∙ ap (λ (m : ℕ). over (over out to z) (to + m) (noted a b u v ++ noted_all a b (drop (k + 2) notes))) count
+          makes = ap (λ (w : List ℕ). over w (to + n) (noted a b u v ++ noted_all a b rest)) is
+              ∙ ap (λ (m : ℕ). over (over out to z) (to + m) (noted a b u v ++ noted_all a b rest)) count
               ∙ ap (over (over out to z) (to + length z)) same
-              ∙ over_over out to z (noted_all a b (drop k notes)) fits
+              ∙ over_over out to z (noted_all a b (u ∷ v ∷ rest)) fits
               ∙ l.makes;
-          room = omega (arith, ap length same, ap length is, length_over out to z fits, count, l.room, length-append z (noted_all a b (drop k notes)));
+          room = omega (arith, ap length same, ap length is, length_over out to z fits, count, l.room, length-append z (noted_all a b (u ∷ v ∷ rest)));
         }
 
-    pub to_put_last : {n : ℕ} {o : List ℕ} → length notes < k + 2 → Puts (noted a b x y) out to n o → o ≡ over out₀ at (noted_all a b notes)
-    to_put_last h p =
-        p.1
-        ∙ put_fits out to (noted a b x y) fits
-        ∙ sym (ap (over out to) (ap (λ (m : List ℕ). noted a b x y ++ m) (noted_none (drop k notes) (simp length-drop (omega arith))) ∙ append-nil (noted a b x y)))
-        ∙ l.makes
+  pub to_put_last : {notes out₀ : List ℕ} {at : ℕ} {out : List ℕ} {to x y : ℕ} {left : List ℕ} → ToPut notes out₀ at out to x y left
+      → {n : ℕ} {o : List ℕ} → length left < 2 → Puts (noted a b x y) out to n o → o ≡ over out₀ at (noted_all a b notes)
+  to_put_last {out = out} {to = to} {x = x} {y = y} {left = left} l h p =
+      let same : noted a b x y ++ noted_all a b left ≡ noted a b x y = ap (λ (m : List ℕ). noted a b x y ++ m) (noted_none left h) ∙ append-nil (noted a b x y) in
+      p.1 ∙ put_fits out to (noted a b x y) (omega (arith, l.room, ap length same)) ∙ sym (ap (over out to) same) ∙ l.makes
 
   -- notes behind notes
   pub noted_append : (k : ℕ) (l m : List ℕ) → length l ≡ k + k → noted_all a b (l ++ m) ≡ noted_all a b l ++ noted_all a b m

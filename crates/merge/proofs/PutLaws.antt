@@ -1,7 +1,10 @@
 -- What is put of a table, by its size and the notes of its records.
-use Prim.Native.Nat.{ℕ, ◌+◌, ◌-◌, ◌≤◌, ◌<◌}
+use Rattle.std.specs.Prelude.{Ok}
+use Rattle.std.specs.declared.result.Result.{Result}
+use Rattle.xdr.specs.declared.answer.Refusal.{Refusal}
+use Prim.Native.Nat.{ℕ, ◌+◌, ◌≤◌, ◌<◌}
 use mathlib.Core.List.{List}
-use mathlib.Core.Path.{◌≡◌, sym, ap, subst, ◌∙◌}
+use mathlib.Core.Path.{◌≡◌, sym, ap, ◌∙◌}
 use mathlib.Core.Bool.{true, false, and-eq-true_iff}
 use native.Mathlib.Omega.{arith}
 use borrow.Author.Tests.{leb-true}
@@ -11,8 +14,6 @@ use Rattle.xdr.specs.Fields.{word}
 use Rattle.xdr.specs.Format.{encode}
 use Rattle.xdr.specs.Buffer.{over, put}
 use Rattle.xdr.specs.Filling.{refuses, filling_answer, Fills}
-use Rattle.xdr.specs.declared.filling.Filling.{Filling}
-use Rattle.xdr.specs.declared.filling.Filling.TheVariants as F
 use Rattle.xdr.proofs.FillingLaws.{fills_refused, fills_short, fills_given}
 use Rattle.record.specs.File.{File}
 use Rattle.table.specs.Limits.{records_limit, bytes_limit}
@@ -32,14 +33,14 @@ module _ (a b notes : List ℕ) (size : Size) (out : List ℕ) (fs : List File) 
   within = sym (ap (λ (x : ℕ). is_within x size.bytes) m.counted ∙ ap (λ (x : ℕ). is_within (length fs) x) m.sized)
 
   -- it is above the limits, too long for the buffer, or put: all that is noted is written
-  pub put_large : {r : Filling} → is_within size.count size.bytes ≡ false → r ≡ filling_answer (refuses 19 0) → Fills (resulting_table fs) out r out
+  pub put_large : {r : Result ℕ Refusal} → is_within size.count size.bytes ≡ false → r ≡ filling_answer (refuses 19 0) → Fills (resulting_table fs) out r out
   put_large e f = fills_refused out (result_large fs (within ∙ e)) f
 
-  pub put_short : {r : Filling} → is_within size.count size.bytes ≡ true → length out < size.bytes → r ≡ filling_answer (refuses 14 0) → Fills (resulting_table fs) out r out
+  pub put_short : {r : Result ℕ Refusal} → is_within size.count size.bytes ≡ true → length out < size.bytes → r ≡ filling_answer (refuses 14 0) → Fills (resulting_table fs) out r out
   put_short e h f = fills_short out (result_within fs (within ∙ e)) (omega (arith, m.sized)) f
 
   pub put_filled : {o p : List ℕ} → is_within size.count size.bytes ≡ true → size.bytes ≤ length out → o ≡ put out 0 (encode word size.count) → PutsNotes a b notes o 4 p
-      → Fills (resulting_table fs) out (F.Filled size.bytes) p
+      → Fills (resulting_table fs) out (Ok size.bytes) p
   put_filled {o} e h f g =
       let same : noted_all a b notes ≡ bytes_of fs = m.are (few size.count size.bytes e) in
       let room : 4 + length (noted_all a b notes) ≤ length o = omega (arith, ap length f, put_length out 0 (encode word size.count), ap length same, table_length fs, m.sized) in
@@ -47,8 +48,6 @@ module _ (a b notes : List ℕ) (size : Size) (out : List ℕ) (fs : List File) 
       (table_filled out fs m.counted (omega (arith, m.sized)) f (g room ∙ ap (over o 4) same))
 
 -- with the notes lent as far as they go
-pub table_put : (a b notes : List ℕ) (size : Size) (out : List ℕ) {fs : List File} {r : Filling} {o : List ℕ} → Noted a b notes fs size
-    → PutsTable a b (take (size.noted - 0) notes) size out r o → Fills (resulting_table fs) out r o
-table_put a b notes size out {fs} n p =
-    let lent : size.noted ≡ size.noted - 0 = omega arith in
-    p fs (subst (λ (k : ℕ). Measured a b (take k notes) fs size) lent n.measured)
+pub table_put : (a b notes : List ℕ) (size : Size) (out : List ℕ) {fs : List File} {r : Result ℕ Refusal} {o : List ℕ} → Noted a b notes fs size
+    → PutsTable a b (take size.noted notes) size out r o → Fills (resulting_table fs) out r o
+table_put a b notes size out {fs} n p = p fs n.measured

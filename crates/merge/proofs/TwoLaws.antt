@@ -8,14 +8,14 @@ use Rattle.table.specs.Newest.{compare_files}
 use Rattle.table.specs.Insert.{insert}
 use Rattle.table.proofs.InsertLaws.{insert_first}
 use Rattle.table.proofs.UnionLaws.{union, union_right, insert_union}
-use Rattle.order.specs.declared.compare.Order.{Order}
-use Rattle.order.specs.declared.compare.Order.TheVariants.{Less, Equal, Greater}
+use Rattle.std.specs.declared.cmp.Ordering.{Ordering}
+use Rattle.std.specs.declared.cmp.Ordering.TheVariants.{Less, Equal, Greater}
 use Rattle.merge.specs.Merged.{higher_by, higher, insert_all, merged_of}
 
 pub higher_one : (f g : File) → (higher f g ≡ f) ⊎ (higher f g ≡ g)
 higher_one f g = go (compare_files f g)
   where
-    go : (o : Order) → (higher_by o f g ≡ f) ⊎ (higher_by o f g ≡ g)
+    go : (o : Ordering) → (higher_by o f g ≡ f) ⊎ (higher_by o f g ≡ g)
     go Less = inr refl
     go Equal = inl refl
     go Greater = inl refl

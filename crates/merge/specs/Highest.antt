@@ -4,7 +4,7 @@ use Rattle.std.specs.Prelude.{◌≡◌, true}
 use Rattle.record.specs.File.{File}
 use Rattle.table.specs.Newest.{compare_files}
 use Rattle.record.specs.Rising.{is_rising}
-use Rattle.order.specs.declared.compare.Order.TheVariants.{Less}
+use Rattle.std.specs.declared.cmp.Ordering.TheVariants.{Less}
 
 -- the records of some tables
 abbrev pub joined : List (List File) → List File

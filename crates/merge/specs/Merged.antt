@@ -3,11 +3,11 @@ use Rattle.std.specs.Prelude.{List, [], ◌∷◌}
 use Rattle.record.specs.File.{File}
 use Rattle.table.specs.Newest.{compare_files}
 use Rattle.table.specs.Insert.{insert}
-use Rattle.order.specs.declared.compare.Order.{Order}
-use Rattle.order.specs.declared.compare.Order.TheVariants.{Less, Equal, Greater}
+use Rattle.std.specs.declared.cmp.Ordering.{Ordering}
+use Rattle.std.specs.declared.cmp.Ordering.TheVariants.{Less, Equal, Greater}
 
 -- one of two records, by how the first compares with the second
-abbrev pub higher_by : Order → File → File → File
+abbrev pub higher_by : Ordering → File → File → File
 higher_by Less f g = g
 higher_by Equal f g = f
 higher_by Greater f g = f

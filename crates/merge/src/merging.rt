@@ -5,9 +5,9 @@ ghost use Rattle.table.specs.Table.{is_good};
 ghost use Rattle.merge.specs.Steps.Notes.{Noted};
 ghost use Rattle.merge.specs.Answer.{merged_records, merge_outcome};
 
-use crate::next::{Next, next_at};
+use crate::next::next_at;
 use crate::notes::{Size, note, put_table};
-use xdr::Filling;
+use xdr::Refusal;
 
 // Notes the merged records, as far as there is room, and measures the merged table.
 fn note_records(a: &[u8], b: &[u8], notes: &mut [usize]) -> Size
@@ -16,27 +16,23 @@ fn note_records(a: &[u8], b: &[u8], notes: &mut [usize]) -> Size
 {
     let mut i = 4;
     let mut j = 4;
-    let mut count = 0;
-    let mut bytes = 4;
-    let mut noted = 0;
-    loop {
-        let Next::More(step) = next_at(a, i, b, j) else {
-            return Size {
-                count,
-                bytes,
-                noted,
-            };
-        };
-        bytes += step.end - step.start;
-        count += 1;
-        noted += note(notes, noted, step);
+    let mut size = Size {
+        count: 0,
+        bytes: 4,
+        noted: 0,
+    };
+    while let Some(step) = next_at(a, i, b, j) {
+        size.bytes += step.end - step.start;
+        size.count += 1;
+        size.noted += note(notes, size.noted, step);
         i = step.i;
         j = step.j;
     }
+    size
 }
 
 // The merged table of two good ones, in the first bytes of the buffer.
-pub fn merge(a: &[u8], b: &[u8], out: &mut [u8]) -> Filling
+pub fn merge(a: &[u8], b: &[u8], out: &mut [u8]) -> Result<usize, Refusal>
     ensures { Fills (merge_outcome a.now b.now) out.old result out.new }
 {
     if !table::is_good(a) {
@@ -48,5 +44,5 @@ pub fn merge(a: &[u8], b: &[u8], out: &mut [u8]) -> Filling
     let mut notes = [0usize; 1024];
     let size = note_records(a, b, &mut notes);
     let end = size.noted;
-    put_table(a, b, &notes[0..end], size, out)
+    put_table(a, b, &notes[..end], size, out)
 }

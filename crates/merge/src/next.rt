@@ -2,8 +2,8 @@
 ghost use Rattle.std.specs.Prelude.{◌≡◌};
 ghost use Rattle.merge.specs.Steps.Next.{from_left, from_right, higher_of, next_of};
 
-use order::Order;
 use record::RecordFields;
+use std::cmp::Ordering;
 use table::Side;
 
 // A record that is taken: of the first table or of the second, at start..end; the merge goes on at i of the first and j of the second.
@@ -16,58 +16,50 @@ pub struct Pick {
     pub j: usize,
 }
 
-// The next record, or none is left.
-#[derive(Clone, Copy)]
-pub enum Next {
-    End,
-    More(Pick),
-}
-
 // The record of the first table at i, up to x.
-pub fn from_left(i: usize, x: usize, j: usize) -> Next
+pub fn from_left(i: usize, x: usize, j: usize) -> Pick
     ensures { result ≡ from_left i x j }
 {
-    Next::More(Pick {
+    Pick {
         left: true,
         start: i,
         end: x,
         i: x,
         j,
-    })
+    }
 }
 
 // The record of the second table at j, up to y.
-pub fn from_right(j: usize, y: usize, i: usize) -> Next
+pub fn from_right(j: usize, y: usize, i: usize) -> Pick
     ensures { result ≡ from_right j y i }
 {
-    Next::More(Pick {
+    Pick {
         left: false,
         start: j,
         end: y,
         i,
         j: y,
-    })
+    }
 }
 
 // Of two records of one name the higher.
-fn higher(a: &[u8], i: usize, f: RecordFields, b: &[u8], j: usize, g: RecordFields) -> Next
+fn higher(a: &[u8], i: usize, f: RecordFields, b: &[u8], j: usize, g: RecordFields) -> Pick
     ensures { result ≡ higher_of a.now i b.now j f g }
 {
     match table::compare_records(a, f, b, g) {
-        Order::Less => from_right(j, g.past, f.past),
-        Order::Equal => from_left(i, f.past, g.past),
-        Order::Greater => from_left(i, f.past, g.past),
+        Ordering::Less => from_right(j, g.past, f.past),
+        Ordering::Equal | Ordering::Greater => from_left(i, f.past, g.past),
     }
 }
 
-// The next record, at a place of each table.
-pub fn next_at(a: &[u8], i: usize, b: &[u8], j: usize) -> Next
+// The next record, at a place of each table; none is left where both have come to their end.
+#[tactic(auto, unfolding(crate::specs::Steps::Next::next_of))]
+pub fn next_at(a: &[u8], i: usize, b: &[u8], j: usize) -> Option<Pick>
     ensures { result ≡ next_of a.now i b.now j }
 {
-    match table::side_at(a, i, b, j) {
-        Side::Neither => Next::End,
+    Some(match table::side_at(a, i, b, j)? {
         Side::Left(x) => from_left(i, x, j),
         Side::Right(y) => from_right(j, y, i),
         Side::Both(f, g) => higher(a, i, f, b, j, g),
-    }
+    })
 }

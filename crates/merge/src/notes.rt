@@ -4,7 +4,7 @@ ghost use Rattle.xdr.specs.Buffer.{Puts};
 ghost use Rattle.merge.specs.Steps.Notes.{note_of, noted, joined_of, PutsNotes, PutsTable};
 
 use crate::next::Pick;
-use xdr::Filling;
+use xdr::Refusal;
 
 // How many records a table has and how many bytes, and how many numbers are noted of it.
 #[derive(Clone, Copy)]
@@ -14,7 +14,7 @@ pub struct Size {
     pub noted: usize,
 }
 
-// Two numbers at a place of the notes, and how many were put: none where there is no room for both.
+// Two numbers at a place of the notes, and how many were put: none where there is no room: a count, as `Puts` has it.
 fn put_pair(notes: &mut [usize], at: usize, x: usize, y: usize) -> usize
     ensures { Puts (x ∷ y ∷ []) notes.old at result notes.new }
 {
@@ -50,31 +50,13 @@ fn put_note(a: &[u8], b: &[u8], x: usize, y: usize, out: &mut [u8], at: usize) -
 }
 
 // Two notes as one, where the second goes on in the same table at the place where the first ends.
-#[derive(Clone, Copy)]
-enum Joined {
-    Apart,
-    One(usize, usize),
-}
-
-fn join(x: usize, y: usize, u: usize, v: usize) -> Joined
+fn join(x: usize, y: usize, u: usize, v: usize) -> Option<(usize, usize)>
     ensures { result ≡ joined_of x y u v }
 {
     if x <= y {
-        if u != y {
-            return Joined::Apart;
-        }
-        if v < u {
-            return Joined::Apart;
-        }
-        return Joined::One(x, v);
+        return (u == y && u <= v).then_some((x, v));
     }
-    if v != x {
-        return Joined::Apart;
-    }
-    if u <= v {
-        return Joined::Apart;
-    }
-    Joined::One(u, y)
+    (v == x && v < u).then_some((u, y))
 }
 
 // Puts the bytes of all records that are noted, one after another, from a place of the buffer on: a stretch of records that stand together is
@@ -85,28 +67,32 @@ fn put_notes(a: &[u8], b: &[u8], notes: &[usize], out: &mut [u8], at: usize)
     let mut x = 0;
     let mut y = 0;
     let mut to = at;
-    let mut k = 0;
-    while 2 <= notes.len() - k {
-        let u = notes[k];
-        let v = notes[k + 1];
-        match join(x, y, u, v) {
-            Joined::One(p, q) => {
+    let mut left = notes;
+    while let [u, v, rest @ ..] = left {
+        match join(x, y, *u, *v) {
+            Some((p, q)) => {
                 x = p;
                 y = q;
             }
-            Joined::Apart => {
+            None => {
                 to += put_note(a, b, x, y, out, to);
-                x = u;
-                y = v;
+                x = *u;
+                y = *v;
             }
         }
-        k += 2;
+        left = rest;
     }
     put_note(a, b, x, y, out, to);
 }
 
 // Puts a table into the first bytes of the buffer, by its size and the notes of its records.
-pub fn put_table(a: &[u8], b: &[u8], notes: &[usize], size: Size, out: &mut [u8]) -> Filling
+pub fn put_table(
+    a: &[u8],
+    b: &[u8],
+    notes: &[usize],
+    size: Size,
+    out: &mut [u8],
+) -> Result<usize, Refusal>
     ensures { PutsTable a.now b.now notes.now size out.old result out.new }
 {
     if !table::within_limits(size.count, size.bytes) {
@@ -117,5 +103,5 @@ pub fn put_table(a: &[u8], b: &[u8], notes: &[usize], size: Size, out: &mut [u8]
     }
     xdr::put_word(out, 0, size.count);
     put_notes(a, b, notes, out, 4);
-    Filling::Filled(size.bytes)
+    Ok(size.bytes)
 }

@@ -2,4 +2,3 @@
 pub mod ByKind
 pub mod RepositoryLaws
 pub mod MessageNumbers
-pub mod KindLaws

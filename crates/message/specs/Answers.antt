@@ -1,6 +1,9 @@
 -- What reading a message answers: its fields, with spans into the bytes, or the refusal.
-use Rattle.std.specs.Prelude.{ℕ, ◌+◌, ◌-◌, List, length, take, drop}
+use Rattle.std.specs.Prelude.{ℕ, ◌+◌, ◌-◌, List, length, take, drop, Ok, Err}
+use Rattle.std.specs.declared.result.Result.{Result}
 use Rattle.xdr.specs.Reading.{Reading, taken, refused}
+use Rattle.xdr.specs.Answers.{answer}
+use Rattle.xdr.specs.declared.answer.Refusal.{Refusal}
 use Rattle.xdr.specs.Format.{read_at}
 use Rattle.xdr.specs.Pad.{padded}
 use Rattle.record.specs.File.{File}
@@ -14,8 +17,6 @@ use Rattle.message.specs.declared.answer.IndexSpan.{IndexSpan}
 use Rattle.message.specs.declared.answer.RequestSpan.{RequestSpan}
 use Rattle.message.specs.declared.answer.ResponseSpan.{ResponseSpan}
 use Rattle.message.specs.declared.answer.OptionsSpan.{OptionsSpan}
-use Rattle.message.specs.declared.answer.IndexRead.{IndexRead}
-use Rattle.message.specs.declared.answer.IndexRead.TheVariants as I
 use Rattle.message.specs.declared.answer.Message.{Message}
 use Rattle.message.specs.declared.answer.Message.TheVariants as M
 
@@ -80,57 +81,51 @@ response_span l next = record { «data» = span 8 (length l); end = next }
 abbrev pub options_span : List KeyValue → ℕ → OptionsSpan
 options_span l next = record { options = span 4 (next - 4); count = length l; end = next }
 
--- a message that is refused
-abbrev pub refusal : (number place : ℕ) → Message
-refusal n p = M.Refused (record { number = n; place = p })
-
 -- what reading the body of an Index or an IndexUpdate answers
-abbrev pub index_answer : (e : Edition) → Reading (Repository e × List File) → IndexRead
-index_answer e (taken p next) = I.Taken (index_span e p next)
-index_answer e (refused n p) = I.Refused (record { number = n; place = p })
+abbrev pub index_answer : (e : Edition) → Reading (Repository e × List File) → Result IndexSpan Refusal
+index_answer e r = answer (index_span e) r
 
 -- the Index with an ID and a body that was read, or the refusal
-abbrev pub index_message : ℕ → IndexRead → Message
-index_message id (I.Taken x) = M.Index id x
-index_message id (I.Refused r) = M.Refused r
+abbrev pub index_message : ℕ → Result IndexSpan Refusal → Result Message Refusal
+index_message id (Ok x) = Ok (M.Index id x)
+index_message id (Err r) = Err r
 
 -- the IndexUpdate with an ID and a body that was read, or the refusal
-abbrev pub update_message : ℕ → IndexRead → Message
-update_message id (I.Taken x) = M.IndexUpdate id x
-update_message id (I.Refused r) = M.Refused r
+abbrev pub update_message : ℕ → Result IndexSpan Refusal → Result Message Refusal
+update_message id (Ok x) = Ok (M.IndexUpdate id x)
+update_message id (Err r) = Err r
 
 -- what reading a Request answers
-abbrev pub request_answer : (e : Edition) (id : ℕ) → Reading (RequestBody e) → Message
-request_answer e id (taken b next) = M.Request id (request_span e b next)
-request_answer e id (refused n p) = refusal n p
+abbrev pub request_answer : (e : Edition) (id : ℕ) → Reading (RequestBody e) → Result Message Refusal
+request_answer e id r = answer (λ b next. M.Request id (request_span e b next)) r
 
 -- what reading a Response answers
-abbrev pub response_answer : (id : ℕ) → Reading (List ℕ) → Message
-response_answer id (taken l next) = M.Response id (response_span l next)
-response_answer id (refused n p) = refusal n p
+abbrev pub response_answer : (id : ℕ) → Reading (List ℕ) → Result Message Refusal
+response_answer id r = answer (λ l next. M.Response id (response_span l next)) r
 
 -- what reading Options answers
-abbrev pub options_answer : (id : ℕ) → Reading (List KeyValue) → Message
-options_answer id (taken l next) = M.Options id (options_span l next)
-options_answer id (refused n p) = refusal n p
+abbrev pub options_answer : (id : ℕ) → Reading (List KeyValue) → Result Message Refusal
+options_answer id r = answer (λ l next. M.Options id (options_span l next)) r
 
 -- a message of each kind with an ID, by the reading of its body
-abbrev pub body_answer : (e : Edition) (k : Kind) (id : ℕ) → Reading (Body e k) → Message
+abbrev pub body_answer : (e : Edition) (k : Kind) (id : ℕ) → Reading (Body e k) → Result Message Refusal
 body_answer e is_index id r = index_message id (index_answer e r)
 body_answer e is_request id r = request_answer e id r
 body_answer e is_response id r = response_answer id r
-body_answer e is_ping id (taken u next) = M.Ping id next
-body_answer e is_ping id (refused n p) = refusal n p
-body_answer e is_pong id (taken u next) = M.Pong id next
-body_answer e is_pong id (refused n p) = refusal n p
+body_answer e is_ping id r = answer (λ u next. M.Ping id next) r
+body_answer e is_pong id r = answer (λ u next. M.Pong id next) r
 body_answer e is_index_update id r = update_message id (index_answer e r)
 body_answer e is_options id r = options_answer id r
 
+-- a message that is refused
+abbrev pub refusal : (number place : ℕ) → Result Message Refusal
+refusal n p = Err (record { number = n; place = p })
+
 -- what reading a message answers
-abbrev pub message_answer : (e : Edition) → Reading (MessageValue e) → Message
+abbrev pub message_answer : (e : Edition) → Reading (MessageValue e) → Result Message Refusal
 message_answer e (taken m next) = body_answer e (kind_of (type_of m.0)) (id_of m.0) (taken m.1 next)
 message_answer e (refused n p) = refusal n p
 
 -- what bytes say that are given as a message of an edition: it is read from their start
-abbrev pub message_in : Edition → List ℕ → Message
+abbrev pub message_in : Edition → List ℕ → Result Message Refusal
 message_in e s = message_answer e (read_at (message e) s 0)

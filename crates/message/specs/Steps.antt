@@ -1,12 +1,13 @@
 -- A step of reading a message: its Repository.
-use Rattle.xdr.specs.Reading.{Reading, taken, refused}
-use Rattle.xdr.specs.declared.answer.Bytes.{Bytes}
-use Rattle.xdr.specs.declared.answer.Bytes.TheVariants as B
+use Rattle.std.specs.Prelude.{ℕ}
+use Rattle.std.specs.declared.result.Result.{Result}
+use Rattle.xdr.specs.Reading.{Reading}
+use Rattle.xdr.specs.Answers.{answer}
+use Rattle.xdr.specs.declared.answer.Refusal.{Refusal}
 use Rattle.message.specs.Message.{Repository}
 use Rattle.message.specs.Answers.{repository_length}
 use Rattle.message.specs.declared.edition.Edition.{Edition}
 
 -- the length of its contents and the place after it, or the refusal
-abbrev pub repository_answer : (e : Edition) → Reading (Repository e) → Bytes
-repository_answer e (taken r next) = B.Taken (repository_length e r) next
-repository_answer e (refused k p) = B.Refused (record { number = k; place = p })
+abbrev pub repository_answer : (e : Edition) → Reading (Repository e) → Result (ℕ × ℕ) Refusal
+repository_answer e r = answer (λ v next. (repository_length e v, next)) r

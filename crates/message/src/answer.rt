@@ -1,6 +1,4 @@
 // What reading a message answers: the numbers as numbers, and spans into the bytes for the rest.
-use xdr::Refusal;
-
 // Bytes of the input: where they start, and how many there are.
 #[derive(Clone, Copy)]
 pub struct Span {
@@ -43,7 +41,7 @@ pub struct OptionsSpan {
     pub end: usize,
 }
 
-// A message: its ID and its fields, of Ping and Pong only the end; or the refusal.
+// A message: its ID and its fields, of Ping and Pong only the end.
 #[derive(Clone, Copy)]
 pub enum Message {
     Index(u32, IndexSpan),
@@ -53,12 +51,4 @@ pub enum Message {
     Pong(u32, usize),
     IndexUpdate(u32, IndexSpan),
     Options(u32, OptionsSpan),
-    Refused(Refusal),
-}
-
-// What the body of an Index or an IndexUpdate says, or the refusal.
-#[derive(Clone, Copy)]
-pub enum IndexRead {
-    Taken(IndexSpan),
-    Refused(Refusal),
 }

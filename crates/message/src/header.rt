@@ -5,7 +5,7 @@ ghost use Rattle.xdr.specs.Format.{read_at};
 ghost use Rattle.message.specs.Header.{version_of, id_of, type_of, reserved_of, last_type, header_of, header};
 
 use crate::edition::Edition;
-use xdr::{Refusal, Word};
+use xdr::Refusal;
 
 // The version of a header.
 pub fn version_of(h: u32) -> u32
@@ -45,7 +45,7 @@ pub fn last_type(edition: Edition) -> u32
     }
 }
 
-// The header of a message with an ID and a type, of which the low 12 and 8 bits count.
+// The header of a message with an ID and a type, of which the low 12 and 8 bits count. The type is a number, since it may be any.
 pub fn header_of(id: u32, kind: u32) -> u32
     ensures { result ≡ header_of (id % 4096) (kind % 256) }
 {
@@ -53,37 +53,22 @@ pub fn header_of(id: u32, kind: u32) -> u32
 }
 
 // The header at the front of some bytes.
-pub fn read_header(edition: Edition, s: &[u8]) -> Word
+pub fn read_header(edition: Edition, s: &[u8]) -> Result<(u32, usize), Refusal>
     ensures { result ≡ word_answer (read_at (header edition) s.now 0) }
 {
-    let answer = xdr::read_word(s, 0);
-    let Word::Taken(h, next) = answer else {
-        return Word::Refused(answer.refusal());
-    };
+    let (h, next) = xdr::read_word(s, 0)?;
     if version_of(h) != 0 {
-        return Word::Refused(Refusal {
-            number: 2,
-            place: 0,
-        });
+        return Err(Refusal::at_start(2));
     }
     let kind = type_of(h);
     if kind == 0 {
-        return Word::Refused(Refusal {
-            number: 3,
-            place: 0,
-        });
+        return Err(Refusal::at_start(3));
     }
     if last_type(edition) < kind {
-        return Word::Refused(Refusal {
-            number: 3,
-            place: 0,
-        });
+        return Err(Refusal::at_start(3));
     }
     if reserved_of(h) != 0 {
-        return Word::Refused(Refusal {
-            number: 4,
-            place: 0,
-        });
+        return Err(Refusal::at_start(4));
     }
-    Word::Taken(h, next)
+    Ok((h, next))
 }

@@ -6,13 +6,12 @@ use native.Mathlib.Omega.{arith}
 use borrow.Author.Tests.{leb-true}
 use lib.ListN.{length}
 use Rattle.xdr.specs.Reading.{Reading, taken, refused, shifted}
-use Rattle.xdr.specs.Answers.{bytes_refusal}
 use Rattle.xdr.specs.Format.{nothing, bytes, encode, read_at}
 use Rattle.xdr.specs.Fields.{word}
 use Rattle.xdr.specs.Pad.{padded}
 use Rattle.xdr.specs.declared.answer.Refusal.{Refusal}
-use Rattle.xdr.specs.declared.answer.Bytes.{Bytes}
-use Rattle.xdr.specs.declared.answer.Bytes.TheVariants as B
+use Rattle.std.specs.Prelude.{Ok, Err}
+use Rattle.std.specs.declared.result.Result.{Result}
 use Rattle.xdr.proofs.Answered.{bytes_taken, bytes_refused}
 use Rattle.xdr.proofs.Steps.{Reads, passed}
 use Rattle.xdr.proofs.Told.{Wide, encoded_at, told_there}
@@ -32,11 +31,12 @@ pub record Checked (e : Edition) (l : List ℕ) (size : ℕ) : Type 0 where
   pub ends : size ≡ length (given_bytes e l)
   pub small : length (given_bytes e l) ≤ 68
 
-pub repository_checked : (e : Edition) (l : List ℕ) {w : Bytes} {n size : ℕ} → w ≡ repository_answer e (read_at (repository e) (given_bytes e l) 0) → w ≡ B.Taken n size → Checked e l size
+pub repository_checked : (e : Edition) (l : List ℕ) {w : Result (ℕ × ℕ) Refusal} {n size : ℕ} → w ≡ repository_answer e (read_at (repository e) (given_bytes e l) 0) → w ≡ Ok (n, size) → Checked e l size
 repository_checked E.Old l {w} {n} {size} a g =
     let none = nothing_read [] 0 in
-    let q : B.Taken n size ≡ B.Taken 0 0 = sym g ∙ a ∙ ap (repository_answer E.Old) none.is in
-    let same : 0 ≡ size = cc in
+    let q : ◌≡◌ {A = Result (ℕ × ℕ) Refusal} (Ok (n, size)) (Ok (0, 0)) = sym g ∙ a ∙ ap (repository_answer E.Old) none.is in
+    let both : (n, size) ≡ (0, 0) = cc in
+    let same : 0 ≡ size = sym (ap (λ (p : ℕ × ℕ). p.1) both) in
     record { value = tt; reads = rw (sym same) none; ends = sym same; small = omega arith }
 repository_checked E.New l {w} {n} {size} a g =
     let q = bytes_taken (a ∙ sym (new_answer (read_at (repository E.New) (encode (bytes word) l) 0))) g in
@@ -44,11 +44,11 @@ repository_checked E.New l {w} {n} {size} a g =
     record { value = q.0; reads = q.1; ends = s.0 ∙ sym (string_size l); small = omega (arith, s.1, string_size l) }
 
 -- one that is refused, within its bytes
-pub repository_unfit : (e : Edition) (l : List ℕ) {w : Bytes} {f g : Refusal} → w ≡ repository_answer e (read_at (repository e) (given_bytes e l) 0) → w ≡ B.Refused f → g ≡ bytes_refusal w
+pub repository_unfit : (e : Edition) (l : List ℕ) {w : Result (ℕ × ℕ) Refusal} {g : Refusal} → w ≡ repository_answer e (read_at (repository e) (given_bytes e l) 0) → w ≡ Err g
     → Reads (repository e) (given_bytes e l) 0 (refused g.number g.place) × (g.place ≤ 4 + padded (length l))
-repository_unfit E.Old l a b d = let z : ◌≡◌ {A = ℕ} 0 1 = cc (a, b, (nothing_read [] 0).is) in absurd (omega arith)
-repository_unfit E.New l a b d =
-    let h = bytes_refused (a ∙ sym (new_answer (read_at (repository E.New) (encode (bytes word) l) 0))) b d in
+repository_unfit E.Old l a b = cc (a, b, (nothing_read [] 0).is)
+repository_unfit E.New l a b =
+    let h = bytes_refused (a ∙ sym (new_answer (read_at (repository E.New) (encode (bytes word) l) 0))) b in
     (h, string_refused l h)
 
 -- right behind the header it is read as it is alone

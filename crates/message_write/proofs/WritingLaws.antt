@@ -15,8 +15,8 @@ use Rattle.xdr.specs.Fields.{word}
 use Rattle.xdr.specs.Buffer.{filled}
 use Rattle.xdr.specs.Filling.{Outcome, gives, refuses, in_room, filling_answer, Fills}
 use Rattle.xdr.specs.declared.answer.Refusal.{Refusal}
-use Rattle.xdr.specs.declared.filling.Filling.{Filling}
-use Rattle.xdr.specs.declared.filling.Filling.TheVariants as Out
+use Rattle.std.specs.Prelude.{Ok, Err}
+use Rattle.std.specs.declared.result.Result.{Result}
 use Rattle.xdr.proofs.EncodedSize.{number_size}
 use Rattle.xdr.proofs.FillingLaws.{fills_given, fills_kept}
 use Rattle.xdr.proofs.Steps.{Reads, checked_refused, checked_failed, checked_passed, first_refused, both_read, shifted_zero, ends}
@@ -110,7 +110,7 @@ check_answers {A} F id k b = go (read F b) (within F b)
 
     go : (x : Reading A) → Within (length b) x → check_answer (shifted 4 x) ≡ filling_answer (as_read m (shifted 4 x))
     go (taken v u) h =
-        ap Out.Filled (sym (length-take-le (4 + u) m (omega (arith, length-append (encode word (header_of id k)) b, number_size 4 (header_of id k)))))
+        ap Ok (sym (length-take-le (4 + u) m (omega (arith, length-append (encode word (header_of id k)) b, number_size 4 (header_of id k)))))
     go (refused n p) h = refl
 
 -- an ID that is too high
@@ -126,12 +126,12 @@ id_passed e id k b h p q = rw (by_body e id k b p q) (simp (le-leb id 4095 h) (c
 size_in_lem : (room : ℕ) (o : Outcome) → size_in room (filling_answer o) ≡ filling_answer (in_room room o)
 size_in_lem room (gives l) = go (leb (length l) room)
   where
-    go : (t : Bool) → cond t (Out.Filled (length l)) (filling_answer (refuses 14 0)) ≡ filling_answer (cond t (gives l) (refuses 14 0))
+    go : (t : Bool) → cond t (Ok (length l)) (filling_answer (refuses 14 0)) ≡ filling_answer (cond t (gives l) (refuses 14 0))
     go true = refl
     go false = refl
 size_in_lem room (refuses k p) = refl
 
-module _ {A : Type 0} (F : Format A) (id k : ℕ) (b : List ℕ) (room : ℕ) {w c : Filling} (a : w ≡ admitted_answer id room c) (e : c ≡ body_check F b) where
+module _ {A : Type 0} (F : Format A) (id k : ℕ) (b : List ℕ) (room : ℕ) {w c : Result ℕ Refusal} (a : w ≡ admitted_answer id room c) (e : c ≡ body_check F b) where
   -- the answer is that of writing
   admitted_answers : w ≡ filling_answer (in_room room (writing_body F id k b))
   unfolding writing_body
@@ -145,18 +145,20 @@ module _ {A : Type 0} (F : Format A) (id k : ℕ) (b : List ℕ) (room : ℕ) {w
       go false = refl
 
   -- what it refuses
-  pub not_admitted : (out : List ℕ) {f : Refusal} → length out ≡ room → w ≡ Out.Refused f → Fills (writing_body F id k b) out w out
-  not_admitted out long g = fills_kept out (rw long admitted_answers) g
+  pub not_admitted : (out : List ℕ) {f : Refusal} → length out ≡ room → w ≡ Err f → Fills (writing_body F id k b) out (Err f) out
+  not_admitted out long g =
+      let kept : Fills (writing_body F id k b) out w out = fills_kept out (rw long admitted_answers) g in
+      rw g at kept
 
   -- what it takes has passed
-  pub admits : {n : ℕ} → w ≡ Out.Filled n → Passed F id b room n
+  pub admits : {n : ℕ} → w ≡ Ok n → Passed F id b room n
   unfolding body_check read_at
   admits {n} g = go (read F b) refl (leb id 4095) refl (sym g ∙ a ∙ ap (admitted_answer id room) e)
     where
-      go : (x : Reading A) → read F b ≡ x → (t : Bool) → leb id 4095 ≡ t → Out.Filled n ≡ cond t (size_in room (check_answer (shifted 4 x))) (filling_answer (refuses 5 0)) → Passed F id b room n
+      go : (x : Reading A) → read F b ≡ x → (t : Bool) → leb id 4095 ≡ t → Ok n ≡ cond t (size_in room (check_answer (shifted 4 x))) (filling_answer (refuses 5 0)) → Passed F id b room n
       go (taken v u) q true i h = side (leb (4 + u) room) refl h
         where
-          side : (t : Bool) → leb (4 + u) room ≡ t → Out.Filled n ≡ cond t (Out.Filled (4 + u)) (filling_answer (refuses 14 0)) → Passed F id b room n
+          side : (t : Bool) → leb (4 + u) room ≡ t → Ok n ≡ cond t (Ok (4 + u)) (filling_answer (refuses 14 0)) → Passed F id b room n
           side true r h =
               let same : 4 + u ≡ n = cc in
               record { value = v; reads = record { is = ap (shifted 4) q ∙ ap (λ (j : ℕ). taken v j) same }; room = (let f = leb-true (4 + u) room r in omega arith); low = leb-true id 4095 i }
@@ -165,13 +167,13 @@ module _ {A : Type 0} (F : Format A) (id k : ℕ) (b : List ℕ) (room : ℕ) {w
       go x q false i h = let z : ◌≡◌ {A = ℕ} 0 1 = cc in absurd (omega arith)
 
 -- a body that passed and was put behind its header
-pub body_filled : {A : Type 0} {F : Format A} (id k : ℕ) (b out : List ℕ) {n head : ℕ} {w : Filling} {o : List ℕ} → Passed F id b (length out) n → k < 256 → head ≡ header_of (id % 4096) (k % 256)
-    → w ≡ Out.Filled n → o ≡ filled out (take n (encode word head ++ b)) → Fills (writing_body F id k b) out w o
+pub body_filled : {A : Type 0} {F : Format A} (id k : ℕ) (b out : List ℕ) {n head : ℕ} {o : List ℕ} → Passed F id b (length out) n → k < 256 → head ≡ header_of (id % 4096) (k % 256)
+    → o ≡ filled out (take n (encode word head ++ b)) → Fills (writing_body F id k b) out (Ok n) o
 unfolding writing_body read_at
-body_filled {F = F} id k b out {n} {head} {w} {o} p small e g f =
+body_filled {F = F} id k b out {n} {head} {o} p small e f =
     let same : head ≡ header_of id k = omega (arith, p.low) in
     let m : List ℕ = message_bytes id k b in
     let size = ends (omega arith) p.reads in
     let long : length (take n m) ≡ n = length-take-le n m (omega (arith, length-append (encode word (header_of id k)) b, number_size 4 (header_of id k))) in
     let given : writing_body F id k b ≡ gives (take n m) = simp (le-leb id 4095 p.low) (ap (as_read m) p.reads.is) in
-    rw g (fills_given out given (omega (arith, p.room)) (sym long) (f ∙ ap (λ (x : ℕ). filled out (take n (encode word x ++ b))) same))
+    fills_given out given (omega (arith, p.room)) (sym long) (f ∙ ap (λ (x : ℕ). filled out (take n (encode word x ++ b))) same)

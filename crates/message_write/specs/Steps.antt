@@ -1,11 +1,12 @@
 -- The steps of a writer: a body is checked as it reads behind its header, and then the Message ID and the room.
-use Rattle.std.specs.Prelude.{ℕ, List, ◌≡◌, cond, length, leb}
-use Rattle.xdr.specs.Reading.{Reading, taken, refused, shifted}
+use Rattle.std.specs.Prelude.{ℕ, List, ◌≡◌, cond, length, leb, Ok, Err}
+use Rattle.std.specs.declared.result.Result.{Result}
+use Rattle.xdr.specs.Reading.{Reading, shifted}
 use Rattle.xdr.specs.Format.{Format, read}
 use Rattle.xdr.specs.Buffer.{filled}
 use Rattle.xdr.specs.Filling.{Outcome, refuses, filling_answer}
-use Rattle.xdr.specs.declared.filling.Filling.{Filling}
-use Rattle.xdr.specs.declared.filling.Filling.TheVariants as F
+use Rattle.xdr.specs.Answers.{answer}
+use Rattle.xdr.specs.declared.answer.Refusal.{Refusal}
 use Rattle.message.specs.Limits.{id_limit}
 use Rattle.message.specs.Message.{Repository}
 use Rattle.message.specs.declared.edition.Edition.{Edition}
@@ -30,19 +31,18 @@ unfoldable pub writing_body : {A : Type 0} → Format A → (id type : ℕ) → 
 writing_body F id type b = cond (leb id id_limit) (as_read (message_bytes id type b) (shifted 4 (read F b))) (refuses 5 0)
 
 -- what a check answers: how many bytes the message takes, or its refusal
-abbrev pub check_answer : {A : Type 0} → Reading A → Filling
-check_answer (taken v n) = F.Filled n
-check_answer (refused k p) = F.Refused (record { number = k; place = p })
+abbrev pub check_answer : {A : Type 0} → Reading A → Result ℕ Refusal
+check_answer r = answer (λ v n. n) r
 
 -- what the check of a body's bytes answers
-unfoldable pub body_check : {A : Type 0} → Format A → List ℕ → Filling
+unfoldable pub body_check : {A : Type 0} → Format A → List ℕ → Result ℕ Refusal
 body_check F b = check_answer (shifted 4 (read F b))
 
 -- a check's answer, in so much room
-abbrev pub size_in : (room : ℕ) → Filling → Filling
-size_in room (F.Filled n) = cond (leb n room) (F.Filled n) (filling_answer (refuses 14 0))
-size_in room (F.Refused r) = F.Refused r
+abbrev pub size_in : (room : ℕ) → Result ℕ Refusal → Result ℕ Refusal
+size_in room (Ok n) = cond (leb n room) (Ok n) (filling_answer (refuses 14 0))
+size_in room (Err r) = Err r
 
 -- the same behind the test of the Message ID
-abbrev pub admitted_answer : (id room : ℕ) → Filling → Filling
+abbrev pub admitted_answer : (id room : ℕ) → Result ℕ Refusal → Result ℕ Refusal
 admitted_answer id room checked = cond (leb id id_limit) (size_in room checked) (filling_answer (refuses 5 0))

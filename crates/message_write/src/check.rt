@@ -13,36 +13,33 @@ ghost use Rattle.message_write.specs.Steps.{repository_of, given_bytes, body_che
 ghost use Rattle.message_write.specs.Writing.{index_bytes, request_bytes, response_bytes};
 
 use message::{DATA_LIMIT, Edition, FILES_LIMIT, ID_LIMIT, OPTIONS_LIMIT, REPOSITORY_LIMIT};
-use record::{Array, NAME_LIMIT};
-use xdr::{Bytes, Filling, Refusal};
+use record::NAME_LIMIT;
+use xdr::Refusal;
 
 // Contents that are to become an opaque: their length and the bytes that it will take.
-pub fn check_bytes(l: &[u8], limit: u32) -> Bytes
+pub fn check_bytes(l: &[u8], limit: u32) -> Result<(usize, usize), Refusal>
     ensures { result ≡ bytes_answer (read_at (opaque limit) (encode (bytes word) l.now) 0) }
 {
     let n = l.len();
     if (limit as usize) < n {
-        return Bytes::Refused(Refusal {
+        return Err(Refusal {
             number: 5,
             place: 0,
         });
     }
-    Bytes::Taken(n, 4 + n + xdr::pad_after(n))
+    Ok((n, 4 + n + xdr::pad_after(n)))
 }
 
 // The same for a string.
-pub fn check_text(l: &[u8], limit: u32) -> Bytes
+pub fn check_text(l: &[u8], limit: u32) -> Result<(usize, usize), Refusal>
     ensures { result ≡ bytes_answer (read_at (text limit) (encode (bytes word) l.now) 0) }
 {
-    let answer = check_bytes(l, limit);
-    let Bytes::Taken(n, size) = answer else {
-        return Bytes::Refused(answer.refusal());
-    };
+    let (n, size) = check_bytes(l, limit)?;
     let sound = xdr::sound_up_to(l);
     if sound == n {
-        Bytes::Taken(n, size)
+        Ok((n, size))
     } else {
-        Bytes::Refused(Refusal {
+        Err(Refusal {
             number: 7,
             place: 4 + sound,
         })
@@ -50,72 +47,64 @@ pub fn check_text(l: &[u8], limit: u32) -> Bytes
 }
 
 // The same for a name.
-pub fn check_name(l: &[u8]) -> Bytes
+pub fn check_name(l: &[u8]) -> Result<(usize, usize), Refusal>
     ensures { result ≡ bytes_answer (read_at name_field (encode (bytes word) l.now) 0) }
 {
-    let answer = check_text(l, NAME_LIMIT);
-    let Bytes::Taken(n, size) = answer else {
-        return Bytes::Refused(answer.refusal());
-    };
-    let fault = record::name_fault(l);
-    if fault != 0 {
-        return Bytes::Refused(Refusal {
-            number: fault,
-            place: 0,
-        });
+    let (n, size) = check_text(l, NAME_LIMIT)?;
+    if let Some(number) = record::name_fault(l) {
+        return Err(Refusal::at_start(number));
     }
-    Bytes::Taken(n, size)
+    Ok((n, size))
 }
 
 // The same for a hash.
-pub fn check_hash(l: &[u8]) -> Bytes
+pub fn check_hash(l: &[u8]) -> Result<(usize, usize), Refusal>
     ensures { result ≡ bytes_answer (read_at hash_field (encode (bytes word) l.now) 0) }
 {
     if l.len() != 32 {
-        return Bytes::Refused(Refusal {
+        return Err(Refusal {
             number: 9,
             place: 0,
         });
     }
-    Bytes::Taken(32, 36)
+    Ok((32, 36))
 }
 
 // The same for the Repository of a message: in the old edition there is none, whatever is given.
-pub fn check_repository(edition: Edition, repository: &[u8]) -> Bytes
+pub fn check_repository(edition: Edition, repository: &[u8]) -> Result<(usize, usize), Refusal>
     ensures { result ≡ repository_answer edition
         (read_at (repository_field edition) (given_bytes edition repository.now) 0) }
 {
     match edition {
-        Edition::Old => Bytes::Taken(0, 0),
+        Edition::Old => Ok((0, 0)),
         Edition::New => check_text(repository, REPOSITORY_LIMIT),
     }
 }
 
 // A refusal of a field that begins at a place.
-fn refused_at(r: Refusal, at: usize) -> Filling
+fn moved(r: Refusal, at: usize) -> Refusal
     requires { at + r.place < 18446744073709551616 }
-    ensures { result ≡ Filling.Refused (record { number = r.number; place = at + r.place }) }
+    ensures { result ≡ record { number = r.number; place = at + r.place } }
 {
-    Filling::Refused(Refusal {
+    Refusal {
         number: r.number,
         place: at + r.place,
-    })
+    }
 }
 
 // The body of an Index or an IndexUpdate.
-pub fn check_index(edition: Edition, repository: &[u8], files: &[u8]) -> Filling
+pub fn check_index(edition: Edition, repository: &[u8], files: &[u8]) -> Result<usize, Refusal>
     ensures { result ≡ body_check (index edition)
         (index_bytes edition (repository_of edition repository.now) files.now) }
 {
-    let text = check_repository(edition, repository);
-    let Bytes::Taken(_, size) = text else {
-        return refused_at(text.refusal(), 4);
+    let size = match check_repository(edition, repository) {
+        Ok((_, size)) => size,
+        Err(r) => return Err(moved(r, 4)),
     };
-    let array = record::read_files(files, FILES_LIMIT);
-    let Array::Taken(_, used) = array else {
-        return refused_at(array.refusal(), 4 + size);
-    };
-    Filling::Filled(4 + size + used)
+    match record::read_files(files, FILES_LIMIT) {
+        Ok((_, used)) => Ok(4 + size + used),
+        Err(r) => Err(moved(r, 4 + size)),
+    }
 }
 
 // The body of a Request, whatever its offset.
@@ -125,69 +114,62 @@ pub fn check_request(
     name: &[u8],
     size: u32,
     hash: &[u8],
-) -> Filling
+) -> Result<usize, Refusal>
     ensures { (offset : ℕ)
         → result ≡ body_check (request edition) (request_bytes edition (repository_of edition repository.now)
         name.now offset size hash.now) }
 {
-    let first = check_repository(edition, repository);
-    let Bytes::Taken(_, repository_size) = first else {
-        return refused_at(first.refusal(), 4);
+    let name_at = match check_repository(edition, repository) {
+        Ok((_, taken)) => 4 + taken,
+        Err(r) => return Err(moved(r, 4)),
     };
-    let name_at = 4 + repository_size;
-    let second = check_name(name);
-    let Bytes::Taken(_, name_size) = second else {
-        return refused_at(second.refusal(), name_at);
+    let size_at = match check_name(name) {
+        Ok((_, taken)) => name_at + taken + 8,
+        Err(r) => return Err(moved(r, name_at)),
     };
-    let size_at = name_at + name_size + 8;
     if !record::is_size(size) {
-        return Filling::Refused(Refusal {
+        return Err(Refusal {
             number: 10,
             place: size_at,
         });
     }
     let hash_at = size_at + 4;
-    let third = check_hash(hash);
-    let Bytes::Taken(_, hash_size) = third else {
-        return refused_at(third.refusal(), hash_at);
-    };
-    Filling::Filled(hash_at + hash_size)
+    match check_hash(hash) {
+        Ok((_, taken)) => Ok(hash_at + taken),
+        Err(r) => Err(moved(r, hash_at)),
+    }
 }
 
 // The body of a Response.
-pub fn check_response(data: &[u8]) -> Filling
+pub fn check_response(data: &[u8]) -> Result<usize, Refusal>
     ensures { result ≡ body_check response (response_bytes «data».now) }
 {
-    let opaque = check_bytes(data, DATA_LIMIT);
-    let Bytes::Taken(_, size) = opaque else {
-        return refused_at(opaque.refusal(), 4);
-    };
-    Filling::Filled(4 + size)
+    match check_bytes(data, DATA_LIMIT) {
+        Ok((_, size)) => Ok(4 + size),
+        Err(r) => Err(moved(r, 4)),
+    }
 }
 
 // The body of an Options message.
-pub fn check_options(options: &[u8]) -> Filling
+pub fn check_options(options: &[u8]) -> Result<usize, Refusal>
     ensures { result ≡ body_check (options_field options_limit) options.now }
 {
-    let array = record::read_options(options, OPTIONS_LIMIT);
-    let Array::Taken(_, used) = array else {
-        return refused_at(array.refusal(), 4);
-    };
-    Filling::Filled(4 + used)
+    match record::read_options(options, OPTIONS_LIMIT) {
+        Ok((_, used)) => Ok(4 + used),
+        Err(r) => Err(moved(r, 4)),
+    }
 }
 
 // A check's answer, with the Message ID before it and the room behind it.
-pub fn admitted(id: u32, checked: Filling, room: usize) -> Filling
+pub fn admitted(id: u32, checked: Result<usize, Refusal>, room: usize) -> Result<usize, Refusal>
     ensures { result ≡ admitted_answer id room checked }
 {
     if ID_LIMIT < id {
         return xdr::refused(5);
     }
-    let Filling::Filled(n) = checked else {
-        return checked;
-    };
+    let n = checked?;
     if room < n {
         return xdr::refused(14);
     }
-    checked
+    Ok(n)
 }

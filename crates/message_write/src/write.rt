@@ -10,7 +10,7 @@ ghost use Rattle.message_write.specs.Writing.{index_bytes, request_bytes, respon
 
 use crate::check::{admitted, check_index, check_options, check_request, check_response};
 use message::{Edition, header_of};
-use xdr::Filling;
+use xdr::Refusal;
 
 // A header, and bytes as they are.
 fn store_raw(out: &mut [u8], head: u32, b: &[u8])
@@ -87,7 +87,7 @@ fn store_request(
     xdr::put_bytes(out, offset_at + 12, hash);
 }
 
-// An Index or an IndexUpdate: its files are an encoded array, and bytes after the array's end do not count.
+// An Index or an IndexUpdate: its files are an encoded array, and bytes after the array's end do not count. The type is the header's number.
 fn put_index(
     edition: Edition,
     out: &mut [u8],
@@ -95,19 +95,16 @@ fn put_index(
     kind: u32,
     repository: &[u8],
     files: &[u8],
-) -> Filling
+) -> Result<usize, Refusal>
     requires { (eqb kind 1 || eqb kind 6) ≡ true }
     ensures { Fills
         (writing (message edition) id kind
         (index_bytes edition (repository_of edition repository.now) files.now))
         out.old result out.new }
 {
-    let answer = admitted(id, check_index(edition, repository, files), out.len());
-    let Filling::Filled(n) = answer else {
-        return answer;
-    };
+    let n = admitted(id, check_index(edition, repository, files), out.len())?;
     store_index(edition, out, header_of(id, kind), repository, files, n);
-    answer
+    Ok(n)
 }
 
 // A Request.
@@ -120,20 +117,17 @@ fn put_request(
     offset: u64,
     size: u32,
     hash: &[u8],
-) -> Filling
+) -> Result<usize, Refusal>
     ensures { Fills
         (writing (message edition) id 2
         (request_bytes edition (repository_of edition repository.now) name.now offset size hash.now))
         out.old result out.new }
 {
-    let answer = admitted(
+    let n = admitted(
         id,
         check_request(edition, repository, name, size, hash),
         out.len(),
-    );
-    let Filling::Filled(_) = answer else {
-        return answer;
-    };
+    )?;
     store_request(
         edition,
         out,
@@ -144,24 +138,26 @@ fn put_request(
         size,
         hash,
     );
-    answer
+    Ok(n)
 }
 
-// A Ping or a Pong: nothing behind the header.
-fn put_nothing(out: &mut [u8], id: u32, kind: u32) -> Filling
+// A Ping or a Pong: nothing behind the header. The type is the number that the header has.
+fn put_nothing(out: &mut [u8], id: u32, kind: u32) -> Result<usize, Refusal>
     requires { (eqb kind 4 || eqb kind 5) ≡ true }
     ensures { Fills (writing (message Edition.New) id kind []) out.old result out.new }
 {
-    let answer = admitted(id, Filling::Filled(4), out.len());
-    let Filling::Filled(_) = answer else {
-        return answer;
-    };
+    let n = admitted(id, Ok(4), out.len())?;
     xdr::put_word(out, 0, header_of(id, kind));
-    answer
+    Ok(n)
 }
 
 // An Index.
-pub fn write_index(out: &mut [u8], id: u32, repository: &[u8], files: &[u8]) -> Filling
+pub fn write_index(
+    out: &mut [u8],
+    id: u32,
+    repository: &[u8],
+    files: &[u8],
+) -> Result<usize, Refusal>
     ensures { Fills
         (writing (message Edition.New) id 1 (index_bytes Edition.New repository.now files.now))
         out.old result out.new }
@@ -170,7 +166,12 @@ pub fn write_index(out: &mut [u8], id: u32, repository: &[u8], files: &[u8]) -> 
 }
 
 // An IndexUpdate.
-pub fn write_index_update(out: &mut [u8], id: u32, repository: &[u8], files: &[u8]) -> Filling
+pub fn write_index_update(
+    out: &mut [u8],
+    id: u32,
+    repository: &[u8],
+    files: &[u8],
+) -> Result<usize, Refusal>
     ensures { Fills
         (writing (message Edition.New) id 6 (index_bytes Edition.New repository.now files.now))
         out.old result out.new }
@@ -187,7 +188,7 @@ pub fn write_request(
     offset: u64,
     size: u32,
     hash: &[u8],
-) -> Filling
+) -> Result<usize, Refusal>
     ensures { Fills
         (writing (message Edition.New) id 2
         (request_bytes Edition.New repository.now name.now offset size hash.now))
@@ -197,7 +198,7 @@ pub fn write_request(
 }
 
 // An Index of the old edition.
-pub fn write_old_index(out: &mut [u8], id: u32, files: &[u8]) -> Filling
+pub fn write_old_index(out: &mut [u8], id: u32, files: &[u8]) -> Result<usize, Refusal>
     ensures { Fills (writing (message Edition.Old) id 1 (index_bytes Edition.Old tt files.now))
         out.old result out.new }
 {
@@ -205,7 +206,7 @@ pub fn write_old_index(out: &mut [u8], id: u32, files: &[u8]) -> Filling
 }
 
 // An IndexUpdate of the old edition.
-pub fn write_old_index_update(out: &mut [u8], id: u32, files: &[u8]) -> Filling
+pub fn write_old_index_update(out: &mut [u8], id: u32, files: &[u8]) -> Result<usize, Refusal>
     ensures { Fills (writing (message Edition.Old) id 6 (index_bytes Edition.Old tt files.now))
         out.old result out.new }
 {
@@ -220,7 +221,7 @@ pub fn write_old_request(
     offset: u64,
     size: u32,
     hash: &[u8],
-) -> Filling
+) -> Result<usize, Refusal>
     ensures { Fills
         (writing (message Edition.Old) id 2
         (request_bytes Edition.Old tt name.now offset size hash.now))
@@ -230,40 +231,34 @@ pub fn write_old_request(
 }
 
 // A Response.
-pub fn write_response(out: &mut [u8], id: u32, data: &[u8]) -> Filling
+pub fn write_response(out: &mut [u8], id: u32, data: &[u8]) -> Result<usize, Refusal>
     ensures { Fills (writing (message Edition.New) id 3 (response_bytes «data».now)) out.old result out.new }
 {
-    let answer = admitted(id, check_response(data), out.len());
-    let Filling::Filled(_) = answer else {
-        return answer;
-    };
+    let n = admitted(id, check_response(data), out.len())?;
     store_opaque(out, header_of(id, 3), data);
-    answer
+    Ok(n)
 }
 
 // A Ping.
-pub fn write_ping(out: &mut [u8], id: u32) -> Filling
+pub fn write_ping(out: &mut [u8], id: u32) -> Result<usize, Refusal>
     ensures { Fills (writing (message Edition.New) id 4 []) out.old result out.new }
 {
     put_nothing(out, id, 4)
 }
 
 // A Pong.
-pub fn write_pong(out: &mut [u8], id: u32) -> Filling
+pub fn write_pong(out: &mut [u8], id: u32) -> Result<usize, Refusal>
     ensures { Fills (writing (message Edition.New) id 5 []) out.old result out.new }
 {
     put_nothing(out, id, 5)
 }
 
 // An Options message: its options are an encoded array, and bytes after the array's end do not count.
-pub fn write_options(out: &mut [u8], id: u32, options: &[u8]) -> Filling
+pub fn write_options(out: &mut [u8], id: u32, options: &[u8]) -> Result<usize, Refusal>
     ensures { Fills (writing (message Edition.New) id 7 options.now) out.old result out.new }
 {
-    let answer = admitted(id, check_options(options), out.len());
-    let Filling::Filled(n) = answer else {
-        return answer;
-    };
+    let n = admitted(id, check_options(options), out.len())?;
     let used = n - 4;
     store_raw(out, header_of(id, 7), &options[0..used]);
-    answer
+    Ok(n)
 }

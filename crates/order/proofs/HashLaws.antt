@@ -10,10 +10,10 @@ use Rattle.xdr.specs.Number.{IsBytes, big_endian}
 use Rattle.xdr.specs.Answers.{hyper_answer}
 use Rattle.xdr.specs.Format.{read_at}
 use Rattle.xdr.specs.Fields.{hyper}
-use Rattle.xdr.specs.declared.answer.Hyper.{Hyper}
-use Rattle.xdr.specs.declared.answer.Hyper.TheVariants as H
+use Rattle.std.specs.Prelude.{Ok, Err}
+use Rattle.std.specs.declared.result.Result.{Result}
 use Rattle.xdr.specs.declared.answer.Refusal.{Refusal}
-use Rattle.xdr.proofs.Answered.{hyper_taken, hyper_refused}
+use Rattle.xdr.proofs.Answered.{word_taken, word_refused}
 use Rattle.xdr.proofs.NumberLaws.{number_first}
 use Rattle.xdr.proofs.Parts.{number_value, number_missing}
 use Rattle.order.specs.Order.{is_equal, compare_lists}
@@ -23,13 +23,13 @@ use Rattle.order.proofs.WordLaws.{word_same}
 
 -- eight bytes that are there, by the answer that was given
 
-module _ (s : List ℕ) (at : ℕ) {w : Hyper} (e : w ≡ hyper_answer (read_at hyper (take (at + 8 - at) (drop at s)) 0)) where
-  pub eight_taken : {x m : ℕ} → w ≡ H.Taken x m → x ≡ big_endian 8 (drop at s)
-  eight_taken v = number_value (hyper_taken e v) ∙ number_first 8 (at + 8 - at) (drop at s) (omega arith)
+module _ (s : List ℕ) (at : ℕ) {w : Result (ℕ × ℕ) Refusal} (e : w ≡ hyper_answer (read_at hyper (take (at + 8 - at) (drop at s)) 0)) where
+  pub eight_taken : {x m : ℕ} → w ≡ Ok (x, m) → x ≡ big_endian 8 (drop at s)
+  eight_taken v = number_value (word_taken e v) ∙ number_first 8 (at + 8 - at) (drop at s) (omega arith)
 
-  pub eight_refused : {f : Refusal} {P : Type 0} → at + 8 ≤ length s → w ≡ H.Refused f → P
+  pub eight_refused : {f : Refusal} {P : Type 0} → at + 8 ≤ length s → w ≡ Err f → P
   eight_refused h v =
-      let m = number_missing (hyper_refused e v refl) in
+      let m = number_missing (word_refused e v) in
       absurd (omega (arith, m, length-take (at + 8 - at) (drop at s), length-drop at s))
 
 -- the loop: `same` tells whether the bytes before i are the same
@@ -38,7 +38,7 @@ pub record Agree (a b : List ℕ) (i : ℕ) (same : Bool) : Type 0 where
   pub not_so : same ≡ false → a ≡ b → ⊥
 
 pub agree_starts : (a b : List ℕ) → Agree a b 0 true
-agree_starts a b = record { so_far = λ e. refl; not_so = λ e. let z : ◌≡◌ {A = ℕ} 0 1 = cc in absurd (omega arith) }
+agree_starts a b = record { so_far = λ e. refl; not_so = λ e. cc }
 
 pub agree_turn : {a b : List ℕ} {i : ℕ} {same t : Bool} {x y : ℕ} → Agree a b i same → IsBytes a → IsBytes b → i + 8 ≤ length a → i + 8 ≤ length b → x ≡ big_endian 8 (drop i a) → y ≡ big_endian 8 (drop i b)
     → ((x ≡ y → ⊥) × (t ≡ false)) ⊎ ((x ≡ y) × (t ≡ same)) → Agree a b (i + 8) t

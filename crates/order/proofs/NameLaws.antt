@@ -1,5 +1,5 @@
 -- Comparing names by eight bytes at a time, the last eight of the shorter at once.
-use Prim.Native.Nat.{ℕ, ◌+◌, ◌≤◌, ◌<◌}
+use Prim.Native.Nat.{ℕ, ◌+◌, ◌≤◌, min}
 use mathlib.Core.List.{List, ◌++◌}
 use mathlib.Core.Path.{◌≡◌, sym, ap, ◌∙◌}
 use mathlib.Core.Logic.{◌⊎◌, inl, inr}
@@ -9,9 +9,8 @@ use lib.Seq.{take-add, take-take}
 use Rattle.xdr.specs.Number.{IsBytes, big_endian, digits}
 use Rattle.xdr.proofs.NumberLaws.{bytes_drop, digits_read}
 use Rattle.order.specs.Order.{compare_numbers, compare_lists}
-use Rattle.order.specs.declared.compare.Order.{Order}
-use Rattle.order.specs.declared.compare.Order.TheVariants.{Less, Equal, Greater}
-use Rattle.order.proofs.OrderLaws.{first_ended, second_ended, both_ended}
+use Rattle.std.specs.declared.cmp.Ordering.{Ordering}
+use Rattle.order.proofs.OrderLaws.{one_ended}
 use Rattle.order.proofs.SameLaws.{past_same}
 use Rattle.order.proofs.WordLaws.{word_differs}
 use Rattle.order.specs.Steps.{Shorter}
@@ -38,29 +37,13 @@ module _ (a b : List ℕ) (i : ℕ) {x y : ℕ} (p : IsBytes a) (q : IsBytes b) 
       ∙ sym (take-add i 8 b)
 
   -- and else these decide
-  pub eight_decide : {o : Order} → o ≡ compare_numbers x y → (x ≡ y → ⊥) → o ≡ compare_lists a b
+  pub eight_decide : {o : Ordering} → o ≡ compare_numbers x y → (x ≡ y → ⊥) → o ≡ compare_lists a b
   eight_decide c d = c ∙ sym (after a b i same ∙ word_differs 8 a b i p q h g e f d)
 
--- all of the shorter is the same
-
-module _ (a b : List ℕ) (n : ℕ) (w : Shorter (length a) (length b) n) (same : take n a ≡ take n b) where
-  pub first_shorter : length a < length b → Less ≡ compare_lists a b
-  first_shorter h = go w.one
-    where
-      go : (n ≡ length a) ⊎ (n ≡ length b) → Less ≡ compare_lists a b
-      go (inl e) = sym (after a b n same ∙ first_ended a b n (omega arith) (omega arith))
-      go (inr e) = absurd (omega (arith, w.first))
-
-  pub second_shorter : length b < length a → Greater ≡ compare_lists a b
-  second_shorter h = go w.one
-    where
-      go : (n ≡ length a) ⊎ (n ≡ length b) → Greater ≡ compare_lists a b
-      go (inl e) = absurd (omega (arith, w.second))
-      go (inr e) = sym (after a b n same ∙ second_ended a b n (omega arith) (omega arith))
-
-  pub as_long : length b ≤ length a → length a ≤ length b → Equal ≡ compare_lists a b
-  as_long h g = go w.one
-    where
-      go : (n ≡ length a) ⊎ (n ≡ length b) → Equal ≡ compare_lists a b
-      go (inl e) = sym (after a b n same ∙ both_ended a b n (omega arith) (omega arith))
-      go (inr e) = sym (after a b n same ∙ both_ended a b n (omega arith) (omega arith))
+-- all of the shorter is the same: so the lengths decide
+pub lengths_decide : (a b : List ℕ) (n : ℕ) → Shorter (length a) (length b) n → take n a ≡ take n b → compare_lists a b ≡ compare_numbers (length a) (length b)
+lengths_decide a b n w same = after a b n same ∙ one_ended a b n (go w.one)
+  where
+    go : (n ≡ length a) ⊎ (n ≡ length b) → n ≡ min (length a) (length b)
+    go (inl e) = omega (arith, w.first, w.second)
+    go (inr e) = omega (arith, w.first, w.second)

@@ -9,14 +9,14 @@ use native.Mathlib.Decide.{dec_lt}
 use lib.ListN.{length, get_or, take, drop, take-append-drop}
 use lib.Seq.{ext_get_or, drop-drop}
 use Rattle.order.specs.Order.{is_equal, or_else, compare_lists}
-use Rattle.order.specs.declared.compare.Order.{Order}
-use Rattle.order.specs.declared.compare.Order.TheVariants.{Less, Equal, Greater}
+use Rattle.std.specs.declared.cmp.Ordering.{Ordering}
+use Rattle.std.specs.declared.cmp.Ordering.TheVariants.{Less, Equal, Greater}
 use Rattle.order.proofs.OrderLaws.{equal_same, same_equal, number_same, heads}
 
 pub differ : (a b : List ℕ) → (a ≡ b → ⊥) → false ≡ is_equal (compare_lists a b)
 differ a b h = go (compare_lists a b) refl
   where
-    go : (o : Order) → compare_lists a b ≡ o → false ≡ is_equal o
+    go : (o : Ordering) → compare_lists a b ≡ o → false ≡ is_equal o
     go Less e = refl
     go Equal e = absurd (h (equal_same a b e))
     go Greater e = refl
@@ -24,10 +24,10 @@ differ a b h = go (compare_lists a b) refl
 pub is_same_lem : (a b : List ℕ) → is_equal (compare_lists a b) ≡ true → a ≡ b
 is_same_lem a b h = go (compare_lists a b) refl h
   where
-    go : (o : Order) → compare_lists a b ≡ o → is_equal o ≡ true → a ≡ b
-    go Less e f = let z : ◌≡◌ {A = ℕ} 0 1 = cc in absurd (omega arith)
+    go : (o : Ordering) → compare_lists a b ≡ o → is_equal o ≡ true → a ≡ b
+    go Less e f = cc
     go Equal e f = equal_same a b e
-    go Greater e f = let z : ◌≡◌ {A = ℕ} 0 1 = cc in absurd (omega arith)
+    go Greater e f = cc
 
 -- `same` tells whether the first i bytes are alike
 pub record Alike (a b : List ℕ) (i : ℕ) (same : Bool) : Type 0 where
@@ -35,12 +35,12 @@ pub record Alike (a b : List ℕ) (i : ℕ) (same : Bool) : Type 0 where
   pub not_so : same ≡ false → a ≡ b → ⊥
 
 pub alike_starts : (a b : List ℕ) → Alike a b 0 true
-alike_starts a b = record { so_far = λ e m h. absurd (omega arith); not_so = λ e. let z : ◌≡◌ {A = ℕ} 0 1 = cc in absurd (omega arith) }
+alike_starts a b = record { so_far = λ e m h. absurd (omega arith); not_so = λ e. cc }
 
 pub alike_turn : {a b : List ℕ} {i : ℕ} {same t : Bool} → Alike a b i same → ((get_or a i 0 ≡ get_or b i 0 → ⊥) × (t ≡ false)) ⊎ ((get_or a i 0 ≡ get_or b i 0) × (t ≡ same)) → Alike a b (i + 1) t
 alike_turn {a} {b} {i} {same} {t} w (inl p) =
     record {
-      so_far = λ e. let z : ◌≡◌ {A = ℕ} 0 1 = cc (sym e ∙ p.1) in absurd (omega arith);
+      so_far = λ e. cc (sym e ∙ p.1);
       not_so = λ e q. p.0 (ap (λ (l : List ℕ). get_or l i 0) q);
     }
 alike_turn {a} {b} {i} {same} {t} w (inr p) =
@@ -65,7 +65,7 @@ alike_ends {a} {b} {i} {same} w h p = go same refl
 -- what comes after the same bytes decides
 after_same : (p a b : List ℕ) → compare_lists (p ++ a) (p ++ b) ≡ compare_lists a b
 after_same [] a b = refl
-after_same (x ∷ p) a b = heads x x (p ++ a) (p ++ b) ∙ ap (λ (o : Order). or_else o (compare_lists (p ++ a) (p ++ b))) (number_same x x refl) ∙ after_same p a b
+after_same (x ∷ p) a b = heads x x (p ++ a) (p ++ b) ∙ ap (λ (o : Ordering). or_else o (compare_lists (p ++ a) (p ++ b))) (number_same x x refl) ∙ after_same p a b
 
 pub past_same : (a b : List ℕ) (i k : ℕ) → take k (drop i a) ≡ take k (drop i b) → compare_lists (drop i a) (drop i b) ≡ compare_lists (drop (i + k) a) (drop (i + k) b)
 past_same a b i k e =

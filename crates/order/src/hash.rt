@@ -4,15 +4,14 @@ ghost use Rattle.xdr.specs.Number.{big_endian};
 ghost use Rattle.order.specs.Order.{is_equal, compare_lists};
 
 use crate::long::same_bytes;
-use xdr::Hyper;
 
-// Eight bytes as a number.
+// Eight bytes as a number. All of them are there, so the 0 is never answered.
 pub(crate) fn eight_at(s: &[u8], at: usize) -> u64
     requires { at + 8 ≤ length s.now }
     ensures { result ≡ big_endian 8 (drop at s.now) }
 {
     let end = at + 8;
-    let Hyper::Taken(x, _) = xdr::read_hyper(&s[at..end], 0) else {
+    let Ok((x, _)) = xdr::read_hyper(&s[at..end], 0) else {
         return 0;
     };
     x
@@ -29,12 +28,10 @@ pub fn same_hash(a: &[u8], b: &[u8]) -> bool
         return false;
     }
     let mut same = true;
-    let mut i = 0;
-    while i < 32 {
+    for i in (0..32).step_by(8) {
         if eight_at(a, i) != eight_at(b, i) {
             same = false;
         }
-        i += 8;
     }
     same
 }

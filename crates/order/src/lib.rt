@@ -6,7 +6,7 @@ pub mod hash;
 pub mod long;
 pub mod names;
 
-pub use compare::{Order, compare_bytes, compare_numbers, compare_parts, part};
+pub use compare::{compare_bytes, compare_numbers, compare_parts, part};
 pub use hash::same_hash;
 pub use long::{compare_long, same_bytes};
 pub use names::compare_names;

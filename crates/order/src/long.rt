@@ -3,7 +3,8 @@ ghost use Rattle.std.specs.Prelude.{◌≡◌};
 ghost use Rattle.order.specs.Order.{is_equal, compare_lists};
 ghost use Rattle.order.specs.Steps.{SameUpTo};
 
-use crate::compare::{Order, compare_bytes};
+use crate::compare::compare_bytes;
+use std::cmp::Ordering;
 
 // Whether two runs of bytes are the same. With no early exit it compiles to comparisons of 16 bytes, where the length is known.
 pub fn same_bytes(a: &[u8], b: &[u8]) -> bool
@@ -13,12 +14,10 @@ pub fn same_bytes(a: &[u8], b: &[u8]) -> bool
         return false;
     }
     let mut same = true;
-    let mut i = 0;
-    while i < a.len() {
-        if a[i] != b[i] {
+    for (x, y) in a.iter().zip(b) {
+        if x != y {
             same = false;
         }
-        i += 1;
     }
     same
 }
@@ -27,22 +26,19 @@ pub fn same_bytes(a: &[u8], b: &[u8]) -> bool
 fn same_up_to(a: &[u8], b: &[u8]) -> usize
     ensures { SameUpTo a.now b.now result }
 {
-    let mut i = 0;
-    while 64 <= a.len() - i {
-        if b.len() - i < 64 {
-            return i;
-        }
+    let n = a.len().min(b.len());
+    let whole = n - n % 64;
+    for i in (0..whole).step_by(64) {
         let end = i + 64;
         if !same_bytes(&a[i..end], &b[i..end]) {
             return i;
         }
-        i = end;
     }
-    i
+    whole
 }
 
 // Two runs of bytes that are long and mostly the same.
-pub fn compare_long(a: &[u8], b: &[u8]) -> Order
+pub fn compare_long(a: &[u8], b: &[u8]) -> Ordering
     ensures { result ≡ compare_lists a.now b.now }
 {
     let i = same_up_to(a, b);

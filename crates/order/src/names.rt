@@ -4,21 +4,12 @@ ghost use Rattle.std.specs.Prelude.{◌≡◌, ◌-◌, ◌≤◌, length, take}
 ghost use Rattle.order.specs.Order.{compare_lists};
 ghost use Rattle.order.specs.Steps.{Shorter};
 
-use crate::compare::{Order, compare_bytes, compare_numbers};
+use crate::compare::{compare_numbers, compare_rest};
 use crate::hash::eight_at;
-
-// The lower of two lengths.
-fn shorter(m: usize, n: usize) -> usize
-    ensures { Shorter m n result }
-{
-    if m < n {
-        return m;
-    }
-    n
-}
+use std::cmp::Ordering;
 
 // Two runs of bytes that are the same up to the last eight of the shorter one, which has so many.
-fn compare_last(a: &[u8], b: &[u8], n: usize) -> Order
+fn compare_last(a: &[u8], b: &[u8], n: usize) -> Ordering
     requires shorter { Shorter (length a.now) (length b.now) n }
     requires le_n { 8 ≤ n }
     requires a_value { take (n - 8) a.now ≡ take (n - 8) b.now }
@@ -30,31 +21,23 @@ fn compare_last(a: &[u8], b: &[u8], n: usize) -> Order
     if x != y {
         return compare_numbers(x, y);
     }
-    if a.len() < b.len() {
-        return Order::Less;
-    }
-    if b.len() < a.len() {
-        return Order::Greater;
-    }
-    Order::Equal
+    a.len().cmp(&b.len())
 }
 
 // Two runs of bytes, such as names.
-pub fn compare_names(a: &[u8], b: &[u8]) -> Order
+pub fn compare_names(a: &[u8], b: &[u8]) -> Ordering
     ensures { result ≡ compare_lists a.now b.now }
 {
-    let n = shorter(a.len(), b.len());
+    let n = a.len().min(b.len());
     if n < 8 {
-        return compare_bytes(a, b);
+        return compare_rest(a, b);
     }
-    let mut i = 0;
-    while i < n - 8 {
+    for i in (0..n - 8).step_by(8) {
         let x = eight_at(a, i);
         let y = eight_at(b, i);
         if x != y {
             return compare_numbers(x, y);
         }
-        i += 8;
     }
     compare_last(a, b, n)
 }

@@ -7,8 +7,8 @@ use mathlib.Core.Logic.{◌⊎◌, inl, inr, ⊎_elim}
 use mathlib.Core.Bool.{Bool, true, false, cond}
 use Rattle.record.specs.File.{File}
 use Rattle.order.specs.Order.{is_equal, compare_lists}
-use Rattle.order.specs.declared.compare.Order.{Order}
-use Rattle.order.specs.declared.compare.Order.TheVariants.{Less, Equal, Greater}
+use Rattle.std.specs.declared.cmp.Ordering.{Ordering}
+use Rattle.std.specs.declared.cmp.Ordering.TheVariants.{Less, Equal, Greater}
 use Rattle.order.proofs.OrderLaws.{same_equal, equal_same}
 use Rattle.order.proofs.SameLaws.{is_same_lem}
 use Rattle.table.specs.Insert.{placed, insert}
@@ -47,7 +47,7 @@ module _ (f : File) where
   insert_new [] = Memᴰ.head refl
   insert_new (g ∷ l) = go (compare_lists f.name g.name) (insert_new l)
     where
-      go : (o : Order) → Memᴰ f (insert replacing f l) → Memᴰ f (placed replacing o f g l (insert replacing f l))
+      go : (o : Ordering) → Memᴰ f (insert replacing f l) → Memᴰ f (placed replacing o f g l (insert replacing f l))
       go Less ih = Memᴰ.head refl
       go Equal ih = Memᴰ.head refl
       go Greater ih = Memᴰ.tail ih
@@ -56,7 +56,7 @@ module _ (f : File) where
   insert_keeps [] x h m = absurd (Memᴰ.not-nil m)
   insert_keeps (g ∷ l) x h m = go (compare_lists f.name g.name) refl (Memᴰ.cases_cons m) (insert_keeps l x h)
     where
-      go : (o : Order) → compare_lists f.name g.name ≡ o → (x ≡ g) ⊎ Memᴰ x l → (Memᴰ x l → Memᴰ x (insert replacing f l)) → Memᴰ x (placed replacing o f g l (insert replacing f l))
+      go : (o : Ordering) → compare_lists f.name g.name ≡ o → (x ≡ g) ⊎ Memᴰ x l → (Memᴰ x l → Memᴰ x (insert replacing f l)) → Memᴰ x (placed replacing o f g l (insert replacing f l))
       go Less e k ih = Memᴰ.tail m
       go Equal e (inl k) ih = absurd (h (equal_same f.name g.name e ∙ ap (λ (y : File). y.name) (sym k)))
       go Equal e (inr k) ih = Memᴰ.tail k

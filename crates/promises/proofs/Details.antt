@@ -1,4 +1,8 @@
 -- Each entry of the request list, and what a Request for it says: the name and the hash are where the details point.
+use Rattle.std.specs.Prelude.{Ok, None}
+use Rattle.std.specs.declared.result.Result.{Result}
+use Rattle.std.specs.declared.option.Option.{Option}
+use Rattle.xdr.specs.declared.answer.Refusal.{Refusal}
 use Prim.Native.Nat.{ℕ, zero, suc, ◌+◌, ◌-◌, ◌<◌}
 use mathlib.Core.List.Memᴰ
 use mathlib.Core.List.{List, [], ◌∷◌, ◌++◌, map}
@@ -15,8 +19,8 @@ use Rattle.record.specs.Block.{Block, total_size}
 use Rattle.record.specs.File.{File, file}
 use Rattle.record.specs.Outline.{block_place, fields_of}
 use Rattle.order.specs.Order.{is_equal, compare_lists}
-use Rattle.order.specs.declared.compare.Order.{Order}
-use Rattle.order.specs.declared.compare.Order.TheVariants.{Less, Equal, Greater}
+use Rattle.std.specs.declared.cmp.Ordering.{Ordering}
+use Rattle.std.specs.declared.cmp.Ordering.TheVariants.{Less, Equal, Greater}
 use Rattle.order.proofs.OrderLaws.{same_equal}
 use Rattle.order.proofs.SameLaws.{is_same_lem}
 use Rattle.record.proofs.RisingLaws.{Rising, both_true}
@@ -33,7 +37,6 @@ use Rattle.want.specs.Details.{file_numbered, is_same_file, has_file, table_with
 use Rattle.want.specs.Steps.Places.{table_at, Five}
 use Rattle.want.specs.declared.list.Wanted.{Wanted}
 use Rattle.want.specs.declared.entry.Details.{Details}
-use Rattle.want.specs.declared.entry.Details.TheVariants as D
 use Rattle.want.proofs.HeldLaws.{or_true}
 use Rattle.want.proofs.HeadLaws.{Within, in_joined, length_map}
 use Rattle.want.proofs.SideLaws.{records_of}
@@ -59,7 +62,7 @@ in_has (g ∷ gs) f m = go (Memᴰ.cases_cons m) (λ k. in_has gs f k)
     go (inl e) ih = ap (λ (b : Bool). b || has_file gs f) (ap (λ (h : File). is_same_file h f) (sym e) ∙ same_itself f)
     go (inr k) ih = ap (λ (b : Bool). is_same_file g f || b) (ih k) ∙ or_true (is_same_file g f)
 
-is_equal_lem : (o : Order) → is_equal o ≡ true → o ≡ Equal
+is_equal_lem : (o : Ordering) → is_equal o ≡ true → o ≡ Equal
 is_equal_lem Less e = let z : ◌≡◌ {A = ℕ} 0 1 = cc in absurd (omega arith)
 is_equal_lem Equal e = refl
 is_equal_lem Greater e = let z : ◌≡◌ {A = ℕ} 0 1 = cc in absurd (omega arith)
@@ -114,14 +117,14 @@ placed {t} (g ∷ gs) at f u r m = go (Memᴰ.cases_cons m) (λ k. placed gs (at
 
 -- of a record that stands at a place of table k
 said_at : {ts : List (List ℕ)} {k at : ℕ} {f : File} → k < 5 → Placed (table_at ts k) at f → (front : List Block) (b : Block) (rest : List Block) → f.blocks ≡ front ++ (b ∷ rest)
-    → Said ts f b (total_size front) b.size (details_at k at (length front) f)
+    → Said ts f b (total_size front) b.size (Ok (details_at k at (length front) f))
 said_at {ts} {k} {at} {f} s p front b rest e =
     record {
       table = k;
       name = (fields_of at f).name;
       stop = (fields_of at f).stop;
       hash = hash;
-      is = numbered_split D.Nothing _ front b rest f.blocks e;
+      is = ap Ok (numbered_split None _ front b rest f.blocks e);
       small = s;
       name_is = (standing p.here).name_is;
       hash_is = ap (λ (m : ℕ). take m (drop hash (table_at ts k))) many ∙ (block_there p.here (length front) b rest after).hash_is;
@@ -181,9 +184,9 @@ module _ {ts : List (List ℕ)} (g : Five ts) where
 asked_details : (local : List ℕ) (peers : List (List ℕ)) → Five (local ∷ peers) → (w : Wanted) (a : Asked (records local) (map records peers) 0 (merged_of (map records (local ∷ peers))) w)
     → Said (local ∷ peers) a.highest a.entry.block w.offset w.size (details_of local peers w.file w.block)
 asked_details local peers g w a =
-    subst (λ (d : Details). Said ts f b w.offset w.size d) here
-    (subst (λ (n : ℕ). Said ts f b w.offset n (details_at k at (length front) f)) (sym a.entry.size_is)
-    (subst (λ (n : ℕ). Said ts f b n b.size (details_at k at (length front) f)) (sym (a.entry.offset_is ∙ zero-add (total_size front)))
+    subst (λ (d : Result (Option Details) Refusal). Said ts f b w.offset w.size d) here
+    (subst (λ (n : ℕ). Said ts f b w.offset n (Ok (details_at k at (length front) f))) (sym a.entry.size_is)
+    (subst (λ (n : ℕ). Said ts f b n b.size (Ok (details_at k at (length front) f))) (sym (a.entry.offset_is ∙ zero-add (total_size front)))
     (said_at c.small c.stands front b a.entry.rest (all_listed f front b a.entry.rest a.entry.split))))
   where
     ts : List (List ℕ)
@@ -207,16 +210,16 @@ asked_details local peers g w a =
     at : ℕ
     at = place_of 4 (get_or (map records ts) k []) f.name
 
-    told : File → Details
+    told : File → Option Details
     told = details_in (map records ts) w.block
 
-    here : details_at k at (length front) f ≡ details_of local peers w.file w.block
+    here : Ok (details_at k at (length front) f) ≡ details_of local peers w.file w.block
     here =
-        ap (λ (n : ℕ). details_at k at n f) (sym (a.entry.block_is ∙ zero-add (length front)))
+        ap Ok (ap (λ (n : ℕ). details_at k at n f) (sym (a.entry.block_is ∙ zero-add (length front)))
         ∙ ap (λ (i : ℕ). details_at i (place_of 4 (get_or (map records ts) i []) f.name) w.block f) (sym c.is)
-        ∙ sym (file_numbered_lem D.Nothing told a.before f a.after)
-        ∙ ap (λ (n : ℕ). file_numbered D.Nothing told n (a.before ++ (f ∷ a.after))) (sym (a.entry.file_is ∙ zero-add (length a.before)))
-        ∙ ap (file_numbered D.Nothing told w.file) (sym a.split)
+        ∙ sym (file_numbered_lem None told a.before f a.after)
+        ∙ ap (λ (n : ℕ). file_numbered None told n (a.before ++ (f ∷ a.after))) (sym (a.entry.file_is ∙ zero-add (length a.before)))
+        ∙ ap (file_numbered None told w.file) (sym a.split))
         ∙ details_good local peers w.file w.block refl (all_good_lem ts (λ m s. g.good m (omega (arith, g.many))))
 
 -- five good tables of bytes

@@ -1,4 +1,7 @@
 -- Walking the arrays of a message gives the elements that were read.
+use Rattle.std.specs.Prelude.{None}
+use Rattle.std.specs.declared.result.Result.{Result}
+use Rattle.xdr.specs.declared.answer.Refusal.{Refusal}
 use Prim.Native.Nat.{ℕ, ◌+◌, ◌-◌}
 use mathlib.Core.List.{List, [], ◌∷◌, append-nil}
 use mathlib.Core.Path.{◌≡◌, refl, sym, ap, subst, ◌∙◌}
@@ -17,7 +20,6 @@ use Rattle.record.specs.Block.{Block, block}
 use Rattle.record.specs.File.{File, file, files}
 use Rattle.record.specs.KeyValue.{KeyValue, key_value, options}
 use Rattle.record.specs.Outline.{outline_of, fields_of, block_place}
-use Rattle.record.specs.declared.outline.Outline.TheVariants as O
 use Rattle.record.proofs.BlockLaws.{nth_block, nth_outline}
 use Rattle.record.proofs.FileLaws.{file_parts}
 use Rattle.record.proofs.OptionLaws.{option_cut, option_parts}
@@ -44,7 +46,7 @@ blocks_from s all first next i (b ∷ l) e d =
     )
 
 files_from : (s : List ℕ) (at : ℕ) (fs : List File) → Elements file s at fs (length s) → FilesFrom s at fs
-files_from s at [] e = (sym e, subst (λ (k : ℕ). outline_of s k ≡ O.Short) e (at_end (at_last s)))
+files_from s at [] e = (sym e, subst (λ (k : ℕ). outline_of s k ≡ None) e (at_end (at_last s)))
 files_from s at (f ∷ fs) e =
     let q = file_parts e.1 in
     let size : (at + 4 + length f.name) - (at + 4) ≡ length f.name = omega arith in (
@@ -90,7 +92,7 @@ options_walked s os v e =
     options_from s 4 os (subst (λ (k : ℕ). Elements key_value s k os (length s)) (ends_word (passed q.1)).0 q.2)
 
 module _ (ed : Edition) where
-  by_kind : (s : List ℕ) (k : Kind) (b : Body ed k) (id n : ℕ) (a : Message) → Valid (body ed k) b → SaysFields ed s id k b n a → Walked ed s k b a
+  by_kind : (s : List ℕ) (k : Kind) (b : Body ed k) (id n : ℕ) (a : Result Message Refusal) → Valid (body ed k) b → SaysFields ed s id k b n a → Walked ed s k b a
   unfolding Valid
   by_kind s is_index b id n a v (x, e, f) = (id, x, e, files_walked (span_bytes s x.files) b.1 v.1 f.files_are)
   by_kind s is_request b id n a v f = tt

@@ -1,4 +1,8 @@
 -- A message that is fed run by run is read as if at once.
+use Rattle.std.specs.Prelude.{Some, None}
+use Rattle.std.specs.declared.option.Option.{Option}
+use Rattle.std.specs.Prelude.{Ok, Err}
+use Rattle.std.specs.declared.result.Result.{Result}
 use Prim.Native.Nat.{ℕ, ◌+◌, ◌≤◌}
 use mathlib.Core.List.{List, [], ◌∷◌, ◌++◌}
 use mathlib.Core.Path.{◌≡◌, refl, sym, ap, subst, ◌∙◌}
@@ -20,8 +24,6 @@ use Rattle.feed_lent.specs.Lent.{feed_of, said_with}
 use Rattle.feed.specs.Promised.{Promised}
 use Rattle.feed_lent.specs.LentRuns.{LentChain, lent_opening, lent_more}
 use Rattle.feed_lent.specs.Steps.{end_of}
-use Rattle.feed.specs.declared.state.Answer.{Answer}
-use Rattle.feed.specs.declared.state.Answer.TheVariants as A
 use Rattle.feed.proofs.FrontLaws.{header_is}
 use Rattle.feed_lent.proofs.OnceLaws.{end_once}
 use Rattle.feed.proofs.Promise.{stands, missing_waits, missing_some, once_over, none_after}
@@ -32,44 +34,44 @@ use Rattle.promises.specs.Feeds.{Calls, opening, feeding, reads_to, first_word, 
 
 -- what is said of a message that was read at once
 
-stop_number : (r : Refusal) (b : Bool) → eqb r.number 1 ≡ b → said_number (cond b A.Waiting (A.Refused r)) ≡ r.number
+stop_number : (r : Refusal) (b : Bool) → eqb r.number 1 ≡ b → said_number (cond b (Ok None) (Err r)) ≡ r.number
 stop_number r true e = sym (eqb-true r.number 1 e)
 stop_number r false e = refl
 
-end_number : (m : Message) → said_number (end_of m) ≡ read_number m
-end_number (M.Index id x) = refl
-end_number (M.Request id x) = refl
-end_number (M.Response id x) = refl
-end_number (M.Ping id end) = refl
-end_number (M.Pong id end) = refl
-end_number (M.IndexUpdate id x) = refl
-end_number (M.Options id x) = refl
-end_number (M.Refused r) = stop_number r (eqb r.number 1) refl
+end_number : (m : Result Message Refusal) → said_number (end_of m) ≡ read_number m
+end_number (Ok (M.Index id x)) = refl
+end_number (Ok (M.Request id x)) = refl
+end_number (Ok (M.Response id x)) = refl
+end_number (Ok (M.Ping id end)) = refl
+end_number (Ok (M.Pong id end)) = refl
+end_number (Ok (M.IndexUpdate id x)) = refl
+end_number (Ok (M.Options id x)) = refl
+end_number (Err r) = stop_number r (eqb r.number 1) refl
 
-stop_words : (missing taken : ℕ) (r : Refusal) (b : Bool) → (cond b A.Waiting (A.Refused r) ≡ A.Waiting → ⊥)
-    → said_words missing taken (cond b A.Waiting (A.Refused r)) ≡ r.place ∷ taken ∷ []
+stop_words : (missing taken : ℕ) (r : Refusal) (b : Bool) → (◌≡◌ {A = Result (Option ℕ) Refusal} (cond b (Ok None) (Err r)) (Ok None) → ⊥)
+    → said_words missing taken (cond b (Ok None) (Err r)) ≡ r.place ∷ taken ∷ []
 stop_words missing taken r true h = absurd (h refl)
 stop_words missing taken r false h = refl
 
-end_words : (missing taken : ℕ) (m : Message) → (end_of m ≡ A.Waiting → ⊥) → said_words missing taken (end_of m) ≡ get_or (read_words m) 0 0 ∷ taken ∷ []
-end_words missing taken (M.Index id x) h = refl
-end_words missing taken (M.Request id x) h = refl
-end_words missing taken (M.Response id x) h = refl
-end_words missing taken (M.Ping id end) h = refl
-end_words missing taken (M.Pong id end) h = refl
-end_words missing taken (M.IndexUpdate id x) h = refl
-end_words missing taken (M.Options id x) h = refl
-end_words missing taken (M.Refused r) h = stop_words missing taken r (eqb r.number 1) h
+end_words : (missing taken : ℕ) (m : Result Message Refusal) → (end_of m ≡ Ok None → ⊥) → said_words missing taken (end_of m) ≡ get_or (read_words m) 0 0 ∷ taken ∷ []
+end_words missing taken (Ok (M.Index id x)) h = refl
+end_words missing taken (Ok (M.Request id x)) h = refl
+end_words missing taken (Ok (M.Response id x)) h = refl
+end_words missing taken (Ok (M.Ping id end)) h = refl
+end_words missing taken (Ok (M.Pong id end)) h = refl
+end_words missing taken (Ok (M.IndexUpdate id x)) h = refl
+end_words missing taken (Ok (M.Options id x)) h = refl
+end_words missing taken (Err r) h = stop_words missing taken r (eqb r.number 1) h
 
-end_waits : (m : Message) → read_number m ≡ 1 → end_of m ≡ A.Waiting
-end_waits (M.Index id x) h = absurd (omega (arith, h))
-end_waits (M.Request id x) h = absurd (omega (arith, h))
-end_waits (M.Response id x) h = absurd (omega (arith, h))
-end_waits (M.Ping id end) h = absurd (omega (arith, h))
-end_waits (M.Pong id end) h = absurd (omega (arith, h))
-end_waits (M.IndexUpdate id x) h = absurd (omega (arith, h))
-end_waits (M.Options id x) h = absurd (omega (arith, h))
-end_waits (M.Refused r) h = ap (λ (b : Bool). cond b A.Waiting (A.Refused r)) (eq-eqb r.number 1 h)
+end_waits : (m : Result Message Refusal) → read_number m ≡ 1 → end_of m ≡ Ok None
+end_waits (Ok (M.Index id x)) h = absurd (omega (arith, h))
+end_waits (Ok (M.Request id x)) h = absurd (omega (arith, h))
+end_waits (Ok (M.Response id x)) h = absurd (omega (arith, h))
+end_waits (Ok (M.Ping id end)) h = absurd (omega (arith, h))
+end_waits (Ok (M.Pong id end)) h = absurd (omega (arith, h))
+end_waits (Ok (M.IndexUpdate id x)) h = absurd (omega (arith, h))
+end_waits (Ok (M.Options id x)) h = absurd (omega (arith, h))
+end_waits (Err r) h = ap (λ (b : Bool). cond b (Ok None) (Err r)) (eq-eqb r.number 1 h)
 
 number_read : (e : Edition) (s : List ℕ) → said_number (at_once e s) ≡ reads_to e s
 number_read e s = ap said_number (sym (end_once e s)) ∙ end_number (message_in e s)
@@ -80,23 +82,23 @@ words_read missing taken e s h =
     ∙ end_words missing taken (message_in e s) (λ w. h (sym (end_number (message_in e s)) ∙ ap said_number w))
 
 -- how many bytes were taken is the second word
-second_word : (missing taken : ℕ) (a : Answer) → get_or (said_words missing taken a) 1 0 ≡ taken
-second_word missing taken A.Waiting = refl
-second_word missing taken (A.Ended end) = refl
-second_word missing taken (A.Refused r) = refl
+second_word : (missing taken : ℕ) (a : Result (Option ℕ) Refusal) → get_or (said_words missing taken a) 1 0 ≡ taken
+second_word missing taken (Ok None) = refl
+second_word missing taken (Ok (Some end)) = refl
+second_word missing taken (Err r) = refl
 
 -- a run that leaves the message unfinished is taken whole
-taken_whole : (e : Edition) (before run : List ℕ) → at_once e (before ++ run) ≡ A.Waiting
+taken_whole : (e : Edition) (before run : List ℕ) → at_once e (before ++ run) ≡ Ok None
     → taken_of (at_once e before) (at_once e (before ++ run)) (length before) (length run) ≡ length run
 taken_whole e before run w = go (at_once e before) refl
   where
-    waited : (at_once e before ≡ A.Waiting → ⊥) → ⊥
+    waited : (at_once e before ≡ Ok None → ⊥) → ⊥
     waited h = h (sym (once_over e before run h) ∙ w)
 
-    go : (a : Answer) → at_once e before ≡ a → taken_of a (at_once e (before ++ run)) (length before) (length run) ≡ length run
-    go A.Waiting q = ap (λ (x : Answer). taken_of A.Waiting x (length before) (length run)) w
-    go (A.Ended n) q = absurd (waited (λ y. let z : ◌≡◌ {A = ℕ} 0 1 = cc (sym q ∙ y) in omega arith))
-    go (A.Refused r) q = absurd (waited (λ y. let z : ◌≡◌ {A = ℕ} 0 1 = cc (sym q ∙ y) in omega arith))
+    go : (a : Result (Option ℕ) Refusal) → at_once e before ≡ a → taken_of a (at_once e (before ++ run)) (length before) (length run) ≡ length run
+    go (Ok None) q = ap (λ (x : Result (Option ℕ) Refusal). taken_of (Ok None) x (length before) (length run)) w
+    go (Ok (Some n)) q = absurd (waited (λ y. let z : ◌≡◌ {A = ℕ} 0 1 = cc (sym q ∙ y) in omega arith))
+    go (Err r) q = absurd (waited (λ y. let z : ◌≡◌ {A = ℕ} 0 1 = cc (sym q ∙ y) in omega arith))
 
 -- the calls, by the words that they were given and left
 lent : {e : Edition} {bytes words : List ℕ} → Calls e bytes words → LentChain e bytes words
@@ -119,7 +121,7 @@ module _ {e : Edition} {before run words answer after : List ℕ} {number : ℕ}
   answered : answer ≡ said_words missing taken (at_once e (before ++ run))
   answered = f.words_are ∙ ap (λ (t : ℕ). said_words missing t f.said.answer) promised.taken ∙ ap (said_words missing taken) promised.answer
 
-  module _ (w : at_once e (before ++ run) ≡ A.Waiting) where
+  module _ (w : at_once e (before ++ run) ≡ Ok None) where
     some_missing : Missing e (before ++ run) missing
     some_missing =
         let k = chained (lent (feeding c f)) in
@@ -132,7 +134,7 @@ module _ {e : Edition} {before run words answer after : List ℕ} {number : ℕ}
     taken_all = answered ∙ ap (λ (t : ℕ). said_words missing t (at_once e (before ++ run))) (taken_whole e before run w) ∙ ap (said_words missing (length run)) w
 
   module _ (h : reads_to e before ≡ 1 → ⊥) where
-    told_before : at_once e before ≡ A.Waiting → ⊥
+    told_before : at_once e before ≡ Ok None → ⊥
     told_before w = h (sym (number_read e before) ∙ ap said_number w)
 
     same : at_once e (before ++ run) ≡ at_once e before
@@ -153,7 +155,7 @@ module _ {e : Edition} {before run words answer after : List ℕ} {number : ℕ}
   fed_as_read = record {
     numbered = numbered;
     waiting = λ h.
-        let w : at_once e (before ++ run) ≡ A.Waiting = sym (end_once e (before ++ run)) ∙ end_waits (message_in e (before ++ run)) (sym numbered ∙ h) in
+        let w : at_once e (before ++ run) ≡ Ok None = sym (end_once e (before ++ run)) ∙ end_waits (message_in e (before ++ run)) (sym numbered ∙ h) in
         (missing, taken_all w, some_missing w);
     told = λ h. answered ∙ words_read missing taken e (before ++ run) (λ r. h (numbered ∙ r));
     within = subst (λ (t : ℕ). t ≤ length run) (sym taken_is) promised.within;

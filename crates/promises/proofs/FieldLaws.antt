@@ -1,4 +1,6 @@
 -- The fields of a message as a caller finds them, and the message that was read.
+use Rattle.std.specs.declared.result.Result.{Result}
+use Rattle.xdr.specs.declared.answer.Refusal.{Refusal}
 use Prim.Native.Nat.{ℕ, ◌≤◌, ◌<◌}
 use mathlib.Core.List.{List}
 use mathlib.Core.Path.{◌≡◌, refl, sym, ap, ◌∙◌}
@@ -70,7 +72,7 @@ module _ (ed : Edition) where
   written_fields is_options b id = refl
 
   -- what is found where the spans are those of fields
-  pub found_fields : (s : List ℕ) (k : Kind) (b : Body ed k) (id n : ℕ) (a : Message) → SaysFields ed s id k b n a → found_by ed s a ≡ finds id (fields_of k b) n
+  pub found_fields : (s : List ℕ) (k : Kind) (b : Body ed k) (id n : ℕ) (a : Result Message Refusal) → SaysFields ed s id k b n a → found_by ed s a ≡ finds id (fields_of k b) n
   found_fields s is_index b id n a (x, e, f) = ap (found_by ed s) e ∙ rw (f.repository_is, f.files_are, f.end_is) refl
   found_fields s is_request b id n a (x, e, f) = ap (found_by ed s) e ∙ rw (f.repository_is, f.name_is, f.offset_is, f.size_is, f.hash_is, f.end_is) refl
   found_fields s is_response b id n a (x, e, f) = ap (found_by ed s) e ∙ rw (f.data_is, f.end_is) refl

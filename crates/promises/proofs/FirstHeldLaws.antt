@@ -1,4 +1,6 @@
 -- The first local block of a Length and a hash: the search finds it, or there is none.
+use Rattle.std.specs.Prelude.{Some, None}
+use Rattle.std.specs.declared.option.Option.{Option}
 use Prim.Native.Nat.{ℕ, suc, ◌+◌}
 use mathlib.Core.List.Memᴰ
 use mathlib.Core.List.{List, [], ◌∷◌, ◌++◌}
@@ -11,22 +13,21 @@ use lib.ListN.{length}
 use Rattle.record.specs.Block.{Block}
 use Rattle.record.specs.File.{File}
 use Rattle.want.specs.Listing.{is_same, listed, has_block, is_held}
-use Rattle.want.specs.Found.{found_among, found_from}
+use Rattle.want.specs.Found.{block_at, found_among, found_from}
 use Rattle.want.specs.declared.search.Found.{Found}
-use Rattle.want.specs.declared.search.Found.TheVariants as F
 use Rattle.promises.proofs.HeldLaws.{neither, alike, alike_parts, has_none, none_has, words_unheld}
 use Rattle.promises.specs.Why.{NoneSame, FirstHeld}
 
 module _ (b : Block) where
   -- the search passes what isn't the one
 
-  none_among : (n j : ℕ) (l : List Block) (other : Found) → has_block l b ≡ false → found_among n j l b other ≡ other
+  none_among : (n j : ℕ) (l : List Block) (other : Option Found) → has_block l b ≡ false → found_among n j l b other ≡ other
   none_among n j [] other e = refl
   none_among n j (c ∷ l) other e =
       let w = neither (is_same c b) (has_block l b) e in
-      ap (λ (x : Bool). cond x (F.At n j) (found_among n (j + 1) l b other)) w.0 ∙ none_among n (j + 1) l other w.1
+      ap (λ (x : Bool). cond x (Some (block_at n j)) (found_among n (j + 1) l b other)) w.0 ∙ none_among n (j + 1) l other w.1
 
-  pub none_found : (n : ℕ) (fs : List File) → is_held fs b ≡ false → found_from n fs b ≡ F.Nothing
+  pub none_found : (n : ℕ) (fs : List File) → is_held fs b ≡ false → found_from n fs b ≡ None
   none_found n [] e = refl
   none_found n (f ∷ fs) e =
       let w = neither (has_block (listed f) b) (is_held fs b) e in
@@ -34,38 +35,38 @@ module _ (b : Block) where
 
   -- and stops at the first that is
 
-  among_found : (n j : ℕ) (front : List Block) (c : Block) (rest : List Block) (other : Found) → has_block front b ≡ false → is_same c b ≡ true
-      → found_among n j (front ++ (c ∷ rest)) b other ≡ F.At n (j + length front)
+  among_found : (n j : ℕ) (front : List Block) (c : Block) (rest : List Block) (other : Option Found) → has_block front b ≡ false → is_same c b ≡ true
+      → found_among n j (front ++ (c ∷ rest)) b other ≡ Some (block_at n (j + length front))
   among_found n j [] c rest other e s =
       let same : j ≡ j + 0 = omega arith in
-      ap (λ (x : Bool). cond x (F.At n j) (found_among n (j + 1) rest b other)) s ∙ ap (F.At n) same
+      ap (λ (x : Bool). cond x (Some (block_at n j)) (found_among n (j + 1) rest b other)) s ∙ ap (λ (k : ℕ). Some (block_at n k)) same
   among_found n j (d ∷ front) c rest other e s =
       let w = neither (is_same d b) (has_block front b) e in
       let sum : j + 1 + length front ≡ j + suc (length front) = omega arith in
-      ap (λ (x : Bool). cond x (F.At n j) (found_among n (j + 1) (front ++ (c ∷ rest)) b other)) w.0
+      ap (λ (x : Bool). cond x (Some (block_at n j)) (found_among n (j + 1) (front ++ (c ∷ rest)) b other)) w.0
       ∙ among_found n (j + 1) front c rest other w.1 s
-      ∙ ap (F.At n) sum
+      ∙ ap (λ (k : ℕ). Some (block_at n k)) sum
 
   from_found : (n : ℕ) (before : List File) (f : File) (after : List File) {j : ℕ} → is_held before b ≡ false
-      → ((m : ℕ) (other : Found) → found_among m 0 (listed f) b other ≡ F.At m j) → found_from n (before ++ (f ∷ after)) b ≡ F.At (n + length before) j
+      → ((m : ℕ) (other : Option Found) → found_among m 0 (listed f) b other ≡ Some (block_at m j)) → found_from n (before ++ (f ∷ after)) b ≡ Some (block_at (n + length before) j)
   from_found n [] f after {j} e s =
       let same : n ≡ n + 0 = omega arith in
-      s n (found_from (n + 1) after b) ∙ ap (λ (k : ℕ). F.At k j) same
+      s n (found_from (n + 1) after b) ∙ ap (λ (k : ℕ). Some (block_at k j)) same
   from_found n (g ∷ before) f after {j} e s =
       let w = neither (has_block (listed g) b) (is_held before b) e in
       let sum : n + 1 + length before ≡ n + suc (length before) = omega arith in
       none_among n 0 (listed g) (found_from (n + 1) (before ++ (f ∷ after)) b) w.0
       ∙ from_found (n + 1) before f after w.1 s
-      ∙ ap (λ (k : ℕ). F.At k j) sum
+      ∙ ap (λ (k : ℕ). Some (block_at k j)) sum
 
-  pub first_found : (local : List File) (r j : ℕ) → FirstHeld local b r j → found_from 0 local b ≡ F.At r j
+  pub first_found : (local : List File) (r j : ℕ) → FirstHeld local b r j → found_from 0 local b ≡ Some (block_at r j)
   first_found local r j h =
       ap (λ (l : List File). found_from 0 l b) h.among
       ∙ from_found 0 h.before h.holder h.after (words_unheld h.before b h.none_before) (λ m other.
       ap (λ (l : List Block). found_among m 0 l b other) h.within
       ∙ among_found m 0 h.front h.same h.rest other (none_has h.front b h.none_in_front) (alike h.same b h.size h.hash)
-      ∙ ap (F.At m) (zero-add (length h.front) ∙ h.block_number))
-      ∙ ap (λ (k : ℕ). F.At k j) (zero-add (length h.before) ∙ h.record_number)
+      ∙ ap (λ (k : ℕ). Some (block_at m k)) (zero-add (length h.front) ∙ h.block_number))
+      ∙ ap (λ (k : ℕ). Some (block_at k j)) (zero-add (length h.before) ∙ h.record_number)
 
   -- there is one, or none
 

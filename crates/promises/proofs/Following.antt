@@ -1,4 +1,8 @@
 -- Bytes after the end of a message change no answer of any call that is given the message.
+use Rattle.std.specs.Prelude.{Err}
+use Rattle.std.specs.Prelude.{Ok}
+use Rattle.std.specs.declared.result.Result.{Result}
+use Rattle.xdr.specs.declared.answer.Refusal.{Refusal}
 use Prim.Native.Nat.{ℕ}
 use mathlib.Core.List.{List, [], ◌∷◌, ◌++◌}
 use lib.ListN.{take}
@@ -18,7 +22,6 @@ use Rattle.message.specs.Answers.{request_span, response_span, span_bytes, body_
 use Rattle.message.specs.declared.answer.Span.{Span}
 use Rattle.message.specs.declared.answer.ResponseSpan.{ResponseSpan}
 use Rattle.message.specs.declared.answer.Message.{Message}
-use Rattle.message.specs.declared.kind.ResponseIn.TheVariants as P
 use Rattle.message_write.specs.Writing.{response_bytes, writing}
 use Rattle.table.specs.Table.{is_good}
 use Rattle.accept.specs.Accepting.{of_reading, accept_outcome}
@@ -68,20 +71,20 @@ module _ (hs m k : List ℕ) (r : Request) (d : Span) (same : span_bytes m d ≡
   unfolding is_content
   content_same = ap (λ (l : List ℕ). is_equal (compare_lists (digest l) (take 32 hs))) same
 
-  released_same : arrival_of hs m (released r d) ≡ arrival_of hs k (released r d)
+  released_same : arrival_of hs m (Ok (released r d)) ≡ arrival_of hs k (Ok (released r d))
   released_same = go (eqb d.length 0) (eqb d.length r.size) refl refl
     where
-      go : (a b : Bool) → eqb d.length 0 ≡ a → eqb d.length r.size ≡ b → arrival_of hs m (released r d) ≡ arrival_of hs k (released r d)
+      go : (a b : Bool) → eqb d.length 0 ≡ a → eqb d.length r.size ≡ b → arrival_of hs m (Ok (released r d)) ≡ arrival_of hs k (Ok (released r d))
       go true b e f = rw e refl
       go false true e f = rw (e, f, content_same) refl
       go false false e f = rw (e, f) refl
 
 arrives_same : (l : Link) (hs m k : List ℕ) (id : ℕ) (x : ResponseSpan) → span_bytes m x.«data» ≡ span_bytes k x.«data»
-    → arrival_of hs m (answered_by l (P.Taken id x)).release ≡ arrival_of hs k (answered_by l (P.Taken id x)).release
+    → arrival_of hs m (answered_by l (Ok (record { id = id; response = x }))).release ≡ arrival_of hs k (answered_by l (Ok (record { id = id; response = x }))).release
 arrives_same l hs m k id x e = by_oldest (outstanding l)
   where
-    by_id : (r : Request) (b : Bool) → arrival_of hs m (cond {A = LinkAnswered} b (record { link = without_oldest l; release = released r x.«data» }) (kept_with l (at_start 20))).release
-        ≡ arrival_of hs k (cond {A = LinkAnswered} b (record { link = without_oldest l; release = released r x.«data» }) (kept_with l (at_start 20))).release
+    by_id : (r : Request) (b : Bool) → arrival_of hs m (cond {A = LinkAnswered} b (record { link = without_oldest l; release = Ok (released r x.«data») }) (kept_with l (at_start 20))).release
+        ≡ arrival_of hs k (cond {A = LinkAnswered} b (record { link = without_oldest l; release = Ok (released r x.«data») }) (kept_with l (at_start 20))).release
     by_id r true = released_same hs m k r x.«data» e
     by_id r false = refl
 
@@ -122,7 +125,7 @@ module _ (s t : List ℕ) (same : read (message E.New) (s ++ t) ≡ read (messag
   -- an answer goes by the Response's data, and any other message is refused by its kind
 
   module _ (q : RequestQueue) (p : ℕ) where
-    abbrev answered_with : (bytes : List ℕ) → Message → Answered
+    abbrev answered_with : (bytes : List ℕ) → Result Message Refusal → Answered
     answered_with m x = answered_for q p m (answered_by (link_of q p) (response_in x))
 
     answer_by_kind : (k : Kind) (b : Body E.New k) (id n : ℕ) → Reads (body E.New k) (s ++ t) 4 (taken b n) → Reads (body E.New k) s 4 (taken b n)
@@ -131,7 +134,7 @@ module _ (s t : List ℕ) (same : read (message E.New) (s ++ t) ≡ read (messag
     answer_by_kind is_request b id n g h = refl
     answer_by_kind is_response b id n g h =
         let same-data = (response_fields E.New g).data_is ∙ sym (response_fields E.New h).data_is in
-        ap (λ (v : Arrival). record { queue = (answered_with s (body_answer E.New is_response id (taken b n))).queue; arrival = v })
+        ap (λ (v : Result Arrival Refusal). record { queue = (answered_with s (body_answer E.New is_response id (taken b n))).queue; arrival = v })
         (arrives_same (link_of q p) (hashes_of q p) (s ++ t) s id (response_span b n) same-data)
     answer_by_kind is_ping b id n g h = refl
     answer_by_kind is_pong b id n g h = refl
@@ -144,7 +147,7 @@ module _ (s t : List ℕ) (same : read (message E.New) (s ++ t) ≡ read (messag
 
     answer_same : answer_of q p (s ++ t) ≡ answer_of q p s
     answer_same =
-        ap (λ (a : Answered). admitted q p a (λ (k : ℕ). record { queue = q; arrival = A.Refused (at_start k) }))
+        ap (λ (a : Answered). admitted q p a (λ (k : ℕ). record { queue = q; arrival = Err (at_start k) }))
         (ap (λ (r : Reading (MessageValue E.New)). answered_with (s ++ t) (message_answer E.New r)) (from_start E.New (s ++ t) ∙ same)
         ∙ answer_by_reading (read (message E.New) s) refl
         ∙ ap (λ (r : Reading (MessageValue E.New)). answered_with s (message_answer E.New r)) (sym (from_start E.New s)))

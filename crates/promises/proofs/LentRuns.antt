@@ -1,4 +1,6 @@
 -- A queue that is laid out after each call and taken up before the next goes the way of one that is handed on.
+use Rattle.std.specs.Prelude.{Ok}
+use Rattle.std.specs.declared.option.Option.{Option}
 use Prim.Native.Nat.{ℕ}
 use native.Mathlib.Omega.{arith}
 use mathlib.Core.Path.{◌≡◌, refl, sym, ap, ◌∙◌}
@@ -9,9 +11,7 @@ use lib.Dec.{eqb}
 use Rattle.link.specs.History.{Event, standing}
 use Rattle.link.specs.declared.list.Link.{Link}
 use Rattle.queue.specs.Queue.{opening, no_link}
-use Rattle.queue.specs.declared.window.Window.{Window}
 use Rattle.queue.specs.declared.queue.RequestQueue.{RequestQueue}
-use Rattle.queue.specs.declared.outcome.Verdict.TheVariants as Ruled
 use Rattle.queue_lent.specs.Words.{links_in, laid}
 use Rattle.queue_lent.proofs.LaidLaws.{AllLong, links_back}
 use Rattle.promises.specs.History.{PeerCall, queue_after, queue_event, queue_final, events_of, asked_of}
@@ -57,7 +57,7 @@ lent_events p (c ∷ cs) q w =
     ap (λ (es : List Event). cond (eqb c.peer p) (queue_event (queue_in (lent_of q)) c.peer c.call ∷ es) es) rest
     ∙ ap (λ (x : RequestQueue). cond (eqb c.peer p) (queue_event x c.peer c.call ∷ events_of p (next q c) cs) (events_of p (next q c) cs)) (lent_back q w)
 
-pub held_lent : (ws : List Window) → length ws ≡ 4 → (opening ws).verdict ≡ Ruled.Accepted → (cs : List PeerCall) → HeldLent ws cs
+pub held_lent : (ws : List (Option ℕ)) → length ws ≡ 4 → (opening ws).verdict ≡ Ok tt → (cs : List PeerCall) → HeldLent ws cs
 held_lent ws four accepted cs =
     let start : RequestQueue = (opening ws).queue in
     let begun : Well start = opened_well ws four accepted in

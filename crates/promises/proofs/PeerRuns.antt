@@ -1,4 +1,6 @@
 -- A peer's part of calls in a row is a run of its own link and hashes, in which each issue is told the total that the peer finds, and the allowance.
+use Rattle.std.specs.declared.result.Result.{Result}
+use Rattle.xdr.specs.declared.answer.Refusal.{Refusal}
 use Prim.Native.Nat.{ℕ, ◌+◌, ◌-◌, ◌≤◌}
 use native.Mathlib.Omega.{arith}
 use mathlib.Core.Path.{◌≡◌, refl, sym, ap, subst, ◌∙◌}
@@ -80,12 +82,12 @@ module _ (held others : ℕ) (q : Hashed) (sum : total (outstanding q.link) + ot
       omega (arith, t, a.2)
   issue_within r n o size h room (refuses k p) e = omega arith
 
-  answer_within : (m : ResponseIn) → total (outstanding (answered_by q.link m).link) + others ≤ allowance
+  answer_within : (m : Result ResponseIn Refusal) → total (outstanding (answered_by q.link m).link) + others ≤ allowance
   answer_within m = go (answered_by q.link m) (answer_was_lem q.link m)
     where
       go : (a : LinkAnswered) → AnswerWas q.link m a → total (outstanding a.link) + others ≤ allowance
       go a (kept r) = omega arith
-      go a (freed id x r rs k o s) =
+      go a (freed x r rs k o s) =
           let u : total (outstanding q.link) ≡ total (r ∷ rs) = ap total o in
           let t : total (outstanding a.link) ≡ total rs = ap total (outstanding_without q.link r rs g o) in
           omega (arith, u, t)

@@ -1,5 +1,7 @@
 -- After any calls from an accepted opening each peer's list is exactly the requests issued for it and since then neither answered nor dropped for it,
 -- each with the hash asked for; a peer's own calls and the totals that it finds decide what it is told; and freed room can be issued by anyone.
+use Rattle.std.specs.Prelude.{Ok, Err, None}
+use Rattle.std.specs.declared.option.Option.{Option}
 use Prim.Native.Nat.{ℕ, zero, suc, ◌+◌, ◌-◌, ◌≤◌, ◌<◌}
 use native.Mathlib.Omega.{arith}
 use mathlib.Core.Path.{◌≡◌, refl, sym, ap, subst, ◌∙◌}
@@ -29,11 +31,8 @@ use Rattle.link.proofs.Moves.{Good}
 use Rattle.link.proofs.AskedLaws.{length_asked, total_asked_lem}
 use Rattle.link.proofs.HistoryLaws.{asked_in, link_run, opened_good, windows_kept, ids_follow}
 use Rattle.queue.specs.Queue.{allowance, window_of, all_fit, unused, opening, is_peer, link_of, hashes_of, peer_of, common, is_sound, issue_outcome, id_of, answer_of, drop_of}
-use Rattle.queue.specs.declared.window.Window.{Window}
-use Rattle.queue.specs.declared.window.Window.TheVariants.{Default}
 use Rattle.queue.specs.declared.queue.RequestQueue.{RequestQueue}
 use Rattle.queue.specs.declared.outcome.Emptied.{Emptied}
-use Rattle.queue.specs.declared.outcome.Verdict.TheVariants as Ruled
 use Rattle.queue.specs.declared.outcome.Answered.{Answered}
 use Rattle.queue.proofs.QueueLaws.{at_23, Admitted, orderly_link}
 use Rattle.queue.proofs.CallLaws.{same_issue, issue_23, answer_23, drop_23}
@@ -45,12 +44,12 @@ use Rattle.promises.proofs.PeerRuns.{link_calls, Well, well_sound, own, others_s
 -- an accepted opening
 
 -- each window fits, and so does the default
-fits_at : (ws : List Window) (i : ℕ) → all_fit ws ≡ true → window_fits (window_of (get_or ws i Default)) ≡ true
+fits_at : (ws : List (Option ℕ)) (i : ℕ) → all_fit ws ≡ true → window_fits (window_of (get_or ws i None)) ≡ true
 fits_at [] i f = refl
 fits_at (w ∷ ws) zero f = (both (window_fits (window_of w)) (all_fit ws) f).0
 fits_at (w ∷ ws) (suc i) f = fits_at ws i (both (window_fits (window_of w)) (all_fit ws) f).1
 
-module _ (ws : List Window) (four : length ws ≡ 4) (accepted : (opening ws).verdict ≡ Ruled.Accepted) where
+module _ (ws : List (Option ℕ)) (four : length ws ≡ 4) (accepted : (opening ws).verdict ≡ Ok tt) where
   abbrev start : RequestQueue
   start = (opening ws).queue
 
@@ -120,12 +119,12 @@ module _ (ws : List Window) (four : length ws ≡ 4) (accepted : (opening ws).ve
 -- a number that is no peer's is told 23 by any queue, which stays as it is
 pub no_peer_told : (q : RequestQueue) (p : ℕ) → is_peer p ≡ false
     → ((b : List ℕ) (size : ℕ) → issue_outcome q p b size ≡ refuses 23 0)
-    × ((m : List ℕ) → answer_of q p m ≡ record { queue = q; arrival = A.Refused (at_start 23) }) × (drop_of q p ≡ record { queue = q; verdict = Ruled.Refused (at_start 23) })
+    × ((m : List ℕ) → answer_of q p m ≡ record { queue = q; arrival = Err (at_start 23) }) × (drop_of q p ≡ record { queue = q; verdict = Err (at_start 23) })
 no_peer_told q p h = (issue_23 q p h, answer_23 q p h, drop_23 q p h)
 
 abbrev told_no : Call → Event
 told_no (issue r n o size i room) = issue_was 0 size i (refuses 23 0)
-told_no (answer s) = answer_was (response_in (message_in E.New s)) (A.Refused (at_start 23))
+told_no (answer s) = answer_was (response_in (message_in E.New s)) (Err (at_start 23))
 told_no drop = drop_was false
 
 module _ (p : ℕ) (h : is_peer p ≡ false) where
@@ -160,7 +159,7 @@ same_told p e q s w v l cs ds a =
     ∙ sym (peer_run p e ds s v).tells
 
 -- the number may be any, a peer's or not
-pub two_runs : (v w : List Window) → length v ≡ 4 → length w ≡ 4 → (opening v).verdict ≡ Ruled.Accepted → (opening w).verdict ≡ Ruled.Accepted
+pub two_runs : (v w : List (Option ℕ)) → length v ≡ 4 → length w ≡ 4 → (opening v).verdict ≡ Ok tt → (opening w).verdict ≡ Ok tt
     → (cs ds : List PeerCall) (p : ℕ) → SameRuns v w cs ds p → events_of p (opening v).queue cs ≡ events_of p (opening w).queue ds
 two_runs v w lv lw av aw cs ds p s = go (is_peer p) refl
   where
@@ -200,7 +199,7 @@ module _ (p : ℕ) (e : is_peer p ≡ true) where
   dropped (s ∷ ps) false q w h a = dropped ps (eqb s p) (queue_after q s drop) (well_after q w s drop) (frees q w s) a
 
 -- after any calls from an accepted opening, drops of any numbers in any order and as often as one likes, among which 1, 2, 3 and 4 stand
-pub whole_allowance_free : (ws : List Window) → length ws ≡ 4 → (opening ws).verdict ≡ Ruled.Accepted → (cs : List PeerCall) (ps : List ℕ)
+pub whole_allowance_free : (ws : List (Option ℕ)) → length ws ≡ 4 → (opening ws).verdict ≡ Ok tt → (cs : List PeerCall) (ps : List ℕ)
     → among 1 ps ≡ true → among 2 ps ≡ true → among 3 ps ≡ true → among 4 ps ≡ true → common (queue_final (reached ws cs) (drops ps)).links ≡ 0
 whole_allowance_free ws four accepted cs ps a b c d =
     common_four end (well_final (drops ps) (reached ws cs) begun).sized ∙ rw (none 1 refl a, none 2 refl b, none 3 refl c, none 4 refl d) refl

@@ -1,4 +1,7 @@
 -- A Request is served exactly if it is for us; otherwise it gets the reply with its ID and no data, or 14: no other number of the writer comes out.
+use Rattle.std.specs.Prelude.{Ok, Err}
+use Rattle.std.specs.declared.result.Result.{Result}
+use Rattle.xdr.specs.declared.answer.Refusal.{Refusal}
 use Prim.Native.Nat.{ℕ, ◌/◌, ◌%◌, ◌≤◌}
 use mathlib.Core.List.{List, []}
 use mathlib.Core.Path.{◌≡◌, refl, sym, ap, subst, ◌∙◌}
@@ -15,7 +18,6 @@ use Rattle.message.specs.Answers.{body_answer, message_answer, message_in}
 use Rattle.message.specs.declared.answer.RequestSpan.{RequestSpan}
 use Rattle.message.specs.declared.answer.Message.{Message}
 use Rattle.message.specs.declared.answer.Message.TheVariants as M
-use Rattle.message.specs.declared.kind.RequestIn.TheVariants as Q
 use Rattle.message.specs.declared.edition.Edition.TheVariants as E
 use Rattle.message_write.specs.Writing.{message_bytes, response_bytes, as_read, writing}
 use Rattle.message_write.specs.Steps.{writing_body}
@@ -33,15 +35,15 @@ use Rattle.promises.specs.Serving.{reply_bytes, IsForUs, ServedExactly}
 
 -- the ID of a Request that was read
 
-abbrev id_in : Message → ℕ
-id_in (M.Index id x) = id
-id_in (M.Request id x) = id
-id_in (M.Response id x) = id
-id_in (M.Ping id n) = id
-id_in (M.Pong id n) = id
-id_in (M.IndexUpdate id x) = id
-id_in (M.Options id x) = id
-id_in (M.Refused r) = 0
+abbrev id_in : Result Message Refusal → ℕ
+id_in (Ok (M.Index id x)) = id
+id_in (Ok (M.Request id x)) = id
+id_in (Ok (M.Response id x)) = id
+id_in (Ok (M.Ping id n)) = id
+id_in (Ok (M.Pong id n)) = id
+id_in (Ok (M.IndexUpdate id x)) = id
+id_in (Ok (M.Options id x)) = id
+id_in (Err r) = 0
 
 id_of_lem : (k : Kind) (b : Body E.New k) (id next : ℕ) → id_in (body_answer E.New k id (taken b next)) ≡ id
 id_of_lem is_index b id next = refl
@@ -73,11 +75,11 @@ module _ (id : ℕ) (h : id ≤ 4095) where
   reply_writing = by_body E.New id 3 (response_bytes []) (omega arith) (omega arith) ∙ simp (le-leb id 4095 h) (ap (λ (l : List ℕ). as_read {A = List ℕ} l (taken [] 8)) reply_bytes_lem)
 
 -- a Request that is not ours: what there is to fill in is the reply's eight bytes, under its ID
-pub unserved_replied : (t repository s : List ℕ) (id : ℕ) (x : RequestSpan) → is_good t ≡ true → message_in E.New s ≡ M.Request id x → is_ours t repository s x ≡ false
+pub unserved_replied : (t repository s : List ℕ) (id : ℕ) (x : RequestSpan) → is_good t ≡ true → message_in E.New s ≡ Ok (M.Request id x) → is_ours t repository s x ≡ false
     → ruling_of t repository s ≡ fills (gives (reply_bytes id))
 unserved_replied t repository s id x g e o =
-    let small : id ≤ 4095 = subst (λ (a : Message). id_in a ≤ 4095) e (small_id (read_at (message E.New) s 0)) in
-    table_good t repository s [] g (sym e) refl refl ∙ ours_not t repository s [] id x refl o ∙ ap fills (reply_writing id small)
+    let small : id ≤ 4095 = subst (λ (a : Result Message Refusal). id_in a ≤ 4095) e (small_id (read_at (message E.New) s 0)) in
+    table_good t repository s [] g (sym e) refl refl ∙ ours_not t repository s [] (record { id = id; request = x }) refl o ∙ ap fills (reply_writing id small)
 
 -- whether it is ours goes by its fields
 pub ours_by_fields : (t repository s : List ℕ) (x : RequestSpan) (b : Body E.New is_request) (end : ℕ) → RequestFields E.New s x b end
@@ -85,7 +87,7 @@ pub ours_by_fields : (t repository s : List ℕ) (x : RequestSpan) (b : Body E.N
 ours_by_fields t repository s x b end f = rw (f.repository_is, f.name_is, f.offset_is, f.size_is, f.hash_is) refl
 
 -- the ruling by the fields
-module _ (t repository s : List ℕ) (g : is_good t ≡ true) (id : ℕ) (x : RequestSpan) (e : message_in E.New s ≡ M.Request id x) (b : Body E.New is_request) (end : ℕ) (f : RequestFields E.New s x b end) where
+module _ (t repository s : List ℕ) (g : is_good t ≡ true) (id : ℕ) (x : RequestSpan) (e : message_in E.New s ≡ Ok (M.Request id x)) (b : Body E.New is_request) (end : ℕ) (f : RequestFields E.New s x b end) where
   abbrev named : Bool
   named = is_equal (compare_lists b.repository repository)
 
@@ -101,12 +103,12 @@ module _ (t repository s : List ℕ) (g : is_good t ≡ true) (id : ℕ) (x : Re
   us_for : IsForUs t repository b → (named && lists) ≡ true
   us_for h = simp (ap (λ (r : List ℕ). is_equal (compare_lists r repository)) h.0 ∙ ap is_equal (same_equal repository), h.1)
 
-  taken_so : ruling_of t repository s ≡ ruling_on t repository s (Q.Taken id x)
+  taken_so : ruling_of t repository s ≡ ruling_on t repository s (Ok (record { id = id; request = x }))
   taken_so = table_good t repository s [] g (sym e) refl refl
 
   by_test : (c : Bool) → (named && lists) ≡ c → ServedExactly t repository s id b
   by_test true h =
-      let is : ruling_of t repository s ≡ serves x.name x.offset x.size = taken_so ∙ ours_served t repository s [] id x refl (ours ∙ h) in
+      let is : ruling_of t repository s ≡ serves x.name x.offset x.size = taken_so ∙ ours_served t repository s [] (record { id = id; request = x }) refl (ours ∙ h) in
       record {
         if = λ u. (x.name, is ∙ ap (λ (o : ℕ). serves x.name o x.size) f.offset_is ∙ ap (serves x.name b.offset) f.size_is, f.name_is);
         only_if = λ n o l q. for_us h;

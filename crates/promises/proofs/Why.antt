@@ -1,4 +1,8 @@
 -- One reason is true, and `why` answers with it.
+use Rattle.std.specs.Prelude.{Ok, Err}
+use Rattle.std.specs.declared.result.Result.{Result}
+use Rattle.std.specs.declared.option.Option.{Option}
+use Rattle.xdr.specs.declared.answer.Refusal.{Refusal}
 use Prim.Native.Nat.{ℕ, zero, suc, ◌+◌, ◌≤◌, ◌<◌}
 use mathlib.Core.List.Memᴰ
 use mathlib.Core.List.{List, [], ◌∷◌, ◌++◌, map, Memᴰ}
@@ -154,56 +158,56 @@ module _ (local : List ℕ) (peers : List (List ℕ)) (name : List ℕ) (n : ℕ
   abbrev reason : File → Reason
   reason = why_record (records local) (map records peers) n
 
-  answer_is : why_of local peers name n ≡ why_named reason name highs
+  answer_is : why_of local peers name n ≡ Ok (why_named reason name highs)
   unfolding why_of
   answer_is = rw g refl
 
   -- by the record of the name
-  answer_of_lem : (h : HighestOf x.highs name) → why_of local peers name n ≡ reason h.highest
+  answer_of_lem : (h : HighestOf x.highs name) → why_of local peers name n ≡ Ok (reason h.highest)
   answer_of_lem h =
       answer_is
-      ∙ ap (λ (l : List ℕ). why_named reason l highs) (sym h.named)
-      ∙ named_at reason highs (merged_rising (map records (local ∷ peers))) h.highest h.among
+      ∙ ap (λ (l : List ℕ). Ok (why_named reason l highs)) (sym h.named)
+      ∙ ap Ok (named_at reason highs (merged_rising (map records (local ∷ peers))) h.highest h.among)
 
   no_name : ((f : File) → Memᴰ f (joined (map records (local ∷ peers))) → f.name ≡ name → ⊥) → (f : File) → Memᴰ f highs → f.name ≡ name → ⊥
   no_name h f m = h f (x.highest.from f m)
 
-  alone : (r : Reason) → Because x name n r → r ≡ why_of local peers name n
-  alone R.NoSuchName h = sym (answer_is ∙ named_none reason name highs (no_name h))
-  alone R.Deleted h = sym (answer_of_lem h.0 ∙ record_deleted (records local) (map records peers) n h.0.highest h.1)
-  alone R.Invalid h = sym (answer_of_lem h.0 ∙ record_invalid (records local) (map records peers) n h.0.highest h.1 h.2)
-  alone R.NoSuchBlock h =
+  alone : (r : Result Reason Refusal) → Because x name n r → r ≡ why_of local peers name n
+  alone (Ok R.NoSuchName) h = sym (answer_is ∙ ap Ok (named_none reason name highs (no_name h)))
+  alone (Ok R.Deleted) h = sym (answer_of_lem h.0 ∙ ap Ok (record_deleted (records local) (map records peers) n h.0.highest h.1))
+  alone (Ok R.Invalid) h = sym (answer_of_lem h.0 ∙ ap Ok (record_invalid (records local) (map records peers) n h.0.highest h.1 h.2))
+  alone (Ok R.NoSuchBlock) h =
       let f = h.0.highest in
-      sym (answer_of_lem h.0 ∙ record_current (records local) (map records peers) n f h.1 h.2 ∙ numbered_none R.NoSuchBlock (by (records local) (map records peers) n f) n 0 f.blocks h.3)
-  alone (R.Held r j) h =
+      sym (answer_of_lem h.0 ∙ ap Ok (record_current (records local) (map records peers) n f h.1 h.2 ∙ numbered_none R.NoSuchBlock (by (records local) (map records peers) n f) n 0 f.blocks h.3))
+  alone (Ok (R.Held r j)) h =
       let f = h.0.highest in
       let k = h.1 in
       sym (answer_of_lem h.0
-      ∙ record_block (records local) (map records peers) n f k.front k.block k.rest k.within k.number
-      ∙ ap (λ (y : Found). held_or y (peer_from 1 (map records peers) f.name (total_size k.front) k.block)) (first_found k.block (records local) r j h.2))
-  alone (R.Wanted peer) h =
+      ∙ ap Ok (record_block (records local) (map records peers) n f k.front k.block k.rest k.within k.number
+      ∙ ap (λ (y : Option Found). held_or y (peer_from 1 (map records peers) f.name (total_size k.front) k.block)) (first_found k.block (records local) r j h.2)))
+  alone (Ok (R.Wanted peer)) h =
       let m = h.missing in
       let a = h.asks in
       let of : HighestOf x.highs name = record { highest = m.highest; among = subst (Memᴰ m.highest) (sym m.among) (Memᴰ.append_right m.before (Memᴰ.head refl)); named = h.named } in
       sym (answer_of_lem of
-      ∙ record_block (records local) (map records peers) n m.highest m.front m.block m.rest m.within h.number
-      ∙ ap (λ (y : Found). held_or y (peer_from 1 (map records peers) m.highest.name (total_size m.front) m.block)) (none_found m.block 0 (records local) (words_unheld (records local) m.block m.unheld))
-      ∙ ap R.Wanted (asked_peer (map records peers) m h.entry.peer a.from_one a.to_last a.lists a.lowest ∙ h.peer_is))
-  alone (R.Refused r) h = absurd h
+      ∙ ap Ok (record_block (records local) (map records peers) n m.highest m.front m.block m.rest m.within h.number
+      ∙ ap (λ (y : Option Found). held_or y (peer_from 1 (map records peers) m.highest.name (total_size m.front) m.block)) (none_found m.block 0 (records local) (words_unheld (records local) m.block m.unheld))
+      ∙ ap R.Wanted (asked_peer (map records peers) m h.entry.peer a.from_one a.to_last a.lists a.lowest ∙ h.peer_is)))
+  alone (Err r) h = absurd h
 
-  record Some : Type 0 where
-    reason : Reason
+  record Reasonable : Type 0 where
+    reason : Result Reason Refusal
     because : Because x name n reason
 
   -- a block that is held, or not
-  by_block : (h : HighestOf x.highs name) → BlockOf h n → Some
+  by_block : (h : HighestOf x.highs name) → BlockOf h n → Reasonable
   by_block h k = go (held_or_not k.block (records local))
     where
-      go : (is_held (records local) k.block ≡ false) ⊎ Somewhere k.block (records local) → Some
-      go (inr s) = record { reason = R.Held s.r s.j; because = (h, k, s.first) }
+      go : (is_held (records local) k.block ≡ false) ⊎ Somewhere k.block (records local) → Reasonable
+      go (inr s) = record { reason = Ok (R.Held s.r s.j); because = (h, k, s.first) }
       go (inl e) = wanted (among x.highs h.highest h.among)
         where
-          wanted : Among x.highs h.highest → Some
+          wanted : Among x.highs h.highest → Reasonable
           wanted s =
               let m : Missing x.highs (records local) = record {
                 before = s.before;
@@ -217,31 +221,31 @@ module _ (local : List ℕ) (peers : List (List ℕ)) (name : List ℕ) (n : ℕ
                 unheld = unheld_words (records local) k.block e;
               } in
               let a = x.exact.all m in
-              record { reason = R.Wanted a.0.peer; because = record { missing = m; named = h.named; number = k.number; entry = a.0; listed_there = a.1; asks = a.2; peer_is = refl } }
+              record { reason = Ok (R.Wanted a.0.peer); because = record { missing = m; named = h.named; number = k.number; entry = a.0; listed_there = a.1; asks = a.2; peer_is = refl } }
 
-  by_highest : HighestOf x.highs name → Some
+  by_highest : HighestOf x.highs name → Reasonable
   by_highest h = go (is_deleted h.highest.flags) (is_invalid h.highest.flags) refl refl
     where
       f : File
       f = h.highest
 
-      go : (d i : Bool) → is_deleted h.highest.flags ≡ d → is_invalid h.highest.flags ≡ i → Some
-      go true i p q = record { reason = R.Deleted; because = (h, p) }
-      go false true p q = record { reason = R.Invalid; because = (h, p, q) }
+      go : (d i : Bool) → is_deleted h.highest.flags ≡ d → is_invalid h.highest.flags ≡ i → Reasonable
+      go true i p q = record { reason = Ok R.Deleted; because = (h, p) }
+      go false true p q = record { reason = Ok R.Invalid; because = (h, p, q) }
       go false false p q = number (dec_lt n (length h.highest.blocks))
         where
-          number : Dec (n < length h.highest.blocks) → Some
-          number (no l) = record { reason = R.NoSuchBlock; because = (h, p, q, omega (arith, l)) }
+          number : Dec (n < length h.highest.blocks) → Reasonable
+          number (no l) = record { reason = Ok R.NoSuchBlock; because = (h, p, q, omega (arith, l)) }
           number (yes l) =
               let s = split_at h.highest.blocks n l in
               by_block h (record { front = s.front; block = s.block; rest = s.rest; within = listed_all h.highest p q ∙ s.within; number = s.number })
 
-  one : Some
+  one : Reasonable
   one = go (named_or_not name x.highs)
     where
-      go : ((f : File) → Memᴰ f x.highs → f.name ≡ name → ⊥) ⊎ HighestOf x.highs name → Some
+      go : ((f : File) → Memᴰ f x.highs → f.name ≡ name → ⊥) ⊎ HighestOf x.highs name → Reasonable
       go (inr h) = by_highest h
-      go (inl h) = record { reason = R.NoSuchName; because = λ f m e. let c = x.highest.covers f m in h c.cover c.within (c.named ∙ e) }
+      go (inl h) = record { reason = Ok R.NoSuchName; because = λ f m e. let c = x.highest.covers f m in h c.cover c.within (c.named ∙ e) }
 
   answered : Answered x name n
   answered = record { holds = subst (Because x name n) (alone one.reason one.because) one.because; alone = alone }

@@ -6,7 +6,7 @@ use Rattle.xdr.specs.Pad.{all_zero}
 use Rattle.record.specs.File.{File}
 use Rattle.table.specs.Newest.{compare_files}
 use Rattle.order.specs.Order.{compare_numbers, compare_lists}
-use Rattle.order.specs.declared.compare.Order.TheVariants.{Greater}
+use Rattle.std.specs.declared.cmp.Ordering.TheVariants.{Greater}
 use Rattle.promises.specs.Vectors.{Holds, vectors}
 
 zero_newer : (f g : File) → f.modified ≡ 0 → g.modified ≡ 0xFFFFFFFFFFFFFFFF → compare_files f g ≡ Greater

@@ -1,4 +1,5 @@
 -- A message that is fed run by run: each call says what reading all bytes so far at once says, however they were cut.
+use Rattle.std.specs.Prelude.{Ok, Some, None}
 use Rattle.std.specs.Prelude.{ℕ, ◌+◌, ◌≤◌, ◌<◌, List, [], ◌∷◌, ◌++◌, ◌≡◌, length, get_or}
 use Rattle.message.specs.Answers.{message_in}
 use Rattle.message.specs.declared.edition.Edition.{Edition}
@@ -7,7 +8,6 @@ use Rattle.feed.specs.Front.{header_in, header_of}
 use Rattle.feed.specs.Opened.{opened}
 use Rattle.feed.specs.Feeding.{taken_of}
 use Rattle.feed_lent.specs.Lent.{feed_of, Lent}
-use Rattle.feed.specs.declared.state.Answer.TheVariants as A
 use Rattle.bep.specs.Words.{read_number, read_words}
 use Rattle.bep.specs.Feeding.{Feeds}
 
@@ -40,7 +40,7 @@ pub record FedAsRead (e : Edition) (before run : List ℕ) (number : ℕ) (answe
   -- no more of the run is taken than there is
   pub within : get_or answer 1 0 ≤ length run
   -- and where the message ends in it, just up to the end
-  pub ends : (n : ℕ) → at_once e before ≡ A.Waiting → at_once e (before ++ run) ≡ A.Ended n → length before + get_or answer 1 0 ≡ n
+  pub ends : (n : ℕ) → at_once e before ≡ Ok None → at_once e (before ++ run) ≡ Ok (Some n) → length before + get_or answer 1 0 ≡ n
   -- once it was told, every later run gets the same, and none of its bytes are taken
   pub over : (reads_to e before ≡ 1 → ⊥) → (number ≡ reads_to e before) × (answer ≡ first_word e before ∷ 0 ∷ [])
 

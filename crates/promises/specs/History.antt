@@ -1,12 +1,16 @@
 -- Calls for peers in a row on one queue, each given the queue that the one before handed back, the part that one peer has in them, and what holds after
 -- them; events are as in link's History.
+use Rattle.std.specs.Prelude.{Err, None}
+use Rattle.std.specs.declared.result.Result.{Result}
+use Rattle.std.specs.declared.option.Option.{Option}
+use Rattle.xdr.specs.declared.answer.Refusal.{Refusal}
+use Rattle.std.specs.Prelude.{Ok}
 use Rattle.std.specs.Prelude.{ℕ, ◌+◌, ◌-◌, ◌≤◌, Bool, true, false, cond, ◌||◌, List, [], ◌∷◌, ◌≡◌, length, get_or, eqb}
 use Rattle.xdr.specs.Filling.{in_room}
 use Rattle.message.specs.Answers.{message_in, span_bytes}
 use Rattle.message.specs.Kinds.{response_in}
 use Rattle.message.specs.declared.answer.Span.{Span}
 use Rattle.message.specs.declared.answer.ResponseSpan.{ResponseSpan}
-use Rattle.message.specs.declared.kind.ResponseIn.TheVariants as P
 use Rattle.message.specs.declared.edition.Edition.TheVariants as E
 use Rattle.message_write.specs.Writing.{request_bytes}
 use Rattle.order.specs.Order.{is_equal, compare_lists}
@@ -16,11 +20,7 @@ use Rattle.link.specs.History.{Event, issue_was, answer_was, drop_was, standing,
 use Rattle.link.specs.declared.outcome.Arrival.{Arrival}
 use Rattle.link.specs.declared.outcome.Arrival.TheVariants as A
 use Rattle.queue.specs.Queue.{allowance, window_of, opening, is_peer, link_of, hashes_of, common, is_sound, issue_outcome, issued_queue, id_of, answer_of, drop_of}
-use Rattle.queue.specs.declared.window.Window.{Window}
-use Rattle.queue.specs.declared.window.Window.TheVariants.{Default}
 use Rattle.queue.specs.declared.queue.RequestQueue.{RequestQueue}
-use Rattle.queue.specs.declared.outcome.Verdict.{Verdict}
-use Rattle.queue.specs.declared.outcome.Verdict.TheVariants as Ruled
 
 -- a call, with what it is given besides the queue and the peer: of a buffer, its length
 pub data Call : Type 0 where
@@ -34,9 +34,9 @@ pub record PeerCall : Type 0 where
   pub call : Call
 
 -- whether a drop was accepted
-abbrev pub is_accepted : Verdict → Bool
-is_accepted Ruled.Accepted = true
-is_accepted (Ruled.Refused r) = false
+abbrev pub is_accepted : Result (Unit {0}) Refusal → Bool
+is_accepted (Ok u) = true
+is_accepted (Err r) = false
 
 -- the queue that a call for a peer hands back
 abbrev pub queue_after : RequestQueue → (peer : ℕ) → Call → RequestQueue
@@ -77,11 +77,11 @@ events_of p q (c ∷ cs) =
     (events_of p (queue_after q c.peer c.call) cs)
 
 -- the window that an opening gives a peer
-abbrev pub window_at : List Window → (peer : ℕ) → ℕ
-window_at ws p = window_of (get_or ws (p - 1) Default)
+abbrev pub window_at : List (Option ℕ) → (peer : ℕ) → ℕ
+window_at ws p = window_of (get_or ws (p - 1) None)
 
 -- the queue after some calls from an opening
-abbrev pub reached : List Window → List PeerCall → RequestQueue
+abbrev pub reached : List (Option ℕ) → List PeerCall → RequestQueue
 reached ws cs = queue_final (opening ws).queue cs
 
 -- the requests that a queue holds for a peer, with the hashes asked for, the oldest first
@@ -89,11 +89,11 @@ abbrev pub asked_of : RequestQueue → (peer : ℕ) → List Asked
 asked_of q p = asked (link_of q p) (hashes_of q p)
 
 -- the requests issued for a peer after an opening and since then neither answered nor dropped for it
-abbrev pub standing_for : List Window → List PeerCall → (peer : ℕ) → List Asked
+abbrev pub standing_for : List (Option ℕ) → List PeerCall → (peer : ℕ) → List Asked
 standing_for ws cs p = standing (events_of p (opening ws).queue cs)
 
 -- what holds after any calls from an accepted opening
-pub record Held (windows : List Window) (calls : List PeerCall) : Type 0 where
+pub record Held (windows : List (Option ℕ)) (calls : List PeerCall) : Type 0 where
   -- each peer's list is exactly the requests issued for it and since then neither answered nor dropped for it, each with its hash
   pub exact : (p : ℕ) → is_peer p ≡ true → asked_of (reached windows calls) p ≡ standing_for windows calls p
   -- their number is within the peer's window
@@ -109,7 +109,7 @@ pub record Held (windows : List Window) (calls : List PeerCall) : Type 0 where
   pub sound : is_sound (reached windows calls) ≡ true
 
 -- two runs from openings in which a peer has the same window, makes the same calls in the same order, and finds the same total before each
-pub record SameRuns (v w : List Window) (cs ds : List PeerCall) (peer : ℕ) : Type 0 where
+pub record SameRuns (v w : List (Option ℕ)) (cs ds : List PeerCall) (peer : ℕ) : Type 0 where
   pub window : window_at v peer ≡ window_at w peer
   pub calls : calls_of peer (opening v).queue cs ≡ calls_of peer (opening w).queue ds
 
@@ -136,18 +136,18 @@ brought_to r m d =
 
 -- what an answer from a peer brings after any calls from an accepted opening, by the oldest of the requests issued for it and since then neither
 -- answered nor dropped for it
-pub record Brought (windows : List Window) (calls : List PeerCall) (peer : ℕ) (message : List ℕ) : Type 0 where
+pub record Brought (windows : List (Option ℕ)) (calls : List PeerCall) (peer : ℕ) (message : List ℕ) : Type 0 where
   -- a Response to it brings exactly this
-  pub brings : (r : Asked) (rs : List Asked) (x : ResponseSpan) → standing_for windows calls peer ≡ r ∷ rs → response_in (message_in E.New message) ≡ P.Taken r.id x
-      → (answer_of (reached windows calls) peer message).arrival ≡ brought_to r message x.«data»
+  pub brings : (r : Asked) (rs : List Asked) (x : ResponseSpan) → standing_for windows calls peer ≡ r ∷ rs → response_in (message_in E.New message) ≡ Ok (record { id = r.id; response = x })
+      → (answer_of (reached windows calls) peer message).arrival ≡ Ok (brought_to r message x.«data»)
   -- so data are those of the Response to it, as long as asked, with the hash asked for
-  pub right : (id size : ℕ) (d : Span) → (answer_of (reached windows calls) peer message).arrival ≡ A.Data id size d
+  pub right : (id size : ℕ) (d : Span) → (answer_of (reached windows calls) peer message).arrival ≡ Ok (A.Data id size d)
       → (r : Asked) × (rs : List Asked) × (x : ResponseSpan) × (standing_for windows calls peer ≡ r ∷ rs)
-      × (response_in (message_in E.New message) ≡ P.Taken id x) × (x.«data» ≡ d) × Answers r id size d message
+      × (response_in (message_in E.New message) ≡ Ok (record { id = id; response = x })) × (x.«data» ≡ d) × Answers r id size d message
   -- and wrong content is data as long as asked with another hash
-  pub wrong : (id size : ℕ) → (answer_of (reached windows calls) peer message).arrival ≡ A.WrongContent id size
+  pub wrong : (id size : ℕ) → (answer_of (reached windows calls) peer message).arrival ≡ Ok (A.WrongContent id size)
       → (r : Asked) × (rs : List Asked) × (x : ResponseSpan) × (standing_for windows calls peer ≡ r ∷ rs)
-      × (response_in (message_in E.New message) ≡ P.Taken id x) × Differs r id size x.«data» message
+      × (response_in (message_in E.New message) ≡ Ok (record { id = id; response = x })) × Differs r id size x.«data» message
 
 -- drops for some numbers, one after the other
 abbrev pub drops : List ℕ → List PeerCall

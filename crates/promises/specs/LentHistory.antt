@@ -1,9 +1,9 @@
 -- The same of a queue that a host lends as words and hashes, and gets back so, from call to call: what it takes up is the queue, so that all of History is
 -- said of it.
+use Rattle.std.specs.declared.option.Option.{Option}
 use Rattle.std.specs.Prelude.{ℕ, true, cond, List, [], ◌∷◌, ◌≡◌, eqb}
 use Rattle.link.specs.History.{Event, standing}
 use Rattle.queue.specs.Queue.{opening, is_peer}
-use Rattle.queue.specs.declared.window.Window.{Window}
 use Rattle.queue.specs.declared.queue.RequestQueue.{RequestQueue}
 use Rattle.queue_lent.specs.Words.{queue_of, words_of}
 use Rattle.promises.specs.History.{Call, PeerCall, queue_after, queue_event, events_of, reached, asked_of}
@@ -21,7 +21,7 @@ abbrev pub queue_in : Lent → RequestQueue
 queue_in l = queue_of l.words l.hashes
 
 -- what an opening fills in, by its contract
-abbrev pub lent_opened : List Window → Lent
+abbrev pub lent_opened : List (Option ℕ) → Lent
 lent_opened ws = lent_of (opening ws).queue
 
 -- what a call hands back, by the contract of each
@@ -42,7 +42,7 @@ lent_events_of p l (c ∷ cs) =
     (lent_events_of p (lent_after l c.peer c.call) cs)
 
 -- what holds after any calls from an accepted opening: what is lent is the queue laid out, and the events of each peer are its events
-pub record HeldLent (windows : List Window) (calls : List PeerCall) : Type 0 where
+pub record HeldLent (windows : List (Option ℕ)) (calls : List PeerCall) : Type 0 where
   pub lent : lent_final (lent_opened windows) calls ≡ lent_of (reached windows calls)
   pub queue : queue_in (lent_final (lent_opened windows) calls) ≡ reached windows calls
   pub events : (p : ℕ) → lent_events_of p (lent_opened windows) calls ≡ events_of p (opening windows).queue calls

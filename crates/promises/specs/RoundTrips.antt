@@ -1,4 +1,7 @@
 -- Demand 2, for either edition, of what a caller hands to the writers and finds by what reading answers.
+use Rattle.std.specs.Prelude.{Ok, Err}
+use Rattle.std.specs.declared.result.Result.{Result}
+use Rattle.xdr.specs.declared.answer.Refusal.{Refusal}
 use Rattle.std.specs.Prelude.{ℕ, ◌≤◌, List, [], ◌++◌, ◌≡◌, length, take}
 use Rattle.xdr.specs.Reading.{Reading, taken, refused}
 use Rattle.xdr.specs.Number.{IsBytes}
@@ -41,15 +44,15 @@ pub data Finding (ed : Edition) : Type 0 where
   finds_none : Finding ed
 
 -- the bytes at the spans that reading answers, and its numbers
-abbrev pub found_by : (ed : Edition) (s : List ℕ) → Message → Finding ed
-found_by ed s (M.Index id x) = finds id (an_index (repository_at ed s x.repository) (span_bytes s x.files)) x.end
-found_by ed s (M.Request id x) = finds id (a_request (repository_at ed s x.repository) (span_bytes s x.name) x.offset x.size (span_bytes s x.hash)) x.end
-found_by ed s (M.Response id x) = finds id (a_response (span_bytes s x.«data»)) x.end
-found_by ed s (M.Ping id end) = finds id a_ping end
-found_by ed s (M.Pong id end) = finds id a_pong end
-found_by ed s (M.IndexUpdate id x) = finds id (an_index_update (repository_at ed s x.repository) (span_bytes s x.files)) x.end
-found_by ed s (M.Options id x) = finds id (some_options (span_bytes s x.options)) x.end
-found_by ed s (M.Refused r) = finds_none
+abbrev pub found_by : (ed : Edition) (s : List ℕ) → Result Message Refusal → Finding ed
+found_by ed s (Ok (M.Index id x)) = finds id (an_index (repository_at ed s x.repository) (span_bytes s x.files)) x.end
+found_by ed s (Ok (M.Request id x)) = finds id (a_request (repository_at ed s x.repository) (span_bytes s x.name) x.offset x.size (span_bytes s x.hash)) x.end
+found_by ed s (Ok (M.Response id x)) = finds id (a_response (span_bytes s x.«data»)) x.end
+found_by ed s (Ok (M.Ping id end)) = finds id a_ping end
+found_by ed s (Ok (M.Pong id end)) = finds id a_pong end
+found_by ed s (Ok (M.IndexUpdate id x)) = finds id (an_index_update (repository_at ed s x.repository) (span_bytes s x.files)) x.end
+found_by ed s (Ok (M.Options id x)) = finds id (some_options (span_bytes s x.options)) x.end
+found_by ed s (Err r) = finds_none
 
 -- what a caller finds in bytes
 abbrev pub found : (ed : Edition) → List ℕ → Finding ed

@@ -1,4 +1,7 @@
 -- What reading a message answers, by its fields: the bytes at each span are the field that was read.
+use Rattle.std.specs.Prelude.{Ok}
+use Rattle.std.specs.declared.result.Result.{Result}
+use Rattle.xdr.specs.declared.answer.Refusal.{Refusal}
 use Rattle.std.specs.Prelude.{ℕ, List, ◌≡◌, length}
 use Rattle.xdr.specs.Format.{encode}
 use Rattle.record.specs.File.{files}
@@ -49,11 +52,11 @@ pub record OptionsFields (s : List ℕ) (x : OptionsSpan) (b : List KeyValue) (e
   pub end_is : x.end ≡ end
 
 -- the answer for a message of each kind with an ID, by what its body says and the place after it
-abbrev pub SaysFields : (ed : Edition) (s : List ℕ) (id : ℕ) (k : Kind) → Body ed k → (end : ℕ) → Message → Type 0
-SaysFields ed s id is_index b end a = (x : IndexSpan) × (a ≡ M.Index id x) × IndexFields ed s x b end
-SaysFields ed s id is_request b end a = (x : RequestSpan) × (a ≡ M.Request id x) × RequestFields ed s x b end
-SaysFields ed s id is_response b end a = (x : ResponseSpan) × (a ≡ M.Response id x) × ResponseFields s x b end
-SaysFields ed s id is_ping b end a = a ≡ M.Ping id end
-SaysFields ed s id is_pong b end a = a ≡ M.Pong id end
-SaysFields ed s id is_index_update b end a = (x : IndexSpan) × (a ≡ M.IndexUpdate id x) × IndexFields ed s x b end
-SaysFields ed s id is_options b end a = (x : OptionsSpan) × (a ≡ M.Options id x) × OptionsFields s x b end
+abbrev pub SaysFields : (ed : Edition) (s : List ℕ) (id : ℕ) (k : Kind) → Body ed k → (end : ℕ) → Result Message Refusal → Type 0
+SaysFields ed s id is_index b end a = (x : IndexSpan) × (a ≡ Ok (M.Index id x)) × IndexFields ed s x b end
+SaysFields ed s id is_request b end a = (x : RequestSpan) × (a ≡ Ok (M.Request id x)) × RequestFields ed s x b end
+SaysFields ed s id is_response b end a = (x : ResponseSpan) × (a ≡ Ok (M.Response id x)) × ResponseFields s x b end
+SaysFields ed s id is_ping b end a = a ≡ Ok (M.Ping id end)
+SaysFields ed s id is_pong b end a = a ≡ Ok (M.Pong id end)
+SaysFields ed s id is_index_update b end a = (x : IndexSpan) × (a ≡ Ok (M.IndexUpdate id x)) × IndexFields ed s x b end
+SaysFields ed s id is_options b end a = (x : OptionsSpan) × (a ≡ Ok (M.Options id x)) × OptionsFields s x b end

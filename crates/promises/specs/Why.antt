@@ -1,4 +1,7 @@
 -- Why a block isn't coming, in words: one reason is true and no other. `Held` names the first local record and block that hold it, and `Wanted` goes by the request list.
+use Rattle.std.specs.Prelude.{Ok, Err}
+use Rattle.std.specs.declared.result.Result.{Result}
+use Rattle.xdr.specs.declared.answer.Refusal.{Refusal}
 use Rattle.std.specs.Prelude.{ℕ, ◌≤◌, ◌≡◌, true, false, length}
 use mathlib.Core.List.{List, ◌∷◌, ◌++◌, map, Memᴰ}
 use Rattle.xdr.specs.Answers.{at_start}
@@ -59,22 +62,22 @@ pub record ListHas {local : List ℕ} {peers : List (List ℕ)} (x : ExactList l
   pub peer_is : entry.peer ≡ peer
 
 -- what makes each reason true
-abbrev pub Because : {local : List ℕ} → {peers : List (List ℕ)} → ExactList local peers → (name : List ℕ) → (n : ℕ) → Reason → Type 0
-Because {local} {peers} x name n R.NoSuchName = (f : File) → Memᴰ f (joined (map records (local ∷ peers))) → f.name ≡ name → ⊥
-Because x name n R.Deleted = (h : HighestOf x.highs name) × (is_deleted h.highest.flags ≡ true)
-Because x name n R.Invalid = (h : HighestOf x.highs name) × (is_deleted h.highest.flags ≡ false) × (is_invalid h.highest.flags ≡ true)
-Because x name n R.NoSuchBlock =
+abbrev pub Because : {local : List ℕ} → {peers : List (List ℕ)} → ExactList local peers → (name : List ℕ) → (n : ℕ) → Result Reason Refusal → Type 0
+Because {local} {peers} x name n (Ok R.NoSuchName) = (f : File) → Memᴰ f (joined (map records (local ∷ peers))) → f.name ≡ name → ⊥
+Because x name n (Ok R.Deleted) = (h : HighestOf x.highs name) × (is_deleted h.highest.flags ≡ true)
+Because x name n (Ok R.Invalid) = (h : HighestOf x.highs name) × (is_deleted h.highest.flags ≡ false) × (is_invalid h.highest.flags ≡ true)
+Because x name n (Ok R.NoSuchBlock) =
     (h : HighestOf x.highs name) × (is_deleted h.highest.flags ≡ false) × (is_invalid h.highest.flags ≡ false) × (length h.highest.blocks ≤ n)
-Because {local} x name n (R.Held r j) = (h : HighestOf x.highs name) × (b : BlockOf h n) × FirstHeld (records local) b.block r j
-Because x name n (R.Wanted peer) = ListHas x name n peer
-Because x name n (R.Refused r) = ⊥
+Because {local} x name n (Ok (R.Held r j)) = (h : HighestOf x.highs name) × (b : BlockOf h n) × FirstHeld (records local) b.block r j
+Because x name n (Ok (R.Wanted peer)) = ListHas x name n peer
+Because x name n (Err r) = ⊥
 
 -- `why` answers with a true reason, and no other is true
 pub record Answered {local : List ℕ} {peers : List (List ℕ)} (x : ExactList local peers) (name : List ℕ) (n : ℕ) : Type 0 where
   pub holds : Because x name n (why_of local peers name n)
-  pub alone : (r : Reason) → Because x name n r → r ≡ why_of local peers name n
+  pub alone : (r : Result Reason Refusal) → Because x name n r → r ≡ why_of local peers name n
 
 -- 15 where a table is not good, else the reason
 pub record Reasoned (local : List ℕ) (peers : List (List ℕ)) (name : List ℕ) (n : ℕ) : Type 0 where
-  pub refused : all_good (local ∷ peers) ≡ false → why_of local peers name n ≡ R.Refused (at_start 15)
+  pub refused : all_good (local ∷ peers) ≡ false → why_of local peers name n ≡ Err (at_start 15)
   pub given : all_good (local ∷ peers) ≡ true → (x : ExactList local peers) × Answered x name n

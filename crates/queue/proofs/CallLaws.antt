@@ -1,4 +1,6 @@
 -- What a call for a peer gives, by the admission, by its link's own call and by what becomes of its hashes.
+use Rattle.std.specs.Prelude.{Ok, Err}
+use Rattle.std.specs.declared.result.Result.{Result}
 use Prim.Native.Nat.{ℕ, zero, suc, ◌-◌, ◌*◌}
 use mathlib.Core.Path.{◌≡◌, refl, sym, ap, ◌∙◌}
 use mathlib.Core.Bool.{false, cond}
@@ -7,8 +9,6 @@ use lib.ListN.{length, get_or, set}
 use Rattle.xdr.specs.Answers.{at_start}
 use Rattle.xdr.specs.Filling.{Outcome, gives, refuses, in_room, filling_answer}
 use Rattle.xdr.specs.declared.answer.Refusal.{Refusal}
-use Rattle.xdr.specs.declared.filling.Filling.{Filling}
-use Rattle.xdr.specs.declared.filling.Filling.TheVariants as F
 use Rattle.xdr.proofs.FillingLaws.{fills_same, fills_refused}
 use Rattle.message.specs.Answers.{message_in}
 use Rattle.message.specs.Kinds.{response_in}
@@ -21,18 +21,14 @@ use Rattle.link.specs.declared.list.Link.{Link}
 use Rattle.link.specs.declared.outcome.LinkIssued.{LinkIssued}
 use Rattle.link.specs.declared.outcome.LinkAnswered.{LinkAnswered}
 use Rattle.link.specs.declared.outcome.Arrival.{Arrival}
-use Rattle.link.specs.declared.outcome.Arrival.TheVariants as A
 use Rattle.queue.specs.Shares.{with_share}
 use Rattle.queue.specs.Queue.{allowance, hash_bytes, is_peer, link_of, no_link, hashes_of, peer_of, with_peer, common, is_sound, issue_outcome, issued_queue, id_of, PeerIssues, answered_for, answer_of, without, drop_of}
-use Rattle.queue.specs.Steps.{admission, refusal_of, kept_for, arrival_for, released_for, forgotten_for}
+use Rattle.queue.specs.Steps.{admission, kept_for, arrival_for, released_for, forgotten_for}
 use Rattle.queue.specs.declared.queue.RequestQueue.{RequestQueue}
-use Rattle.queue.specs.declared.queue.Admission.{Admission}
-use Rattle.queue.specs.declared.queue.Admission.TheVariants as D
 use Rattle.queue.specs.declared.outcome.Emptied.{Emptied}
-use Rattle.queue.specs.declared.outcome.Verdict.TheVariants as C
 use Rattle.queue.specs.declared.outcome.Answered.{Answered}
 use Rattle.queue.proofs.ShareLaws.{share_same}
-use Rattle.queue.proofs.QueueLaws.{past_23, at_23, Admitted, Held, goes_on, stops, stops_with}
+use Rattle.queue.proofs.QueueLaws.{past_23, at_23, Admitted, Held, goes_on, stops}
 
 -- a link put back where it was
 set_same : {A : Type 0} (d : A) (l : List A) (i : ℕ) → set l i (get_or l i d) ≡ l
@@ -55,7 +51,7 @@ issued_peer q p size hash (gives l) = refl
 issued_peer q p size hash (refuses k n) = same_peer q p
 
 -- the hashes by a writer's answer are those by what it had to write
-hashes_filled_lem : (hs : List ℕ) (i : ℕ) (h : List ℕ) (x : Outcome) {w : Filling} → w ≡ filling_answer x → hashes_filled hs i h w ≡ hashes_issued hs i h x
+hashes_filled_lem : (hs : List ℕ) (i : ℕ) (h : List ℕ) (x : Outcome) {w : Result ℕ Refusal} → w ≡ filling_answer x → hashes_filled hs i h w ≡ hashes_issued hs i h x
 hashes_filled_lem hs i h (gives l) e = ap (hashes_filled hs i h) e
 hashes_filled_lem hs i h (refuses k p) e = ap (hashes_filled hs i h) e
 
@@ -66,13 +62,13 @@ module _ (q : RequestQueue) (p : ℕ) where
   answered_in m = answered_by (link_of q p) (response_in (message_in E.New m))
 
   abbrev pub refused_answer : Refusal → Answered
-  refused_answer r = record { queue = q; arrival = A.Refused r }
+  refused_answer r = record { queue = q; arrival = Err r }
 
   abbrev pub dropped : Emptied
-  dropped = record { queue = without q p; verdict = C.Accepted }
+  dropped = record { queue = without q p; verdict = Ok tt }
 
   abbrev pub refused_drop : Refusal → Emptied
-  refused_drop r = record { queue = q; verdict = C.Refused r }
+  refused_drop r = record { queue = q; verdict = Err r }
 
   module _ (h : Admitted q p) where
     pub same_issue : (b : List ℕ) (size : ℕ) → issue_outcome q p b size ≡ issuing (common q.links) allowance (link_of q p) b size
@@ -97,12 +93,12 @@ module _ (q : RequestQueue) (p : ℕ) where
 -- an issue
 
 module _ (q : RequestQueue) (p : ℕ) (b : List ℕ) (size : ℕ) (hash out : List ℕ) where
-  pub issue_stopped : {k i : ℕ} {x : Admission} {r : Refusal} → x ≡ D.Refused k → x ≡ admission q p → r ≡ refusal_of x → i ≡ id_of q p
-      → PeerIssues (issue_outcome q p b size) q p size hash out (record { queue = q; id = i; filling = F.Refused r }) out
-  issue_stopped {k} {i} {x} {r} e f h n =
-      let same : issue_outcome q p b size ≡ refuses k 0 = sym (stops q p (issuing (common q.links) allowance (link_of q p) b size) (λ (m : ℕ). refuses m 0) k (sym e ∙ f)) in
+  pub issue_stopped : {i : ℕ} {r : Refusal} → Err r ≡ admission q p → i ≡ id_of q p
+      → PeerIssues (issue_outcome q p b size) q p size hash out (record { queue = q; id = i; filling = Err r }) out
+  issue_stopped {i} {r} e n =
+      let same : issue_outcome q p b size ≡ refuses r.number r.place = sym (stops q p (issuing (common q.links) allowance (link_of q p) b size) (λ (x : Refusal). refuses x.number x.place) r e) in
       record {
-        fills = fills_refused out same (ap F.Refused (h ∙ ap refusal_of e));
+        fills = fills_refused out same refl;
         id = n;
         queue = ap (λ (o : Outcome). issued_queue q p size hash (in_room (length out) o)) (sym same);
       }
@@ -132,28 +128,28 @@ module _ (q : RequestQueue) (p : ℕ) (b : List ℕ) (size : ℕ) (hash out : Li
 -- an answer, and a drop
 
 module _ (q : RequestQueue) (p : ℕ) where
-  pub answer_stopped : (m : List ℕ) {k : ℕ} {x : Admission} {r : Refusal} → x ≡ D.Refused k → x ≡ admission q p → r ≡ refusal_of x → refused_answer q p r ≡ answer_of q p m
-  answer_stopped m e f h = stops_with q p (answered_for q p m (answered_in q p m)) (refused_answer q p) e f h
+  pub answer_stopped : (m : List ℕ) {r : Refusal} → Err r ≡ admission q p → refused_answer q p r ≡ answer_of q p m
+  answer_stopped m {r} e = stops q p (answered_for q p m (answered_in q p m)) (refused_answer q p) r e
 
-  pub answer_done : (m : List ℕ) {x : LinkAnswered} {v : Arrival} {hs : List ℕ} → Admitted q p → x ≡ answered_in q p m
+  pub answer_done : (m : List ℕ) {x : LinkAnswered} {v : Result Arrival Refusal} {hs : List ℕ} → Admitted q p → x ≡ answered_in q p m
       → (v ≡ arrival_for q.hashes p m x.release) × (hs ≡ released_for q.hashes p x.release)
       → record { queue = record { links = set q.links (p - 1) x.link; hashes = hs }; arrival = v } ≡ answer_of q p m
   answer_done m {x} {v} {hs} h f g =
-      let arrival-is : v ≡ arrival_of (hashes_of q p) m x.release = g.0 ∙ past_23 p (arrival_of (hashes_of q p) m x.release) (A.Refused (at_start 23)) h.peer in
+      let arrival-is : v ≡ arrival_of (hashes_of q p) m x.release = g.0 ∙ past_23 p (arrival_of (hashes_of q p) m x.release) (Err (at_start 23)) h.peer in
       let hashes_are : hs ≡ with_share hash_bytes q.hashes p (hashes_released (hashes_of q p) x.release) =
       g.1 ∙ past_23 p (with_share hash_bytes q.hashes p (hashes_released (hashes_of q p) x.release)) q.hashes h.peer in
-      ap (λ (y : Arrival). record { queue = queue_with (set q.links (p - 1) x.link) hs; arrival = y }) arrival-is
+      ap (λ (y : Result Arrival Refusal). record { queue = queue_with (set q.links (p - 1) x.link) hs; arrival = y }) arrival-is
       ∙ ap (λ (y : List ℕ). record { queue = queue_with (set q.links (p - 1) x.link) y; arrival = arrival_of (hashes_of q p) m x.release }) hashes_are
       ∙ ap (answered_for q p m) f
       ∙ sym (same_answer q p h m)
 
-  pub drop_stopped : {k : ℕ} {x : Admission} {r : Refusal} → x ≡ D.Refused k → x ≡ admission q p → r ≡ refusal_of x → refused_drop q p r ≡ drop_of q p
-  drop_stopped e f h = stops_with q p (dropped q p) (refused_drop q p) e f h
+  pub drop_stopped : {r : Refusal} → Err r ≡ admission q p → refused_drop q p r ≡ drop_of q p
+  drop_stopped {r} e = stops q p (dropped q p) (refused_drop q p) r e
 
   pub drop_done : {l : Link} {hs : List ℕ} → Admitted q p → l ≡ emptied (link_of q p) → hs ≡ forgotten_for q.hashes p
-      → record { queue = record { links = set q.links (p - 1) l; hashes = hs }; verdict = C.Accepted } ≡ drop_of q p
+      → record { queue = record { links = set q.links (p - 1) l; hashes = hs }; verdict = Ok tt } ≡ drop_of q p
   drop_done {l} {hs} h f g =
       let hashes_are : hs ≡ with_share hash_bytes q.hashes p no_hashes = g ∙ past_23 p (with_share hash_bytes q.hashes p no_hashes) q.hashes h.peer in
-      ap (λ (y : Link). record { queue = queue_with (set q.links (p - 1) y) hs; verdict = C.Accepted }) f
-      ∙ ap (λ (y : List ℕ). record { queue = queue_with (set q.links (p - 1) (emptied (link_of q p))) y; verdict = C.Accepted }) hashes_are
+      ap (λ (y : Link). record { queue = queue_with (set q.links (p - 1) y) hs; verdict = Ok tt }) f
+      ∙ ap (λ (y : List ℕ). record { queue = queue_with (set q.links (p - 1) (emptied (link_of q p))) y; verdict = Ok tt }) hashes_are
       ∙ sym (same_drop q p h)

@@ -1,4 +1,6 @@
 -- What a peer's link and hashes put in place leave of the others, when a queue is sound, and how it is opened.
+use Rattle.std.specs.Prelude.{Ok, None}
+use Rattle.std.specs.declared.option.Option.{Option}
 use Prim.Native.Nat.{ℕ, zero, suc, ◌+◌, ◌-◌, ◌*◌, ◌≤◌, ◌<◌}
 use native.Mathlib.Omega.{arith}
 use native.Mathlib.Decide.{dec_lt}
@@ -13,10 +15,7 @@ use Rattle.link.specs.OneLink.{outstanding, is_orderly, empty_link}
 use Rattle.link.specs.History.{Hashed}
 use Rattle.link.specs.declared.list.Link.{Link}
 use Rattle.queue.specs.Queue.{allowance, peers, window_of, all_fit, empty_links, hash_bytes, unused, opening, is_peer, no_link, link_of, hashes_of, peer_of, with_peer, common, all_orderly, is_sound}
-use Rattle.queue.specs.declared.window.Window.{Window}
-use Rattle.queue.specs.declared.window.Window.TheVariants.{Default}
 use Rattle.queue.specs.declared.queue.RequestQueue.{RequestQueue}
-use Rattle.queue.specs.declared.outcome.Verdict.TheVariants as C
 use Rattle.queue.proofs.ShareLaws.{share_length, share_kept, share_own, share_before, share_behind}
 use Rattle.queue.proofs.QueueLaws.{peer_facts, four_are, opened_by}
 
@@ -110,23 +109,23 @@ sound_made q w o t = rw (orderly_all q.links each, le-leb (common q.links) allow
 
 -- an accepted opening
 
-empty_length : (ws : List Window) → length (empty_links ws) ≡ length ws
+empty_length : (ws : List (Option ℕ)) → length (empty_links ws) ≡ length ws
 empty_length [] = refl
 empty_length (w ∷ ws) = ap suc (empty_length ws)
 
-empty_common : (ws : List Window) → common (empty_links ws) ≡ 0
+empty_common : (ws : List (Option ℕ)) → common (empty_links ws) ≡ 0
 empty_common [] = refl
 empty_common (w ∷ ws) = let h = empty_common ws in omega (arith, h)
 
-empty_at : (ws : List Window) (i : ℕ) → i < length ws → get_or (empty_links ws) i no_link ≡ empty_link (window_of (get_or ws i Default))
+empty_at : (ws : List (Option ℕ)) (i : ℕ) → i < length ws → get_or (empty_links ws) i no_link ≡ empty_link (window_of (get_or ws i None))
 empty_at [] i h = absurd (omega arith)
 empty_at (w ∷ ws) zero h = refl
 empty_at (w ∷ ws) (suc i) h = empty_at ws i (omega arith)
 
-module _ (ws : List Window) (accepted : (opening ws).verdict ≡ C.Accepted) where
-  accepted_is : (t : Bool) → (opened_by ws t).verdict ≡ C.Accepted → t ≡ true
+module _ (ws : List (Option ℕ)) (accepted : (opening ws).verdict ≡ Ok tt) where
+  accepted_is : (t : Bool) → (opened_by ws t).verdict ≡ Ok tt → t ≡ true
   accepted_is true e = refl
-  accepted_is false e = let z : ◌≡◌ {A = ℕ} 0 1 = cc in absurd (omega arith)
+  accepted_is false e = cc
 
   pub opened_fits : all_fit ws ≡ true
   opened_fits = accepted_is (all_fit ws) accepted
@@ -142,7 +141,7 @@ module _ (ws : List Window) (accepted : (opening ws).verdict ≡ C.Accepted) whe
     opened_sized = subst Sized (sym opened_is) (record { four = empty_length ws ∙ four; hashed = length-replicate {A = ℕ} (hash_bytes * peers) 0 })
 
     pub opened_peer : (p : ℕ) → is_peer p ≡ true
-        → peer_of (opening ws).queue p ≡ record { link = empty_link (window_of (get_or ws (p - 1) Default)); hashes = hashes_of (unused []) p }
+        → peer_of (opening ws).queue p ≡ record { link = empty_link (window_of (get_or ws (p - 1) None)); hashes = hashes_of (unused []) p }
     opened_peer p e =
         let f = peer_facts p e in
         ap (λ (x : RequestQueue). peer_of x p) opened_is

@@ -1,6 +1,7 @@
 -- The queue (document 01's desk, with 02 §6 and §7): the links of four peers with their hashes, under one byte allowance. Which queues are sound, and
 -- what each call does.
-use Rattle.std.specs.Prelude.{ℕ, ◌+◌, ◌-◌, ◌*◌, Bool, true, cond, ◌&&◌, List, [], ◌∷◌, ◌≡◌, length, get_or, set, replicate, leb}
+use Rattle.std.specs.Prelude.{Ok, Err, Some, None, ℕ, ◌+◌, ◌-◌, ◌*◌, Bool, true, cond, ◌&&◌, List, [], ◌∷◌, ◌≡◌, length, get_or, set, replicate, leb}
+use Rattle.std.specs.declared.option.Option.{Option}
 use Rattle.xdr.specs.Answers.{at_start}
 use Rattle.xdr.specs.Filling.{Outcome, gives, refuses, in_room, Fills}
 use Rattle.message.specs.Answers.{message_in}
@@ -12,13 +13,9 @@ use Rattle.link.specs.Hashes.{no_hashes, arrival_of}
 use Rattle.link.specs.History.{Hashed, hashed_issued, hashed_answered}
 use Rattle.link.specs.declared.list.Link.{Link}
 use Rattle.link.specs.declared.outcome.LinkAnswered.{LinkAnswered}
-use Rattle.link.specs.declared.outcome.Arrival.TheVariants as A
 use Rattle.queue.specs.Shares.{share_of, with_share}
-use Rattle.queue.specs.declared.window.Window.{Window}
-use Rattle.queue.specs.declared.window.Window.TheVariants.{Stated, Default}
 use Rattle.queue.specs.declared.queue.RequestQueue.{RequestQueue}
 use Rattle.queue.specs.declared.outcome.Emptied.{Emptied}
-use Rattle.queue.specs.declared.outcome.Verdict.TheVariants as Verdict
 use Rattle.queue.specs.declared.outcome.Issued.{Issued}
 use Rattle.queue.specs.declared.outcome.Answered.{Answered}
 
@@ -35,17 +32,17 @@ abbrev pub default_window : ℕ
 default_window = 4
 
 -- a window, stated or default
-abbrev pub window_of : Window → ℕ
-window_of (Stated w) = w
-window_of Default = default_window
+abbrev pub window_of : Option ℕ → ℕ
+window_of (Some w) = w
+window_of None = default_window
 
 -- each of some windows is 1 to 16
-abbrev pub all_fit : List Window → Bool
+abbrev pub all_fit : List (Option ℕ) → Bool
 all_fit [] = true
 all_fit (w ∷ ws) = window_fits (window_of w) && all_fit ws
 
 -- an empty link for each of some windows
-abbrev pub empty_links : List Window → List Link
+abbrev pub empty_links : List (Option ℕ) → List Link
 empty_links [] = []
 empty_links (w ∷ ws) = empty_link (window_of w) ∷ empty_links ws
 
@@ -58,11 +55,11 @@ abbrev pub unused : List Link → RequestQueue
 unused ls = record { links = ls; hashes = replicate (hash_bytes * peers) 0 }
 
 -- opening with a window for each peer: 22, and four empty links of window 0, where one is not 1 to 16
-abbrev pub opening : List Window → Emptied
+abbrev pub opening : List (Option ℕ) → Emptied
 opening ws =
     cond (all_fit ws)
-    (record { queue = unused (empty_links ws); verdict = Verdict.Accepted })
-    (record { queue = unused (replicate peers (empty_link 0)); verdict = Verdict.Refused (at_start 22) })
+    (record { queue = unused (empty_links ws); verdict = Ok tt })
+    (record { queue = unused (replicate peers (empty_link 0)); verdict = Err (at_start 22) })
 
 -- a peer is 1 to 4
 abbrev pub is_peer : ℕ → Bool
@@ -134,7 +131,7 @@ abbrev pub answer_of : RequestQueue → (peer : ℕ) (message : List ℕ) → An
 answer_of q p m =
     admitted q p
     (answered_for q p m (answered_by (link_of q p) (response_in (message_in E.New m))))
-    (λ (k : ℕ). record { queue = q; arrival = A.Refused (at_start k) })
+    (λ (k : ℕ). record { queue = q; arrival = Err (at_start k) })
 
 -- the queue without the requests of a peer
 abbrev pub without : RequestQueue → (peer : ℕ) → RequestQueue
@@ -142,4 +139,4 @@ without q p = with_peer q p (record { link = emptied (link_of q p); hashes = no_
 
 -- dropping the link of a peer, and of no other: 23, 22
 abbrev pub drop_of : RequestQueue → (peer : ℕ) → Emptied
-drop_of q p = admitted q p (record { queue = without q p; verdict = Verdict.Accepted }) (λ (k : ℕ). record { queue = q; verdict = Verdict.Refused (at_start k) })
+drop_of q p = admitted q p (record { queue = without q p; verdict = Ok tt }) (λ (k : ℕ). record { queue = q; verdict = Err (at_start k) })

@@ -8,9 +8,9 @@ ghost use Rattle.queue.specs.Steps.{kept_for, arrival_for, released_for, forgott
 
 use crate::queue::is_peer;
 use link::{Arrival, Release};
-use xdr::{Filling, Refusal};
+use xdr::Refusal;
 
-fn keep_in(hashes: &mut [u8], peer: u32, slot: u32, hash: &[u8], filling: Filling)
+fn keep_in(hashes: &mut [u8], peer: u32, slot: u32, hash: &[u8], filling: Result<usize, Refusal>)
     requires { (1 ≤ peer) × (512 * peer ≤ length hashes.old) }
     ensures { hashes.new ≡ with_share hash_bytes hashes.old peer
         (hashes_filled (share_of hash_bytes hashes.old peer) slot hash.now filling) }
@@ -20,7 +20,12 @@ fn keep_in(hashes: &mut [u8], peer: u32, slot: u32, hash: &[u8], filling: Fillin
     link::keep(&mut hashes[at..end], slot, hash, filling);
 }
 
-fn settle_in(hashes: &mut [u8], peer: u32, message: &[u8], release: Release) -> Arrival
+fn settle_in(
+    hashes: &mut [u8],
+    peer: u32,
+    message: &[u8],
+    release: Result<Release, Refusal>,
+) -> Result<Arrival, Refusal>
     requires { (1 ≤ peer) × (512 * peer ≤ length hashes.old) }
     ensures { (result ≡ arrival_of (share_of hash_bytes hashes.old peer) message.now release)
         × (hashes.new ≡ with_share hash_bytes hashes.old peer (hashes_released (share_of hash_bytes hashes.old peer) release)) }
@@ -35,26 +40,36 @@ fn forget_in(hashes: &mut [u8], peer: u32)
     ensures { hashes.new ≡ with_share hash_bytes hashes.old peer no_hashes }
 {
     let at = (peer - 1) as usize * 512;
-    let blank = [0u8; 512];
-    xdr::put_raw(hashes, at, &blank);
+    let end = at + 512;
+    hashes[at..end].fill(0);
 }
 
 // The hash of a request that was written for a peer, in the place of its entry.
-pub fn keep_for(hashes: &mut [u8; 2048], peer: u32, slot: u32, hash: &[u8], filling: Filling)
+pub fn keep_for(
+    hashes: &mut [u8; 2048],
+    peer: u32,
+    slot: u32,
+    hash: &[u8],
+    filling: Result<usize, Refusal>,
+)
     ensures { hashes.new ≡ kept_for hashes.old peer slot hash.now filling }
 {
-    if !is_peer(peer) {
-        return;
+    if is_peer(peer) {
+        keep_in(hashes, peer, slot, hash, filling);
     }
-    keep_in(hashes, peer, slot, hash, filling);
 }
 
 // What an answer from a peer brought, by how it released the oldest request, whose hash goes with it.
-pub fn settle_for(hashes: &mut [u8; 2048], peer: u32, message: &[u8], release: Release) -> Arrival
+pub fn settle_for(
+    hashes: &mut [u8; 2048],
+    peer: u32,
+    message: &[u8],
+    release: Result<Release, Refusal>,
+) -> Result<Arrival, Refusal>
     ensures { (result ≡ arrival_for hashes.old peer message.now release) × (hashes.new ≡ released_for hashes.old peer release) }
 {
     if !is_peer(peer) {
-        return Arrival::Refused(Refusal::at_start(23));
+        return Err(Refusal::at_start(23));
     }
     settle_in(hashes, peer, message, release)
 }
@@ -63,8 +78,7 @@ pub fn settle_for(hashes: &mut [u8; 2048], peer: u32, message: &[u8], release: R
 pub fn forget_for(hashes: &mut [u8; 2048], peer: u32)
     ensures { hashes.new ≡ forgotten_for hashes.old peer }
 {
-    if !is_peer(peer) {
-        return;
+    if is_peer(peer) {
+        forget_in(hashes, peer);
     }
-    forget_in(hashes, peer);
 }

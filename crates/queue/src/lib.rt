@@ -10,6 +10,5 @@ pub mod queue;
 pub mod window;
 
 pub use hashes::{forget_for, keep_for, settle_for};
-pub use outcome::{Answered, Emptied, Issued, Verdict};
-pub use queue::{Admission, RequestQueue, is_peer};
-pub use window::Window;
+pub use outcome::{Answered, Emptied, Issued};
+pub use queue::{RequestQueue, is_peer};

@@ -2,14 +2,14 @@
 ghost use Rattle.std.specs.Prelude.{◌≡◌};
 ghost use Rattle.message_write.specs.Writing.{request_bytes};
 ghost use Rattle.queue.specs.Queue.{is_peer, id_of, all_fit, is_sound, opening, issue_outcome, PeerIssues, answer_of, drop_of};
-ghost use Rattle.queue.specs.Steps.{sound_bytes, admission, refusal_of};
+ghost use Rattle.queue.specs.Steps.{sound_bytes, admission};
 
 use crate::hashes::{forget_for, keep_for, settle_for};
-use crate::outcome::{Answered, Emptied, Issued, Verdict};
-use crate::window::Window;
-use link::{Arrival, Link, Tally};
+use crate::outcome::{Answered, Emptied, Issued};
+use crate::window;
+use link::{Link, LinkAnswered, LinkIssued};
 use message::Edition;
-use xdr::{Filling, Refusal};
+use xdr::Refusal;
 
 // The links of the peers 1 to 4, in that order, and 512 bytes of hashes for each: 32 for each entry of its link.
 #[derive(Clone, Copy)]
@@ -18,48 +18,18 @@ pub struct RequestQueue {
     pub hashes: [u8; 2048],
 }
 
-// Whether a call for a peer may go on: the bytes held, or the number that refuses it.
-#[derive(Clone, Copy)]
-pub enum Admission {
-    Held(u32),
-    Refused(u32),
-}
-
-impl Admission {
-    // Of one that is refused.
-    pub fn refusal(self) -> Refusal
-        ensures { result ≡ refusal_of self }
-    {
-        match self {
-            Admission::Held(_) => Refusal::at_start(0),
-            Admission::Refused(k) => Refusal::at_start(k),
-        }
-    }
-}
-
 // Whether a peer is 1 to 4.
 pub fn is_peer(peer: u32) -> bool
     ensures { result ≡ is_peer peer }
 {
-    if peer < 1 {
-        return false;
-    }
-    peer <= 4
+    1 <= peer && peer <= 4
 }
 
 // Whether four windows are each 1 to 16.
-fn all_fit(windows: [Window; 4]) -> bool
+fn all_fit(windows: [Option<u32>; 4]) -> bool
     ensures { result ≡ all_fit windows }
 {
-    let mut i = 4;
-    while 0 < i {
-        i = i - 1;
-        let w = windows[i];
-        if !link::window_fits(w.size()) {
-            return false;
-        }
-    }
-    true
+    windows.iter().all(|w| link::window_fits(window::size(*w)))
 }
 
 impl RequestQueue {
@@ -70,81 +40,66 @@ impl RequestQueue {
     pub const ALLOWANCE: u32 = 524288;
 
     // Four empty links.
-    pub fn open(windows: [Window; 4]) -> Emptied
+    pub fn open(windows: [Option<u32>; 4]) -> Emptied
         ensures { result ≡ opening windows }
     {
         if !all_fit(windows) {
-            let none = Link::empty(0);
             return Emptied {
                 queue: RequestQueue {
-                    links: [none; 4],
-                    hashes: [0u8; 2048],
+                    links: [Link::empty(0); 4],
+                    hashes: [0; 2048],
                 },
-                verdict: Verdict::Refused(Refusal::at_start(22)),
+                verdict: Err(Refusal::at_start(22)),
             };
         }
-        let a = windows[0];
-        let b = windows[1];
-        let c = windows[2];
-        let d = windows[3];
+        let [a, b, c, d] = windows;
         Emptied {
             queue: RequestQueue {
                 links: [
-                    Link::empty(a.size()),
-                    Link::empty(b.size()),
-                    Link::empty(c.size()),
-                    Link::empty(d.size()),
+                    Link::empty(window::size(a)),
+                    Link::empty(window::size(b)),
+                    Link::empty(window::size(c)),
+                    Link::empty(window::size(d)),
                 ],
-                hashes: [0u8; 2048],
+                hashes: [0; 2048],
             },
-            verdict: Verdict::Accepted,
+            verdict: Ok(()),
         }
     }
 
-    // The bytes outstanding of all four links of a sound queue, or that it is none.
-    pub fn sound_bytes(self) -> Tally
+    // The bytes outstanding of all four links of a sound queue.
+    pub fn sound_bytes(self) -> Option<u32>
         ensures { result ≡ sound_bytes self }
     {
-        let mut sum: u32 = 0;
-        let mut i = 4;
-        while 0 < i {
-            i = i - 1;
-            let l = self.links[i];
-            let Tally::Bytes(n) = l.orderly_bytes() else {
-                return Tally::Unsound;
-            };
-            sum = sum + n;
+        let mut sum = 0;
+        for l in &self.links {
+            let n = l.orderly_bytes()?;
+            sum += n;
         }
         if RequestQueue::ALLOWANCE < sum {
-            return Tally::Unsound;
+            return None;
         }
-        Tally::Bytes(sum)
+        Some(sum)
     }
 
     // Whether the queue is sound (document 01: a sound desk). Entries past the counts don't matter.
     pub fn is_sound(self) -> bool
         ensures { result ≡ is_sound self }
     {
-        match self.sound_bytes() {
-            Tally::Unsound => false,
-            Tally::Bytes(_) => true,
-        }
+        self.sound_bytes().is_some()
     }
 
-    // What stands first in every call for a peer: 23, then 22.
-    fn admission(self, peer: u32) -> Admission
+    // What stands first in every call for a peer: 23, then 22, or else the bytes held.
+    fn admission(self, peer: u32) -> Result<u32, Refusal>
         ensures { result ≡ admission self peer }
     {
         if !is_peer(peer) {
-            return Admission::Refused(23);
+            return Err(Refusal::at_start(23));
         }
-        match self.sound_bytes() {
-            Tally::Bytes(held) => Admission::Held(held),
-            Tally::Unsound => Admission::Refused(22),
-        }
+        self.sound_bytes().ok_or(Refusal::at_start(22))
     }
 
-    // The next ID of a peer, 0 where there is no such peer.
+    // The next ID of a peer, 0 where there is no such peer. A number in any case, as an issue hands it back: the definition is `id_of`.
     fn next_of(self, peer: u32) -> u32
         ensures { result ≡ id_of self peer }
     {
@@ -152,8 +107,7 @@ impl RequestQueue {
             return 0;
         }
         let at = (peer - 1) as usize;
-        let l = self.links[at];
-        l.next
+        self.links[at].next
     }
 
     // Writes a Request for a peer with its next ID and appends it to its link.
@@ -171,17 +125,19 @@ impl RequestQueue {
             (request_bytes Edition.New repository.now name.now offset size hash.now) size)
             self peer size hash.now out.old result out.new }
     {
-        let a = self.admission(peer);
-        let Admission::Held(held) = a else {
-            return Issued {
-                queue: self,
-                id: self.next_of(peer),
-                filling: Filling::Refused(a.refusal()),
-            };
+        let held = match self.admission(peer) {
+            Ok(held) => held,
+            Err(r) => {
+                return Issued {
+                    queue: self,
+                    id: self.next_of(peer),
+                    filling: Err(r),
+                };
+            }
         };
         let at = (peer - 1) as usize;
         let l = self.links[at];
-        let x = l.issue(
+        let LinkIssued { link, id, filling } = l.issue(
             held,
             RequestQueue::ALLOWANCE,
             repository,
@@ -191,41 +147,28 @@ impl RequestQueue {
             hash,
             out,
         );
-        let link = x.link;
-        let filling = x.filling;
-        let mut hashes = self.hashes;
-        keep_for(&mut hashes, peer, l.count, hash, filling);
         let mut queue = self;
         queue.links[at] = link;
-        queue.hashes = hashes;
-        Issued {
-            queue,
-            id: x.id,
-            filling,
-        }
+        keep_for(&mut queue.hashes, peer, l.count, hash, filling);
+        Issued { queue, id, filling }
     }
 
     // Releases the oldest request of a peer by the Response to it.
     pub fn answer(self, peer: u32, message: &[u8]) -> Answered
         ensures { result ≡ answer_of self peer message.now }
     {
-        let a = self.admission(peer);
-        let Admission::Held(_) = a else {
+        if let Err(r) = self.admission(peer) {
             return Answered {
                 queue: self,
-                arrival: Arrival::Refused(a.refusal()),
+                arrival: Err(r),
             };
-        };
+        }
         let at = (peer - 1) as usize;
         let waiting = self.links[at];
-        let x = waiting.answer(message);
-        let link = x.link;
-        let release = x.release;
-        let mut hashes = self.hashes;
-        let arrival = settle_for(&mut hashes, peer, message, release);
+        let LinkAnswered { link, release } = waiting.answer(message);
         let mut queue = self;
         queue.links[at] = link;
-        queue.hashes = hashes;
+        let arrival = settle_for(&mut queue.hashes, peer, message, release);
         Answered { queue, arrival }
     }
 
@@ -233,23 +176,20 @@ impl RequestQueue {
     pub fn drop_link(self, peer: u32) -> Emptied
         ensures { result ≡ drop_of self peer }
     {
-        let a = self.admission(peer);
-        let Admission::Held(_) = a else {
+        if let Err(r) = self.admission(peer) {
             return Emptied {
                 queue: self,
-                verdict: Verdict::Refused(a.refusal()),
+                verdict: Err(r),
             };
-        };
+        }
         let at = (peer - 1) as usize;
-        let l = self.links[at];
-        let gone = l.emptied();
-        let mut hashes = self.hashes;
-        forget_for(&mut hashes, peer);
-        let mut links = self.links;
-        links[at] = gone;
+        let gone = self.links[at].emptied();
+        let mut queue = self;
+        queue.links[at] = gone;
+        forget_for(&mut queue.hashes, peer);
         Emptied {
-            queue: RequestQueue { links, hashes },
-            verdict: Verdict::Accepted,
+            queue,
+            verdict: Ok(()),
         }
     }
 }

@@ -1,27 +1,23 @@
 // The calls, each with its line.
 use crate::line;
-use queue::{RequestQueue, Window};
+use lines::Hex;
+use queue::{Answered, Emptied, Issued, RequestQueue};
 use std::io;
-use xdr::Filling;
 
-pub fn open(rt: &impl Print, windows: [Window; 4]) -> io::Result<RequestQueue> {
+pub fn open(rt: &impl Print, windows: [Option<u32>; 4]) -> io::Result<RequestQueue> {
     line::opening(rt, windows)?;
-    let d = RequestQueue::open(windows);
-    let o = d.verdict;
-    line::verdict(rt, o)?;
-    let q = d.queue;
-    line::opened(rt, q)?;
-    Ok(q)
+    let Emptied { queue, verdict } = RequestQueue::open(windows);
+    line::verdict(rt, verdict)?;
+    line::opened(rt, queue)?;
+    Ok(queue)
 }
 
 pub fn drop_link(rt: &impl Print, q: RequestQueue, peer: u32) -> io::Result<RequestQueue> {
-    line::call(rt, peer, b" drop: ")?;
-    let d = q.drop_link(peer);
-    let o = d.verdict;
-    line::verdict(rt, o)?;
-    let q = d.queue;
-    line::outstanding(rt, q, peer)?;
-    Ok(q)
+    print!(rt; "peer {peer} drop: ")?;
+    let Emptied { queue, verdict } = q.drop_link(peer);
+    line::verdict(rt, verdict)?;
+    line::outstanding(rt, queue, peer)?;
+    Ok(queue)
 }
 
 // The hash of so many bytes 0xd7, which `answer` brings. More than 16 are never answered with data: for those it is any hash.
@@ -29,9 +25,7 @@ fn asked(size: u32) -> [u8; 32] {
     if 16 < size {
         return [0xa7u8; 32];
     }
-    let data = [0xd7u8; 16];
-    let n = size as usize;
-    sha256::digest(&data[0..n])
+    sha256::digest(&[0xd7u8; 16][..size as usize])
 }
 
 // Asks for the first bytes of the file "a" in the repository "r".
@@ -47,20 +41,16 @@ pub fn issue_into(
     size: u32,
     room: usize,
 ) -> io::Result<RequestQueue> {
-    line::call(rt, peer, b" issue ")?;
-    lines::number(rt, size as u64)?;
-    lines::text(rt, b" bytes: ")?;
+    print!(rt; "peer {peer} issue {size} bytes: ")?;
     let mut out = [0u8; 68];
     if 68 < room {
         return Ok(q);
     }
     let hash = asked(size);
-    let d = q.issue(peer, b"r", b"a", 0, size, &hash, &mut out[0..room]);
-    let w = d.filling;
-    line::issued(rt, d.id, w)?;
-    let q = d.queue;
-    line::outstanding(rt, q, peer)?;
-    Ok(q)
+    let Issued { queue, id, filling } = q.issue(peer, b"r", b"a", 0, size, &hash, &mut out[..room]);
+    line::issued(rt, id, filling)?;
+    line::outstanding(rt, queue, peer)?;
+    Ok(queue)
 }
 
 // Two requests of one Length.
@@ -70,15 +60,11 @@ pub fn twice(rt: &impl Print, q: RequestQueue, peer: u32, size: u32) -> io::Resu
 }
 
 pub fn message(rt: &impl Print, q: RequestQueue, peer: u32, s: &[u8]) -> io::Result<RequestQueue> {
-    line::call(rt, peer, b" answer ")?;
-    lines::bytes(rt, s)?;
-    lines::text(rt, b": ")?;
-    let d = q.answer(peer, s);
-    let o = d.arrival;
-    line::arrival(rt, o)?;
-    let q = d.queue;
-    line::outstanding(rt, q, peer)?;
-    Ok(q)
+    print!(rt; "peer {peer} answer {}: ", Hex(s))?;
+    let Answered { queue, arrival } = q.answer(peer, s);
+    line::arrival(rt, arrival)?;
+    line::outstanding(rt, queue, peer)?;
+    Ok(queue)
 }
 
 // A Response with so many bytes of data, up to 16.
@@ -95,13 +81,13 @@ fn response(
     }
     let mut out = [0u8; 24];
     let data = [byte; 16];
-    let Filling::Filled(m) = message_write::write_response(&mut out, id, &data[0..n]) else {
+    let Ok(m) = message_write::write_response(&mut out, id, &data[..n]) else {
         return Ok(q);
     };
     if 24 < m {
         return Ok(q);
     }
-    message(rt, q, peer, &out[0..m])
+    message(rt, q, peer, &out[..m])
 }
 
 // The bytes that were asked for, where they are as many.
@@ -137,18 +123,10 @@ pub fn pairs(q: RequestQueue, peer: u32, times: u32) -> RequestQueue {
 
 fn pair(q: RequestQueue, peer: u32) -> RequestQueue {
     let mut out = [0u8; 68];
-    let d = q.issue(peer, b"r", b"a", 0, 5, &[0xa7u8; 32], &mut out);
-    let q = d.queue;
-    let w = d.filling;
-    let Filling::Filled(_) = w else {
-        return q;
-    };
-    answered(q, peer, d.id)
-}
-
-fn answered(q: RequestQueue, peer: u32, id: u32) -> RequestQueue {
-    let mut out = [0u8; 8];
-    message_write::write_response(&mut out, id, b"");
-    let d = q.answer(peer, &out);
-    d.queue
+    let Issued { queue, id, filling } = q.issue(peer, b"r", b"a", 0, 5, &[0xa7u8; 32], &mut out);
+    let mut reply = [0u8; 8];
+    if filling.is_err() || message_write::write_response(&mut reply, id, b"").is_err() {
+        return queue;
+    }
+    queue.answer(peer, &reply).queue
 }

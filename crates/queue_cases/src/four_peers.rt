@@ -1,6 +1,6 @@
 // The requests of four peers under one byte allowance.
 use crate::calls;
-use queue::{RequestQueue, Window};
+use queue::RequestQueue;
 use std::io;
 
 pub fn run(rt: &impl Print) -> io::Result<()> {
@@ -15,7 +15,7 @@ pub fn run(rt: &impl Print) -> io::Result<()> {
 
 // The default for all four.
 pub fn open(rt: &impl Print) -> io::Result<RequestQueue> {
-    calls::open(rt, [Window::Default; 4])
+    calls::open(rt, [None; 4])
 }
 
 // A request of one Length for each.
@@ -28,7 +28,7 @@ fn each(rt: &impl Print, q: RequestQueue, size: u32) -> io::Result<RequestQueue>
 
 // Four hold all of it, and no window is full. What an answer to one of them frees, another takes.
 fn allowance(rt: &impl Print) -> io::Result<()> {
-    lines::text(rt, b"common allowance\n")?;
+    println!(rt; "common allowance")?;
     let q = each(rt, each(rt, open(rt)?, 131072)?, 1)?;
     let q = calls::answer(rt, q, 2, 0, 0)?;
     let q = calls::issue(rt, q, 3, 131072)?;
@@ -38,7 +38,7 @@ fn allowance(rt: &impl Print) -> io::Result<()> {
 
 // One peer holds all of it, with a full window: 16 comes for that one, and 17 for another.
 fn both_full(rt: &impl Print) -> io::Result<()> {
-    lines::text(rt, b"window and allowance full\n")?;
+    println!(rt; "window and allowance full")?;
     let q = calls::twice(rt, open(rt)?, 1, 131072)?;
     let q = calls::twice(rt, q, 1, 131072)?;
     let q = calls::issue(rt, q, 1, 1)?;
@@ -47,16 +47,8 @@ fn both_full(rt: &impl Print) -> io::Result<()> {
 }
 
 fn windows(rt: &impl Print) -> io::Result<()> {
-    lines::text(rt, b"own windows\n")?;
-    let q = calls::open(
-        rt,
-        [
-            Window::Stated(1),
-            Window::Stated(2),
-            Window::Default,
-            Window::Stated(16),
-        ],
-    )?;
+    println!(rt; "own windows")?;
+    let q = calls::open(rt, [Some(1), Some(2), None, Some(16)])?;
     let q = calls::twice(rt, q, 1, 5)?;
     let q = calls::issue(rt, calls::twice(rt, q, 2, 5)?, 2, 5)?;
     let q = calls::twice(rt, calls::twice(rt, q, 3, 5)?, 3, 5)?;
@@ -68,7 +60,7 @@ fn windows(rt: &impl Print) -> io::Result<()> {
 
 // An answer goes by the oldest request of the peer that it comes from, with its ID, Length and hash.
 fn own(rt: &impl Print) -> io::Result<()> {
-    lines::text(rt, b"own IDs and oldest requests\n")?;
+    println!(rt; "own IDs and oldest requests")?;
     let q = calls::issue(rt, open(rt)?, 1, 5)?;
     let q = calls::issue(rt, q, 1, 7)?;
     let q = calls::issue(rt, q, 2, 7)?;
@@ -83,7 +75,7 @@ fn own(rt: &impl Print) -> io::Result<()> {
 
 // Frees the requests of one and no others; its next ID goes on.
 fn drops(rt: &impl Print) -> io::Result<()> {
-    lines::text(rt, b"one peer dropped\n")?;
+    println!(rt; "one peer dropped")?;
     let q = calls::issue(rt, open(rt)?, 1, 5)?;
     let q = calls::issue(rt, q, 2, 7)?;
     let q = calls::issue(rt, q, 2, 131072)?;
@@ -99,7 +91,7 @@ fn drops(rt: &impl Print) -> io::Result<()> {
 
 // Then the whole allowance is free.
 fn all_dropped(rt: &impl Print) -> io::Result<()> {
-    lines::text(rt, b"all four dropped\n")?;
+    println!(rt; "all four dropped")?;
     let q = each(rt, open(rt)?, 131072)?;
     let q = calls::drop_link(rt, q, 1)?;
     let q = calls::drop_link(rt, q, 2)?;
@@ -112,12 +104,11 @@ fn all_dropped(rt: &impl Print) -> io::Result<()> {
 
 // One window that is not 1 to 16 refuses them all.
 fn openings(rt: &impl Print) -> io::Result<()> {
-    lines::text(rt, b"openings for four\n")?;
-    let none = Window::Default;
-    calls::open(rt, [Window::Stated(16), Window::Stated(1), none, none])?;
-    calls::open(rt, [none, Window::Stated(17), none, Window::Stated(16)])?;
-    calls::open(rt, [none, none, Window::Stated(0), none])?;
-    let q = calls::open(rt, [Window::Stated(16), none, none, Window::Stated(17)])?;
+    println!(rt; "openings for four")?;
+    calls::open(rt, [Some(16), Some(1), None, None])?;
+    calls::open(rt, [None, Some(17), None, Some(16)])?;
+    calls::open(rt, [None, None, Some(0), None])?;
+    let q = calls::open(rt, [Some(16), None, None, Some(17)])?;
     calls::issue(rt, q, 1, 5)?;
     Ok(())
 }

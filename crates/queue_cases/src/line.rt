@@ -1,143 +1,97 @@
 // What a line is made of.
-use link::{Arrival, Link, Tally};
-use queue::{RequestQueue, Verdict, Window};
-use std::io;
-use xdr::Filling;
+use link::Arrival;
+use queue::RequestQueue;
+use std::{fmt, io};
+use xdr::Refusal;
 
-// The peer that a call is for, and which call it is.
-pub fn call(rt: &impl Print, peer: u32, name: &[u8]) -> io::Result<()> {
-    lines::text(rt, b"peer ")?;
-    lines::number(rt, peer as u64)?;
-    lines::text(rt, name)
-}
-
-fn held(rt: &impl Print, l: Link) -> io::Result<()> {
-    lines::text(rt, b"outstanding ")?;
-    lines::number(rt, l.outstanding() as u64)?;
-    lines::text(rt, b" of ")?;
-    lines::number(rt, l.outstanding_bytes())?;
-    lines::text(rt, b" bytes")
-}
-
-// Of one peer, where there is such a one.
+// What is outstanding for a peer, where there is such a one.
 fn own(rt: &impl Print, q: RequestQueue, peer: u32) -> io::Result<()> {
     if !queue::is_peer(peer) {
-        return lines::text(rt, b"no such peer");
+        return print!(rt; "no such peer");
     }
-    let at = (peer - 1) as usize;
-    let l = q.links[at];
-    held(rt, l)
+    let l = q.links[(peer - 1) as usize];
+    print!(rt;
+        "outstanding {} of {} bytes",
+        l.outstanding(),
+        l.outstanding_bytes()
+    )
 }
 
-// What is outstanding for a peer, the bytes of all four, and the end of the line. A queue that is not sound has no common total.
+// The same, the bytes of all four, and the end of the line. A queue that is not sound has no common total.
 pub fn outstanding(rt: &impl Print, q: RequestQueue, peer: u32) -> io::Result<()> {
-    lines::text(rt, b"; ")?;
+    print!(rt; "; ")?;
     own(rt, q, peer)?;
-    lines::text(rt, b", ")?;
     match q.sound_bytes() {
-        Tally::Bytes(n) => {
-            lines::number(rt, n as u64)?;
-            lines::text(rt, b" in all\n")
+        Some(n) => println!(rt; ", {n} in all"),
+        None => println!(rt; ", queue not sound"),
+    }
+}
+
+// A window, stated or not.
+#[derive(Clone, Copy)]
+struct Window(Option<u32>);
+
+impl fmt::Display for Window {
+    fn fmt<W: fmt::Write>(&self, f: &mut fmt::Formatter<W>) -> fmt::Result {
+        match self.0 {
+            Some(n) => write!(f, "{n}"),
+            None => write!(f, "default"),
         }
-        Tally::Unsound => lines::text(rt, b"queue not sound\n"),
     }
-}
-
-fn window(rt: &impl Print, w: Window) -> io::Result<()> {
-    match w {
-        Window::Stated(n) => lines::number(rt, n as u64),
-        Window::Default => lines::text(rt, b"default"),
-    }
-}
-
-fn next_window(rt: &impl Print, w: Window) -> io::Result<()> {
-    lines::text(rt, b", ")?;
-    window(rt, w)
-}
-
-fn four(rt: &impl Print, windows: [Window; 4]) -> io::Result<()> {
-    let a = windows[0];
-    let b = windows[1];
-    let c = windows[2];
-    let d = windows[3];
-    window(rt, a)?;
-    next_window(rt, b)?;
-    next_window(rt, c)?;
-    next_window(rt, d)
 }
 
 // The windows that an opening is given.
-pub fn opening(rt: &impl Print, windows: [Window; 4]) -> io::Result<()> {
-    lines::text(rt, b"open with windows ")?;
-    four(rt, windows)?;
-    lines::text(rt, b": ")
+pub fn opening(rt: &impl Print, windows: [Option<u32>; 4]) -> io::Result<()> {
+    let [a, b, c, d] = windows;
+    print!(rt;
+        "open with windows {}, {}, {}, {}: ",
+        Window(a),
+        Window(b),
+        Window(c),
+        Window(d)
+    )
 }
 
 // The windows after an opening, and the end of the line.
 pub fn opened(rt: &impl Print, q: RequestQueue) -> io::Result<()> {
-    lines::text(rt, b"; windows now ")?;
-    let a = q.links[0];
-    let b = q.links[1];
-    let c = q.links[2];
-    let d = q.links[3];
-    four(
-        rt,
-        [
-            Window::Stated(a.window),
-            Window::Stated(b.window),
-            Window::Stated(c.window),
-            Window::Stated(d.window),
-        ],
-    )?;
-    lines::text(rt, b"\n")
+    let [a, b, c, d] = q.links;
+    println!(rt;
+        "; windows now {}, {}, {}, {}",
+        a.window, b.window, c.window, d.window
+    )
 }
 
-fn refused(rt: &impl Print, number: u32, place: usize) -> io::Result<()> {
-    lines::text(rt, b"refused ")?;
-    lines::number(rt, number as u64)?;
-    lines::text(rt, b" at ")?;
-    lines::number(rt, place as u64)
+fn refused(rt: &impl Print, r: Refusal) -> io::Result<()> {
+    print!(rt; "refused {} at {}", r.number, r.place)
 }
 
-pub fn verdict(rt: &impl Print, o: Verdict) -> io::Result<()> {
+pub fn verdict(rt: &impl Print, o: Result<(), Refusal>) -> io::Result<()> {
     match o {
-        Verdict::Accepted => lines::text(rt, b"made"),
-        Verdict::Refused(r) => refused(rt, r.number, r.place),
+        Ok(()) => print!(rt; "made"),
+        Err(r) => refused(rt, r),
     }
 }
 
-pub fn issued(rt: &impl Print, id: u32, w: Filling) -> io::Result<()> {
+pub fn issued(rt: &impl Print, id: u32, w: Result<usize, Refusal>) -> io::Result<()> {
     match w {
-        Filling::Filled(n) => {
-            lines::text(rt, b"ID ")?;
-            lines::number(rt, id as u64)?;
-            lines::text(rt, b" in ")?;
-            lines::number(rt, n as u64)?;
-            lines::text(rt, b" bytes")
-        }
-        Filling::Refused(r) => refused(rt, r.number, r.place),
+        Ok(n) => print!(rt; "ID {id} in {n} bytes"),
+        Err(r) => refused(rt, r),
     }
 }
 
-pub fn arrival(rt: &impl Print, o: Arrival) -> io::Result<()> {
+pub fn arrival(rt: &impl Print, o: Result<Arrival, Refusal>) -> io::Result<()> {
     match o {
-        Arrival::Data { id, size, data: d } => {
-            request(rt, b"data", id, size)?;
-            lines::text(rt, b" at ")?;
-            lines::number(rt, d.start as u64)
+        Ok(Arrival::Data { id, size, data: d }) => {
+            request(rt, "data", id, size)?;
+            print!(rt; " at {}", d.start)
         }
-        Arrival::NotAvailable { id, size } => request(rt, b"not available", id, size),
-        Arrival::WrongSize { id, size } => request(rt, b"wrong size", id, size),
-        Arrival::WrongContent { id, size } => request(rt, b"wrong content", id, size),
-        Arrival::Refused(r) => refused(rt, r.number, r.place),
+        Ok(Arrival::NotAvailable { id, size }) => request(rt, "not available", id, size),
+        Ok(Arrival::WrongSize { id, size }) => request(rt, "wrong size", id, size),
+        Ok(Arrival::WrongContent { id, size }) => request(rt, "wrong content", id, size),
+        Err(r) => refused(rt, r),
     }
 }
 
-fn request(rt: &impl Print, outcome: &[u8], id: u32, size: u32) -> io::Result<()> {
-    lines::text(rt, outcome)?;
-    lines::text(rt, b" for ID ")?;
-    lines::number(rt, id as u64)?;
-    lines::text(rt, b" of ")?;
-    lines::number(rt, size as u64)?;
-    lines::text(rt, b" bytes")
+fn request(rt: &impl Print, outcome: &str, id: u32, size: u32) -> io::Result<()> {
+    print!(rt; "{outcome} for ID {id} of {size} bytes")
 }

@@ -1,20 +1,19 @@
 // The requests of one peer, while the others have none.
 use crate::calls;
-use queue::{RequestQueue, Window};
+use queue::RequestQueue;
 use std::io;
 
 // The window of peer 1 stated, and no other.
 fn open_with(rt: &impl Print, window: u32) -> io::Result<RequestQueue> {
-    let none = Window::Default;
-    calls::open(rt, [Window::Stated(window), none, none, none])
+    calls::open(rt, [Some(window), None, None, None])
 }
 
 pub fn run(rt: &impl Print) -> io::Result<()> {
-    lines::text(rt, b"no window stated\n")?;
-    allowance(rt, calls::open(rt, [Window::Default; 4])?)?;
-    lines::text(rt, b"window 16\n")?;
+    println!(rt; "no window stated")?;
+    allowance(rt, calls::open(rt, [None; 4])?)?;
+    println!(rt; "window 16")?;
     allowance(rt, open_with(rt, 16)?)?;
-    lines::text(rt, b"window 4\n")?;
+    println!(rt; "window 4")?;
     allowance(rt, open_with(rt, 4)?)?;
     ids(rt)?;
     outcomes(rt)?;
@@ -47,7 +46,7 @@ fn again(
 
 // 4,096 issues and answers use every ID.
 fn ids(rt: &impl Print) -> io::Result<()> {
-    lines::text(rt, b"IDs\n")?;
+    println!(rt; "IDs")?;
     let q = calls::pairs(open_with(rt, 16)?, 1, 4095);
     let q = calls::twice(rt, q, 1, 5)?;
     let q = calls::answer(rt, q, 1, 0, 5)?;
@@ -58,7 +57,7 @@ fn ids(rt: &impl Print) -> io::Result<()> {
 
 // Data, none, or too little: each frees the room.
 fn outcomes(rt: &impl Print) -> io::Result<()> {
-    lines::text(rt, b"outcomes\n")?;
+    println!(rt; "outcomes")?;
     let q = calls::twice(rt, open_with(rt, 1)?, 1, 5)?;
     let q = again(rt, q, 0, 5, 5)?;
     let q = again(rt, q, 1, 0, 5)?;
@@ -76,7 +75,7 @@ fn others(rt: &impl Print, q: RequestQueue) -> io::Result<()> {
 
 // Data of the right length with another hash, which frees the room too. Each answer is held to the hash of its own request.
 fn contents(rt: &impl Print) -> io::Result<()> {
-    lines::text(rt, b"contents\n")?;
+    println!(rt; "contents")?;
     let q = calls::twice(rt, open_with(rt, 1)?, 1, 5)?;
     let q = calls::answer_otherwise(rt, q, 1, 0, 5)?;
     let q = calls::issue(rt, q, 1, 5)?;
@@ -98,7 +97,7 @@ fn each(rt: &impl Print, q: RequestQueue) -> io::Result<()> {
 }
 
 fn drops(rt: &impl Print) -> io::Result<()> {
-    lines::text(rt, b"drops\n")?;
+    println!(rt; "drops")?;
     let q = calls::issue(rt, open_with(rt, 2)?, 1, 131072)?;
     let q = calls::issue(rt, q, 1, 7)?;
     let q = calls::drop_link(rt, q, 1)?;
@@ -109,7 +108,7 @@ fn drops(rt: &impl Print) -> io::Result<()> {
 
 // A refused issue uses no ID.
 fn refused_issues(rt: &impl Print) -> io::Result<()> {
-    lines::text(rt, b"refused issues\n")?;
+    println!(rt; "refused issues")?;
     let q = open_with(rt, 16)?;
     let q = calls::issue_into(rt, q, 1, 5, 67)?;
     let q = calls::issue(rt, q, 1, 0)?;
@@ -120,7 +119,7 @@ fn refused_issues(rt: &impl Print) -> io::Result<()> {
 
 // A window that is not 1 to 16.
 fn openings(rt: &impl Print) -> io::Result<()> {
-    lines::text(rt, b"openings\n")?;
+    println!(rt; "openings")?;
     let q = open_with(rt, 0)?;
     let q = calls::issue(rt, q, 1, 5)?;
     let q = calls::answer(rt, q, 1, 0, 0)?;

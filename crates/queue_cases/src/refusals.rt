@@ -1,13 +1,13 @@
 // Calls for a peer that there is not, and queues that no calls give: 23, then 22, before anything else.
 use crate::{calls, four_peers};
 use link::{Link, Request};
-use queue::{RequestQueue, Window};
+use queue::RequestQueue;
 use std::io;
 
 pub fn run(rt: &impl Print) -> io::Result<()> {
-    lines::text(rt, b"peers 0 and 5\n")?;
+    println!(rt; "peers 0 and 5")?;
     strangers(rt, calls::issue(rt, four_peers::open(rt)?, 1, 5)?)?;
-    strangers(rt, calls::open(rt, [Window::Stated(0); 4])?)?;
+    strangers(rt, calls::open(rt, [Some(0); 4])?)?;
     unsound_peer(rt)?;
     totals(rt)
 }
@@ -34,7 +34,7 @@ fn queue_of(links: [Link; 4]) -> RequestQueue {
 
 // The call is for a peer whose own list is sound, or for the one whose isn't, or for none.
 fn unsound_peer(rt: &impl Print) -> io::Result<()> {
-    lines::text(rt, b"given: ID 3 before the next ID 5 for peer 2\n")?;
+    println!(rt; "given: ID 3 before the next ID 5 for peer 2")?;
     let sound = Link::empty(4);
     let unsound = Link {
         window: 16,
@@ -66,14 +66,11 @@ fn holding(first: u32, second: u32) -> Link {
 
 // Four lists that are sound each by itself, with as many bytes together as are allowed, and with one more.
 fn totals(rt: &impl Print) -> io::Result<()> {
-    lines::text(rt, b"given: 131072 bytes for each\n")?;
+    println!(rt; "given: 131072 bytes for each")?;
     let l = holding(65536, 65536);
     let q = calls::issue(rt, queue_of([l; 4]), 1, 1)?;
     calls::drop_link(rt, q, 4)?;
-    lines::text(
-        rt,
-        b"given: 131073 bytes for peer 4, and 131072 for each other\n",
-    )?;
+    println!(rt; "given: 131073 bytes for peer 4, and 131072 for each other")?;
     let q = queue_of([l, l, l, holding(65536, 65537)]);
     let q = calls::issue(rt, q, 1, 1)?;
     let q = calls::answer(rt, q, 2, 0, 0)?;

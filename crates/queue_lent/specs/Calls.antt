@@ -1,4 +1,6 @@
 -- What the calls on a lent queue give: the same as on the queue that words and hashes are.
+use Rattle.std.specs.declared.result.Result.{Result}
+use Rattle.xdr.specs.declared.answer.Refusal.{Refusal}
 use Rattle.std.specs.Prelude.{ℕ, ◌+◌, List, [], ◌∷◌, ◌≡◌, length}
 use Rattle.xdr.specs.Filling.{in_room, Fills}
 use Rattle.link.specs.Requests.{total}
@@ -8,7 +10,6 @@ use Rattle.link.specs.declared.outcome.Arrival.{Arrival}
 use Rattle.queue.specs.Queue.{common, issue_outcome, issued_queue, id_of, answer_of}
 use Rattle.queue.specs.declared.queue.RequestQueue.{RequestQueue}
 use Rattle.queue.specs.declared.outcome.Emptied.{Emptied}
-use Rattle.queue.specs.declared.outcome.Verdict.{Verdict}
 use Rattle.queue_lent.specs.Words.{queue_of, words_of}
 use Rattle.queue_lent.specs.declared.calls.LentIssued.{LentIssued}
 
@@ -18,7 +19,7 @@ pub record Lends (q : RequestQueue) (words hashes : List ℕ) : Type 0 where
   pub hashes_are : hashes ≡ q.hashes
 
 -- what an opening or a drop promises
-pub record LentEmpties (d : Emptied) (v : Verdict) (words hashes : List ℕ) : Type 0 where
+pub record LentEmpties (d : Emptied) (v : Result (Unit {0}) Refusal) (words hashes : List ℕ) : Type 0 where
   pub verdict : v ≡ d.verdict
   pub queue : Lends d.queue words hashes
 
@@ -29,7 +30,7 @@ pub record LentIssues (ws hs : List ℕ) (p : ℕ) (body : List ℕ) (size : ℕ
   pub queue : Lends (issued_queue (queue_of ws hs) p size hash (in_room (length out) (issue_outcome (queue_of ws hs) p body size))) words hashes
 
 -- what an answer to it promises
-pub record LentAnswers (ws hs : List ℕ) (p : ℕ) (message : List ℕ) (v : Arrival) (words hashes : List ℕ) : Type 0 where
+pub record LentAnswers (ws hs : List ℕ) (p : ℕ) (message : List ℕ) (v : Result Arrival Refusal) (words hashes : List ℕ) : Type 0 where
   pub arrival : v ≡ (answer_of (queue_of ws hs) p message).arrival
   pub queue : Lends (answer_of (queue_of ws hs) p message).queue words hashes
 

@@ -7,8 +7,9 @@ ghost use Rattle.queue_lent.specs.Words.{link_size, link_in, link_words, queue_o
 ghost use Rattle.queue_lent.specs.Steps.{stored_all};
 
 use crate::words::{lay_out, taken_up, tally};
-use link::{Link, Tally};
-use queue::{Admission, RequestQueue, is_peer};
+use link::Link;
+use queue::{RequestQueue, is_peer};
+use xdr::Refusal;
 
 // The link of a peer.
 pub(crate) fn link_of(words: &[u32], peer: u32) -> Link
@@ -35,53 +36,42 @@ pub(crate) fn store_all(words: &mut [u32], links: [Link; 4])
     requires { length words.old ≡ 140 }
     ensures { words.new ≡ stored_all words.old links }
 {
-    let a = links[0];
-    let b = links[1];
-    let c = links[2];
-    let d = links[3];
+    let [a, b, c, d] = links;
     store(words, 1, a);
     store(words, 2, b);
     store(words, 3, c);
     store(words, 4, d);
 }
 
-// The bytes outstanding of all four links of a sound queue, or that it is none.
-fn sound_bytes(words: &[u32]) -> Tally
+// The bytes outstanding of all four links of a sound queue.
+fn sound_bytes(words: &[u32]) -> Option<u32>
     requires { length words.now ≡ 140 }
     ensures { result ≡ sound_bytes (queue_of words.now []) }
 {
-    let mut sum: u32 = 0;
-    let mut i = 4;
-    while 0 < i {
-        i = i - 1;
+    let mut sum = 0;
+    for i in 0..4 {
         let at = i * 35;
-        let end = at + 35;
-        let Tally::Bytes(n) = tally(&words[at..end]) else {
-            return Tally::Unsound;
-        };
-        sum = sum + n;
+        let n = tally(&words[at..at + 35])?;
+        sum += n;
     }
     if RequestQueue::ALLOWANCE < sum {
-        return Tally::Unsound;
+        return None;
     }
-    Tally::Bytes(sum)
+    Some(sum)
 }
 
-// What stands first in every call for a peer: 23, then 22.
-pub(crate) fn admission_in(words: &[u32], peer: u32) -> Admission
+// What stands first in every call for a peer: 23, then 22, or else the bytes held.
+pub(crate) fn admission_in(words: &[u32], peer: u32) -> Result<u32, Refusal>
     requires { length words.now ≡ 140 }
     ensures { result ≡ admission (queue_of words.now []) peer }
 {
     if !is_peer(peer) {
-        return Admission::Refused(23);
+        return Err(Refusal::at_start(23));
     }
-    match sound_bytes(words) {
-        Tally::Bytes(held) => Admission::Held(held),
-        Tally::Unsound => Admission::Refused(22),
-    }
+    sound_bytes(words).ok_or(Refusal::at_start(22))
 }
 
-// The next ID of a peer, 0 where there is no such peer.
+// The next ID of a peer, 0 where there is no such peer: a number in any case, by the definition `id_of`.
 pub(crate) fn next_of(words: &[u32], peer: u32) -> u32
     requires { length words.now ≡ 140 }
     ensures { result ≡ id_of (queue_of words.now []) peer }
@@ -89,6 +79,5 @@ pub(crate) fn next_of(words: &[u32], peer: u32) -> u32
     if !is_peer(peer) {
         return 0;
     }
-    let link = link_of(words, peer);
-    link.next
+    link_of(words, peer).next
 }

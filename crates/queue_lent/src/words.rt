@@ -7,7 +7,7 @@ ghost use Rattle.link.specs.Steps.{orderly_bytes};
 ghost use Rattle.queue_lent.specs.Words.{link_in, link_words, pairs};
 
 use link::request::stands_before;
-use link::{Link, Request, Tally};
+use link::{Link, Request};
 use message::ID_LIMIT;
 
 // The link that words are.
@@ -17,11 +17,10 @@ pub(crate) fn taken_up(words: &[u32]) -> Link
 {
     let mut entries = [Request { id: 0, size: 0 }; 16];
     for i in 0..16 {
-        let e = Request {
+        entries[i] = Request {
             id: words[3 + 2 * i],
             size: words[4 + 2 * i],
         };
-        entries[i] = e;
     }
     Link {
         window: words[0],
@@ -51,46 +50,37 @@ pub(crate) fn lay_out(words: &mut [u32], link: Link)
     words[0] = link.window;
     words[1] = link.next;
     words[2] = link.count;
-    let entries = link.entries;
-    put_entries(words, entries);
+    put_entries(words, link.entries);
 }
 
 // The window, the count and the next ID within their limits.
 fn shape_fits(window: u32, next: u32, count: u32) -> bool
     ensures { result ≡ window_fits window && (leb count window && leb next id_limit) }
 {
-    if !link::window_fits(window) {
-        return false;
-    }
-    if window < count {
-        return false;
-    }
-    next <= ID_LIMIT
+    link::window_fits(window) && count <= window && next <= ID_LIMIT
 }
 
-// The bytes outstanding of a link in order, where it is lent, or that it is not: a link that makes no call isn't taken up.
-pub(crate) fn tally(words: &[u32]) -> Tally
+// The bytes outstanding of a link in order, where it is lent: a link that makes no call isn't taken up.
+pub(crate) fn tally(words: &[u32]) -> Option<u32>
     requires { length words.now ≡ 35 }
     ensures { result ≡ orderly_bytes (link_in words.now) }
 {
     let count = words[2];
     let mut next = words[1];
     if !shape_fits(words[0], next, count) {
-        return Tally::Unsound;
+        return None;
     }
-    let mut sum: u32 = 0;
-    let mut i = count as usize;
-    while 0 < i {
-        i = i - 1;
+    let mut sum = 0;
+    for i in (0..count as usize).rev() {
         let e = Request {
             id: words[3 + 2 * i],
             size: words[4 + 2 * i],
         };
         if !stands_before(e, next) {
-            return Tally::Unsound;
+            return None;
         }
         next = e.id;
-        sum = sum + e.size;
+        sum += e.size;
     }
-    Tally::Bytes(sum)
+    Some(sum)
 }

@@ -1,4 +1,6 @@
 -- Walking a table for the record of a name: what the loop keeps.
+use Rattle.std.specs.Prelude.{Some, None}
+use Rattle.std.specs.declared.option.Option.{Option}
 use Prim.Native.Nat.{ℕ, ◌+◌, ◌≤◌}
 use mathlib.Core.List.{List, [], ◌∷◌}
 use mathlib.Core.Path.{◌≡◌, refl, sym, ap, subst, ◌∙◌}
@@ -10,8 +12,6 @@ use Rattle.order.specs.Order.{is_equal, compare_lists, part}
 use Rattle.record.specs.File.{File}
 use Rattle.record.specs.Outline.{outline_of, fields_of}
 use Rattle.record.specs.declared.outline.RecordFields.{RecordFields}
-use Rattle.record.specs.declared.outline.Outline.{Outline}
-use Rattle.record.specs.declared.outline.Outline.TheVariants as O
 use Rattle.table.specs.Table.{is_good, records}
 use Rattle.table.specs.Steps.Standing.{At}
 use Rattle.table.proofs.TableLaws.{good_table}
@@ -29,12 +29,12 @@ seek_starts t name p g = record { left = records t; here = at_start_lem (good_ta
 
 module _ {t name : List ℕ} {at : ℕ} (w : Seeking t name at) where
   -- no record is left
-  pub seek_ends : {x : Outline} → x ≡ outline_of t at → x ≡ O.Short → At t at (named_from name (records t))
+  pub seek_ends : {x : Option RecordFields} → x ≡ outline_of t at → x ≡ None → At t at (named_from name (records t))
   seek_ends e g =
       let none : w.left ≡ [] = at_short w.here e g in
       subst (At t at) (none ∙ sym (w.same ∙ ap (named_from name) none)) w.here
 
-  module _ {x : Outline} {f : RecordFields} (e : x ≡ outline_of t at) (g : x ≡ O.Whole f) where
+  module _ {x : Option RecordFields} {f : RecordFields} (e : x ≡ outline_of t at) (g : x ≡ Some f) where
     headed : Headed t at w.left f
     headed = at_whole w.here e g
 

@@ -3,10 +3,9 @@ use Prim.Native.Nat.{ℕ}
 use mathlib.Core.List.{List, [], ◌∷◌}
 use mathlib.Core.Path.{◌≡◌, refl, sym, ap, subst, ◌∙◌}
 use mathlib.Core.Bool.{Bool, true, false, cond}
-use native.Mathlib.Omega.{arith}
 use Rattle.order.specs.Order.{is_equal, compare_lists}
-use Rattle.order.specs.declared.compare.Order.{Order}
-use Rattle.order.specs.declared.compare.Order.TheVariants.{Less, Equal, Greater}
+use Rattle.std.specs.declared.cmp.Ordering.{Ordering}
+use Rattle.std.specs.declared.cmp.Ordering.TheVariants.{Less, Equal, Greater}
 use Rattle.order.proofs.OrderLaws.{Below, equal_same, below_irrefl, greater_above}
 use Rattle.record.specs.File.{File}
 use Rattle.record.proofs.RisingLaws.{Above, Rising}
@@ -22,7 +21,7 @@ use Rattle.reason.specs.Steps.{lookup, higher_in}
 other_name : (a b : List ℕ) → Below a b → is_equal (compare_lists b a) ≡ false
 other_name a b h = go (compare_lists b a) refl
   where
-    go : (o : Order) → compare_lists b a ≡ o → is_equal o ≡ false
+    go : (o : Ordering) → compare_lists b a ≡ o → is_equal o ≡ false
     go Less e = refl
     go Equal e = absurd (below_irrefl a (subst (λ (x : List ℕ). Below a x) (equal_same b a e) h))
     go Greater e = refl
@@ -30,10 +29,10 @@ other_name a b h = go (compare_lists b a) refl
 same_name : (a b : List ℕ) → is_equal (compare_lists a b) ≡ true → a ≡ b
 same_name a b h = go (compare_lists a b) refl h
   where
-    go : (o : Order) → compare_lists a b ≡ o → is_equal o ≡ true → a ≡ b
-    go Less e k = let z : ◌≡◌ {A = ℕ} 0 1 = cc in absurd (omega arith)
+    go : (o : Ordering) → compare_lists a b ≡ o → is_equal o ≡ true → a ≡ b
+    go Less e k = cc
     go Equal e k = equal_same a b e
-    go Greater e k = let z : ◌≡◌ {A = ℕ} 0 1 = cc in absurd (omega arith)
+    go Greater e k = cc
 
 -- the first record has the name, or it is looked for among the others
 
@@ -60,7 +59,7 @@ module _ (n : List ℕ) (f : File) where
       m : f.name ≡ n
       m = same_name f.name n e
 
-      go : (o : Order) → compare_lists f.name g.name ≡ o → lookup n (insert higher f l) ≡ higher_in (f ∷ []) (lookup n l)
+      go : (o : Ordering) → compare_lists f.name g.name ≡ o → lookup n (insert higher f l) ≡ higher_in (f ∷ []) (lookup n l)
           → lookup n (placed higher o f g l (insert higher f l)) ≡ higher_in (f ∷ []) (lookup n (g ∷ l))
       go Less q ih = here n f (g ∷ l) e ∙ ap (higher_in (f ∷ [])) (sym (none_above n (g ∷ l) (above_name f.name n (g ∷ l) m q) r))
       go Equal q ih =
@@ -80,7 +79,7 @@ module _ (n : List ℕ) (f : File) where
   insert_other [] e = further n f [] e
   insert_other (g ∷ l) e = go (compare_lists f.name g.name) refl (insert_other l e)
     where
-      go : (o : Order) → compare_lists f.name g.name ≡ o → lookup n (insert higher f l) ≡ lookup n l → lookup n (placed higher o f g l (insert higher f l)) ≡ lookup n (g ∷ l)
+      go : (o : Ordering) → compare_lists f.name g.name ≡ o → lookup n (insert higher f l) ≡ lookup n l → lookup n (placed higher o f g l (insert higher f l)) ≡ lookup n (g ∷ l)
       go Less q ih = further n f (g ∷ l) e
       go Equal q ih =
           let k : f.name ≡ g.name = equal_same f.name g.name q in
@@ -119,7 +118,7 @@ merged_named n t ts s = all_named n t (merged_of ts) s (merged_rising ts)
 
 -- a record that was found by a name has it
 pub lookup_name : (n : List ℕ) (l : List File) {g : File} → lookup n l ≡ g ∷ [] → g.name ≡ n
-lookup_name n [] e = let z : ◌≡◌ {A = ℕ} 0 1 = cc in absurd (omega arith)
+lookup_name n [] e = cc
 lookup_name n (f ∷ l) {g} e = go (is_equal (compare_lists f.name n)) refl e (λ q. lookup_name n l q)
   where
     go : (b : Bool) → is_equal (compare_lists f.name n) ≡ b → cond b (f ∷ []) (lookup n l) ≡ g ∷ [] → (lookup n l ≡ g ∷ [] → g.name ≡ n) → g.name ≡ n

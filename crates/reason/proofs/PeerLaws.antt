@@ -23,7 +23,7 @@ use Rattle.reason.specs.Steps.{named_from}
 
 -- the record of a name has it
 named_first : (name : List ℕ) (l : List File) {f : File} {fs : List File} → named_from name l ≡ f ∷ fs → is_equal (compare_lists f.name name) ≡ true
-named_first name [] e = let z : ◌≡◌ {A = ℕ} 0 1 = cc in absurd (omega arith)
+named_first name [] e = cc
 named_first name (g ∷ l) {f} {fs} e = go (is_equal (compare_lists g.name name)) refl e (λ q. named_first name l q)
   where
     go : (b : Bool) → is_equal (compare_lists g.name name) ≡ b → cond b (g ∷ l) (named_from name l) ≡ f ∷ fs → (named_from name l ≡ f ∷ fs → is_equal (compare_lists f.name name) ≡ true)

@@ -1,4 +1,6 @@
 -- The reason by the record that was found, and by the block of a number.
+use Rattle.std.specs.Prelude.{Ok, Err, Some, None}
+use Rattle.std.specs.declared.option.Option.{Option}
 use Prim.Native.Nat.{ℕ, ◌+◌, ◌≤◌, ◌<◌}
 use mathlib.Core.List.{List, [], ◌∷◌, map}
 use mathlib.Core.Path.{◌≡◌, refl, sym, ap, ◌∙◌}
@@ -11,17 +13,15 @@ use Rattle.xdr.specs.Answers.{at_start}
 use Rattle.order.specs.Order.{is_equal, compare_lists, part}
 use Rattle.record.specs.Block.{Block}
 use Rattle.record.specs.File.{File, is_deleted, is_invalid}
-use Rattle.record.specs.Outline.{word_at, block_place, block_of, offset_of, fields_of}
+use Rattle.record.specs.Outline.{word_at, block_place, block_of, size_of, offset_of, fields_of}
 use Rattle.record.specs.declared.outline.RecordFields.{RecordFields}
-use Rattle.record.specs.declared.outline.BlockOutline.{BlockOutline}
-use Rattle.record.specs.declared.outline.BlockOutline.TheVariants as B
+use Rattle.record.specs.declared.outline.BlockFields.{BlockFields}
 use Rattle.table.specs.Table.{is_good, all_good, records}
 use Rattle.merge.specs.Merged.{merged_of}
 use Rattle.table.specs.Steps.Standing.{At}
 use Rattle.want.specs.Found.{found_from, found_in}
 use Rattle.want.specs.Listing.{block_numbered, block_with}
 use Rattle.want.specs.Wanted.{peer_from}
-use Rattle.want.specs.declared.search.Found.TheVariants as F
 use Rattle.want.proofs.BlockNumberLaws.{numbered_none, outline_whole, numbered_there}
 use Rattle.reason.specs.Reasons.{held_or, why_record, why_named, why_of}
 use Rattle.reason.specs.Steps.{lookup}
@@ -29,9 +29,9 @@ use Rattle.reason.specs.declared.reasons.Reason.{Reason}
 use Rattle.reason.specs.declared.reasons.Reason.TheVariants as R
 
 -- the search in a good table
-pub found_good : (t : List ℕ) (b : Block) → is_good t ≡ true → found_in t b ≡ found_from 0 (records t) b
+pub found_good : (t : List ℕ) (b : Block) → is_good t ≡ true → found_in t b ≡ Ok (found_from 0 (records t) b)
 unfolding found_in
-found_good t b g = ap (λ (x : Bool). cond x (found_from 0 (records t) b) (F.Refused (at_start 15))) g
+found_good t b g = ap (λ (x : Bool). cond x (Ok (found_from 0 (records t) b)) (Err (at_start 15))) g
 
 -- by the record of the name
 pub why_none : (why : File → Reason) (name : List ℕ) (l : List File) → lookup name l ≡ [] → why_named why name l ≡ R.NoSuchName
@@ -39,11 +39,11 @@ why_none why name [] e = refl
 why_none why name (f ∷ l) e = go (is_equal (compare_lists f.name name)) e (λ q. why_none why name l q)
   where
     go : (b : Bool) → cond b (f ∷ []) (lookup name l) ≡ [] → (lookup name l ≡ [] → why_named why name l ≡ R.NoSuchName) → cond b (why f) (why_named why name l) ≡ R.NoSuchName
-    go true q ih = let z : ◌≡◌ {A = ℕ} 0 1 = cc in absurd (omega arith)
+    go true q ih = cc
     go false q ih = ih q
 
 pub why_some : (why : File → Reason) (name : List ℕ) (l : List File) {g : File} → lookup name l ≡ g ∷ [] → why_named why name l ≡ why g
-why_some why name [] e = let z : ◌≡◌ {A = ℕ} 0 1 = cc in absurd (omega arith)
+why_some why name [] e = cc
 why_some why name (f ∷ l) {g} e = go (is_equal (compare_lists f.name name)) e (λ q. why_some why name l q)
   where
     go : (b : Bool) → cond b (f ∷ []) (lookup name l) ≡ g ∷ [] → (lookup name l ≡ g ∷ [] → why_named why name l ≡ why g) → cond b (why f) (why_named why name l) ≡ why g
@@ -51,17 +51,25 @@ why_some why name (f ∷ l) {g} e = go (is_equal (compare_lists f.name name)) e 
     go false q ih = ih q
 
 -- a block by its outline
+
+abbrev pub fields_with : (size hash : ℕ) → BlockFields
+fields_with size hash = record { size = size; hash = hash }
+
+abbrev hash_of : Option BlockFields → ℕ
+hash_of (Some b) = b.hash
+hash_of None = 0
+
 module _ (t : List ℕ) (first n : ℕ) where
-  block_told : {size hash : ℕ} → block_of t first n ≡ B.Whole size hash → (size ≡ word_at t (block_place first n)) × (hash ≡ block_place first n + 8) × (block_place first n + 40 ≤ length t)
+  block_told : {size hash : ℕ} → block_of t first n ≡ Some (fields_with size hash) → (size ≡ word_at t (block_place first n)) × (hash ≡ block_place first n + 8) × (block_place first n + 40 ≤ length t)
   unfolding block_of
   block_told {size} {hash} e = go (leb (block_place first n + 40) (length t)) refl e
     where
-      go : (b : Bool) → leb (block_place first n + 40) (length t) ≡ b → cond b (B.Whole (word_at t (block_place first n)) (block_place first n + 8)) B.Short ≡ B.Whole size hash
+      go : (b : Bool) → leb (block_place first n + 40) (length t) ≡ b → cond b (Some (fields_with (word_at t (block_place first n)) (block_place first n + 8))) None ≡ Some (fields_with size hash)
           → (size ≡ word_at t (block_place first n)) × (hash ≡ block_place first n + 8) × (block_place first n + 40 ≤ length t)
-      go true q k = (cc, cc, leb-true (block_place first n + 40) (length t) q)
-      go false q k = let z : ◌≡◌ {A = ℕ} 0 1 = cc in absurd (omega arith)
+      go true q k = (ap size_of (sym k), ap hash_of (sym k), leb-true (block_place first n + 40) (length t) q)
+      go false q k = cc
 
-  pub block_inside : {size hash : ℕ} → block_of t first n ≡ B.Whole size hash → hash + 32 ≤ length t
+  pub block_inside : {size hash : ℕ} → block_of t first n ≡ Some (fields_with size hash) → hash + 32 ≤ length t
   block_inside e = let w = block_told e in omega (arith, w.1, w.2)
 
 -- the reason by the fields of the highest record
@@ -105,13 +113,13 @@ module _ (local : List File) (peers : List (List File)) (n : ℕ) {f : RecordFie
         there : n < length g.blocks
         there = omega (arith, many)
 
-        at_first : {x : BlockOutline} → block_of t f.first n ≡ x → block_of t (fields_of at g).first n ≡ x
+        at_first : {x : Option BlockFields} → block_of t f.first n ≡ x → block_of t (fields_of at g).first n ≡ x
         at_first q = ap (λ (p : ℕ). block_of t p n) (sym first_is) ∙ q
 
-        pub record_short : {P : Type 0} → block_of t f.first n ≡ B.Short → P
+        pub record_short : {P : Type 0} → block_of t f.first n ≡ None → P
         record_short q = outline_whole w n there (at_first q)
 
-        pub record_block : {size hash : ℕ} → block_of t f.first n ≡ B.Whole size hash → {name : List ℕ} → g.name ≡ name → {offset : ℕ} → offset ≡ offset_of t f.first n → {l : List ℕ} → l ≡ part t hash (hash + 32)
+        pub record_block : {size hash : ℕ} → block_of t f.first n ≡ Some (fields_with size hash) → {name : List ℕ} → g.name ≡ name → {offset : ℕ} → offset ≡ offset_of t f.first n → {l : List ℕ} → l ≡ part t hash (hash + 32)
             → held_or (found_from 0 local (block_with size l)) (peer_from 1 peers name offset (block_with size l)) ≡ why_record local peers n g
         record_block {size} {hash} q {name} m {offset} o {l} p =
             ap (λ (x : List ℕ). held_or (found_from 0 local (block_with size x)) (peer_from 1 peers name offset (block_with size x))) p
@@ -121,10 +129,10 @@ module _ (local : List File) (peers : List (List File)) (n : ℕ) {f : RecordFie
 
 -- by whether the tables are good
 module _ (local : List ℕ) (peers : List (List ℕ)) (name : List ℕ) (n : ℕ) {t : Bool} (e : t ≡ all_good (local ∷ peers)) where
-  pub why_bad : t ≡ false → R.Refused (at_start 15) ≡ why_of local peers name n
+  pub why_bad : t ≡ false → Err (at_start 15) ≡ why_of local peers name n
   unfolding why_of
-  why_bad q = sym (ap (λ (x : Bool). cond x (why_named (why_record (records local) (map records peers) n) name (merged_of (map records (local ∷ peers)))) (R.Refused (at_start 15))) (sym e ∙ q))
+  why_bad q = sym (ap (λ (x : Bool). cond x (Ok (why_named (why_record (records local) (map records peers) n) name (merged_of (map records (local ∷ peers))))) (Err (at_start 15))) (sym e ∙ q))
 
-  pub why_good : t ≡ true → why_of local peers name n ≡ why_named (why_record (records local) (map records peers) n) name (merged_of (map records (local ∷ peers)))
+  pub why_good : t ≡ true → why_of local peers name n ≡ Ok (why_named (why_record (records local) (map records peers) n) name (merged_of (map records (local ∷ peers))))
   unfolding why_of
-  why_good q = ap (λ (x : Bool). cond x (why_named (why_record (records local) (map records peers) n) name (merged_of (map records (local ∷ peers)))) (R.Refused (at_start 15))) (sym e ∙ q)
+  why_good q = ap (λ (x : Bool). cond x (Ok (why_named (why_record (records local) (map records peers) n) name (merged_of (map records (local ∷ peers))))) (Err (at_start 15))) (sym e ∙ q)

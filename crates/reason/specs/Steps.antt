@@ -1,10 +1,12 @@
 -- What only the steps of the code and their proofs need.
-use Rattle.std.specs.Prelude.{ℕ, ◌≤◌, ◌<◌, List, [], ◌∷◌, ◌≡◌, cond, length}
+use Rattle.std.specs.Prelude.{ℕ, ◌<◌, List, [], ◌∷◌, ◌≡◌, cond, Some, None}
+use Rattle.std.specs.declared.option.Option.{Option}
 use Rattle.order.specs.Order.{is_equal, compare_lists}
 use Rattle.record.specs.File.{File}
 use Rattle.table.specs.Steps.Standing.{At}
 use Rattle.merge.specs.Merged.{higher}
 use Rattle.want.specs.Steps.Places.{table_at}
+use Rattle.want.specs.Steps.Head.{Stood}
 use Rattle.reason.specs.declared.highest.Best.{Best}
 
 -- the record of a name, and those after it
@@ -34,8 +36,13 @@ pub record HeadAt (t : List ℕ) (at : ℕ) (l : List File) : Type 0 where
   pub here : At t at left
   pub is : l ≡ first_of left
 
--- where the best record so far stands: in no table, or at a place of one
-pub record BestOf (ts : List (List ℕ)) (b : Best) (l : List File) : Type 0 where
-  pub none : 5 ≤ b.table → l ≡ []
-  pub some : b.table < 5 → HeadAt (table_at ts b.table) b.at l
-  pub one : b.table < 5 → length l ≡ 1
+-- a record that stands in one of the tables, alone
+pub record BestIn (ts : List (List ℕ)) (b : Best) (l : List File) : Type 0 where
+  pub small : b.table < 5
+  pub stood : Stood (table_at ts b.table) b.fields
+  pub is : l ≡ stood.head ∷ []
+
+-- the best record so far: none, or one that stands in a table
+pub record BestOf (ts : List (List ℕ)) (x : Option Best) (l : List File) : Type 0 where
+  pub none : x ≡ None → l ≡ []
+  pub some : (b : Best) → x ≡ Some b → BestIn ts b l

@@ -4,21 +4,17 @@ ghost use Rattle.table.specs.Table.{is_good, records};
 ghost use Rattle.table.specs.Steps.Standing.{At};
 ghost use Rattle.reason.specs.Steps.{named_from};
 
-use record::Outline;
-
 // Where the record of a name stands in a good table, or where the table ends.
 pub(crate) fn find(table: &[u8], name: &[u8]) -> usize
     requires { is_good table.now ≡ true }
     ensures { At table.now result (named_from name.now (records table.now)) }
 {
     let mut at = 4;
-    loop {
-        let Outline::Whole(f) = record::outline_at(table, at) else {
-            return at;
-        };
-        if order::compare_bytes(order::part(table, f.name, f.stop), name).is_equal() {
+    while let Some(f) = record::outline_at(table, at) {
+        if order::compare_bytes(order::part(table, f.name, f.stop), name).is_eq() {
             return at;
         }
         at = f.past;
     }
+    at
 }

@@ -1,5 +1,6 @@
 // Whom to ask for a block.
 ghost use Rattle.std.specs.Prelude.{map, ◌≡◌, drop};
+ghost use Rattle.std.specs.Option.{unwrap_or};
 ghost use Rattle.table.specs.Table.{records};
 ghost use Rattle.want.specs.Listing.{block_with};
 ghost use Rattle.want.specs.Wanted.{peer_from};
@@ -8,18 +9,22 @@ ghost use Rattle.want.specs.Steps.Places.{Five};
 use crate::finding::find;
 use want::places::lists_at;
 
-// The lowest peer that lists a block of a name at an offset, or 0.
-pub(crate) fn lowest(tables: [&[u8]; 5], name: &[u8], offset: u64, size: u32, hash: &[u8]) -> u32
+// The lowest peer that lists a block of a name at an offset, where one does.
+pub(crate) fn lowest(
+    tables: [&[u8]; 5],
+    name: &[u8],
+    offset: u64,
+    size: u32,
+    hash: &[u8],
+) -> Option<u32>
     requires { Five (map (λ x. x.now) tables) }
-    ensures { result ≡ peer_from 1 (map records (drop 1 (map (λ x. x.now) tables.entry))) name.now offset (block_with size hash.now) }
+    ensures { unwrap_or result 0 ≡ peer_from 1 (map records (drop 1 (map (λ x. x.now) tables.entry))) name.now offset (block_with size hash.now) }
 {
-    let mut k = 1;
-    while k < 5 {
+    for k in 1..5usize {
         let t = tables[k];
         if lists_at(t, find(t, name), name, offset, size, hash) {
-            return k as u32;
+            return Some(k as u32);
         }
-        k += 1;
     }
-    0
+    None
 }

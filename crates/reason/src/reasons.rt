@@ -1,5 +1,5 @@
 // The reasons.
-ghost use Rattle.std.specs.Prelude.{List, [], ◌∷◌, map, ◌≡◌, ℕ, drop};
+ghost use Rattle.std.specs.Prelude.{List, [], ◌∷◌, map, ◌≡◌, ℕ, drop, Ok};
 ghost use Rattle.record.specs.File.{File};
 ghost use Rattle.record.specs.Outline.{fields_of};
 ghost use Rattle.table.specs.Table.{records};
@@ -12,9 +12,9 @@ ghost use Rattle.reason.specs.Reasons.{held_or, why_record, why_of};
 
 use crate::highest::highest;
 use crate::peers::lowest;
-use record::{BlockOutline, Outline, RecordFields};
+use record::{BlockFields, RecordFields};
+use want::find_local;
 use want::list::all_good;
-use want::{Found, find_local};
 use xdr::Refusal;
 
 // Why a block isn't coming. A held block stands in a local record, both counted from 0; a wanted one is to be had of a peer.
@@ -26,45 +26,57 @@ pub enum Reason {
     NoSuchBlock,
     Held { record: u32, block: u32 },
     Wanted { peer: u32 },
-    Refused(Refusal),
 }
 
 // A block of a name's highest record, by its offset, its Length and its hash: held or wanted.
-fn by_block(tables: [&[u8]; 5], name: &[u8], offset: u64, size: u32, hash: &[u8]) -> Reason
+fn by_block(
+    tables: [&[u8]; 5],
+    name: &[u8],
+    offset: u64,
+    size: u32,
+    hash: &[u8],
+) -> Result<Reason, Refusal>
     requires { Five (map (λ x. x.now) tables) }
-    ensures { result ≡ held_or (found_from 0 (records (table_at (map (λ x. x.now) tables.entry) 0)) (block_with size hash.now))
-        (peer_from 1 (map records (drop 1 (map (λ x. x.now) tables.entry))) name.now offset (block_with size hash.now)) }
+    ensures { result ≡ Ok (held_or (found_from 0 (records (table_at (map (λ x. x.now) tables.entry) 0)) (block_with size hash.now))
+        (peer_from 1 (map records (drop 1 (map (λ x. x.now) tables.entry))) name.now offset (block_with size hash.now))) }
 {
-    let found = find_local(tables[0], size, hash);
-    match found {
-        Found::At { record, block } => Reason::Held { record, block },
-        Found::Nothing => Reason::Wanted {
-            peer: lowest(tables, name, offset, size, hash),
-        },
-        Found::Refused(r) => Reason::Refused(r),
-    }
+    let Some(found) = find_local(tables[0], size, hash)? else {
+        // In a reason, 0 is no peer.
+        let peer = lowest(tables, name, offset, size, hash).unwrap_or(0);
+        return Ok(Reason::Wanted { peer });
+    };
+    Ok(Reason::Held {
+        record: found.record,
+        block: found.block,
+    })
 }
 
 // A block of the highest record of a name, by its number.
-fn by_record(tables: [&[u8]; 5], t: &[u8], f: RecordFields, name: &[u8], block: u32) -> Reason
+fn by_record(
+    tables: [&[u8]; 5],
+    t: &[u8],
+    f: RecordFields,
+    name: &[u8],
+    block: u32,
+) -> Result<Reason, Refusal>
     requires { Five (map (λ x. x.now) tables) }
     ensures { (at : ℕ) (g : File) (gs : List File) → At t.now at (g ∷ gs) → f ≡ fields_of at g → g.name ≡ name.now
-        → result ≡ why_record (records (table_at (map (λ x. x.now) tables.entry) 0)) (map records (drop 1 (map (λ x. x.now) tables.entry))) block g }
+        → result ≡ Ok (why_record (records (table_at (map (λ x. x.now) tables.entry) 0)) (map records (drop 1 (map (λ x. x.now) tables.entry))) block g) }
 {
     let deleted = record::is_deleted(f.flags);
     let invalid = record::is_invalid(f.flags);
     if deleted {
-        return Reason::Deleted;
+        return Ok(Reason::Deleted);
     }
     if invalid {
-        return Reason::Invalid;
+        return Ok(Reason::Invalid);
     }
     if f.blocks <= block {
-        return Reason::NoSuchBlock;
+        return Ok(Reason::NoSuchBlock);
     }
     let first = f.first;
-    let BlockOutline::Whole { size, hash } = record::block_at(t, first, block) else {
-        return Reason::NoSuchBlock;
+    let Some(BlockFields { size, hash }) = record::block_at(t, first, block) else {
+        return Ok(Reason::NoSuchBlock);
     };
     let offset = record::offset_of(t, first, block);
     by_block(tables, name, offset, size, order::part(t, hash, hash + 32))
@@ -79,22 +91,16 @@ pub fn why<'a>(
     peer4: &'a [u8],
     name: &[u8],
     block: u32,
-) -> Reason
+) -> Result<Reason, Refusal>
     ensures { result ≡ why_of local.now (peer1.now ∷ peer2.now ∷ peer3.now ∷ peer4.now ∷ [])
         name.now block }
 {
     if !all_good(local, peer1, peer2, peer3, peer4) {
-        return Reason::Refused(Refusal::at_start(15));
+        return Err(Refusal::at_start(15));
     }
     let tables = [local, peer1, peer2, peer3, peer4];
-    let best = highest(tables, name);
-    let k = best.table;
-    if 5 <= k {
-        return Reason::NoSuchName;
-    }
-    let t = tables[k];
-    let Outline::Whole(f) = record::outline_at(t, best.at) else {
-        return Reason::NoSuchName;
+    let Some(best) = highest(tables, name) else {
+        return Ok(Reason::NoSuchName);
     };
-    by_record(tables, t, f, name, block)
+    by_record(tables, tables[best.table], best.fields, name, block)
 }

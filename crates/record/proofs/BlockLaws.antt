@@ -1,11 +1,11 @@
 -- Blocks by number: what stands where they were read, and the offset of each.
 use Rattle.std.proofs.Common.{◌≡◌, ℕ, zero, suc, ◌+◌, ◌≤◌, List, [], ◌∷◌, length, take, drop, sym, refl, ◌∙◌, subst, add-zero, arith, drop-cons, eqb-true}
+use Rattle.std.specs.Prelude.{Some}
 use Rattle.xdr.specs.Reading.{taken}
 use Rattle.xdr.proofs.Steps.{Reads, opened, passed, ends_word}
 use Rattle.xdr.proofs.Parts.{Elements, via_parts, pair_parts, test_passed}
 use Rattle.record.specs.Block.{Block, block, total_size}
 use Rattle.record.specs.Outline.{word_at, block_place, block_of, offset_of}
-use Rattle.record.specs.declared.outline.BlockOutline.TheVariants as B
 use Rattle.record.proofs.OutlineLaws.{word_read, block_whole}
 
 -- a block that was read at a place
@@ -49,7 +49,7 @@ nth_block s (a ∷ l) first next (suc i) b m e d =
     subst (λ (p : ℕ). BlockAt s p b (p + 40)) place (nth_block s l e.0 next i b m e.2 d)
 
 pub nth_outline : (s : List ℕ) (l : List Block) (first next i : ℕ) (b : Block) (m : List Block) → Elements block s first l next → drop i l ≡ b ∷ m
-    → block_of s first i ≡ B.Whole b.size (block_place first i + 8)
+    → block_of s first i ≡ Some (record { size = b.size; hash = block_place first i + 8 })
 nth_outline s l first next i b m e d =
     let x = nth_block s l first next i b m e d in
     sym (block_whole s first i b.size (block_place first i + 8) x.size_is refl x.room)

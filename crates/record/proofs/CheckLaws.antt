@@ -1,4 +1,6 @@
 -- Reading files whose names are to rise, one by one: what the loop keeps, and what ends it.
+use Rattle.std.specs.Prelude.{Ok, Err}
+use Rattle.std.specs.declared.result.Result.{Result}
 use Rattle.std.proofs.Common.{◌≡◌, ℕ, ◌+◌, ◌-◌, ◌<◌, ◌≤◌, Bool, true, false, ◌&&◌, eqb, List, [], ◌∷◌, ◌++◌, length, take, drop, sym, refl, ap, ◌∙◌, subst, arith, length-append}
 use Rattle.xdr.specs.Reading.{Reading, taken, refused, shifted, mapped, many}
 use Rattle.xdr.specs.Format.{Format, read, read_at}
@@ -8,11 +10,7 @@ use Rattle.xdr.proofs.Steps.{Reads, answered, ends, part_read_lem, shifted_zero,
 use Rattle.xdr.proofs.Runs.{Run, run_none, run_more, array_read, count_refused, element_refused}
 use Rattle.xdr.proofs.Parts.{via_parts, pair_parts}
 use Rattle.record.specs.File.{File, file, files}
-use Rattle.record.specs.Answers.{file_answer, file_refusal, array_answer}
-use Rattle.record.specs.declared.array.Array.{Array}
-use Rattle.record.specs.declared.array.Array.TheVariants as L
-use Rattle.record.specs.declared.file.FileRead.{FileRead}
-use Rattle.record.specs.declared.file.FileRead.TheVariants as F
+use Rattle.record.specs.Answers.{file_answer, array_answer}
 use Rattle.record.specs.declared.file.FileSpan.{FileSpan}
 use Rattle.record.proofs.Arrays.{part_of, array_done}
 use Rattle.record.proofs.Answered.{file_taken, file_refused}
@@ -59,9 +57,9 @@ name_at_lem {t} {at} {f} {m} h =
       some = name_there h;
     }
 
-abbrev name_length : FileRead → ℕ
-name_length (F.Taken v) = v.name_length
-name_length (F.Refused r) = 0
+abbrev name_length : Result FileSpan Refusal → ℕ
+name_length (Ok v) = v.name_length
+name_length (Err r) = 0
 
 -- the file at a place, and its name, by the answer for the part that begins there
 pub record NextFile (t : List ℕ) (at : ℕ) (v : FileSpan) : Type 0 where
@@ -69,7 +67,7 @@ pub record NextFile (t : List ℕ) (at : ℕ) (v : FileSpan) : Type 0 where
   pub reads : Reads file t at (taken value (at + v.next))
   pub name : NameAt t value (at + 4) (at + 4 + v.name_length)
 
-pub next_file : (t : List ℕ) (at : ℕ) {w : FileRead} {v : FileSpan} → w ≡ file_answer (read_at file (take (length t - at) (drop at t)) 0) → w ≡ F.Taken v → NextFile t at v
+pub next_file : (t : List ℕ) (at : ℕ) {w : Result FileSpan Refusal} {v : FileSpan} → w ≡ file_answer (read_at file (take (length t - at) (drop at t)) 0) → w ≡ Ok v → NextFile t at v
 next_file t at {w} {v} e g =
     let p = part_of file_answer file t at e in
     let q = file_taken p g in
@@ -77,9 +75,9 @@ next_file t at {w} {v} e g =
     let r = part_read_lem q.1 in
     record { value = q.0; reads = r; name = subst (λ (n : ℕ). NameAt t q.0 (at + 4) (at + 4 + n)) long (name_at_lem r) }
 
-pub next_refused : (t : List ℕ) (at : ℕ) {w : FileRead} {r g : Refusal} → w ≡ file_answer (read_at file (take (length t - at) (drop at t)) 0) → w ≡ F.Refused r → g ≡ file_refusal w
+pub next_refused : (t : List ℕ) (at : ℕ) {w : Result FileSpan Refusal} {g : Refusal} → w ≡ file_answer (read_at file (take (length t - at) (drop at t)) 0) → w ≡ Err g
     → Reads file t at (refused g.number (at + g.place))
-next_refused t at e v h = part_read_lem (file_refused (part_of file_answer file t at e) v h)
+next_refused t at e v = part_read_lem (file_refused (part_of file_answer file t at e) v)
 
 -- what the loop keeps: the records so far rise, where they are to, and the name of the last of them is at from..to
 pub record Checked (rising : Bool) (t : List ℕ) (first i next from to : ℕ) : Type 0 where
@@ -156,29 +154,29 @@ module _ {rising : Bool} {t : List ℕ} {first i next from to : ℕ} (c : Checke
       ap (fill_rising (length t)) r ∙ unordered (length t) l (next_rises y ∙ e) (shifted m (many (count - length l) (read file) (drop m t)))
 
 -- what the loop has to answer: what reading gives, and where names are to rise, whether they do
-abbrev pub Answers : (rising : Bool) (limit : ℕ) → List ℕ → Array → Type 0
+abbrev pub Answers : (rising : Bool) (limit : ℕ) → List ℕ → Result (ℕ × ℕ) Refusal → Type 0
 Answers rising limit t r = (rising ≡ false → r ≡ array_answer (read_at (files limit) t 0)) × (rising ≡ true → ends_at (length t) r ≡ is_rising_array limit t)
 
 module _ (rising : Bool) (limit : ℕ) {t : List ℕ} where
-  refused_answers : {k p : ℕ} → Reads (files limit) t 0 (refused k p) → Answers rising limit t (L.Refused (record { number = k; place = p }))
+  refused_answers : {k p : ℕ} → Reads (files limit) t 0 (refused k p) → Answers rising limit t (Err (record { number = k; place = p }))
   refused_answers h = (λ e. answered array_answer h, λ e. sym (rising_by limit t h))
 
   -- the count is refused
-  pub count_answers : {k p : ℕ} → Reads (up_to limit) t 0 (refused k p) → Answers rising limit t (L.Refused (record { number = k; place = p }))
+  pub count_answers : {k p : ℕ} → Reads (up_to limit) t 0 (refused k p) → Answers rising limit t (Err (record { number = k; place = p }))
   count_answers h = refused_answers (count_refused h)
 
   module _ {first i next from to count : ℕ} (c : Checked rising t first i next from to) (g : Reads (up_to limit) t 0 (taken count first)) where
     -- the next record is
-    pub file_answers : {k p : ℕ} → i < count → Reads file t next (refused k p) → Answers rising limit t (L.Refused (record { number = k; place = p }))
+    pub file_answers : {k p : ℕ} → i < count → Reads file t next (refused k p) → Answers rising limit t (Err (record { number = k; place = p }))
     file_answers h r = refused_answers (element_refused g c.run (omega (arith, c.counted)) r)
 
     -- its name isn't above the last
     pub broken_answers : {f : File} {m name stop : ℕ} {r : Refusal} → rising ≡ true → Reads file t next (taken f m) → NameAt t f name stop → i < count
-        → is_less (compare_lists (part t from to) (part t name stop)) ≡ false → Answers rising limit t (L.Refused r)
+        → is_less (compare_lists (part t from to) (part t name stop)) ≡ false → Answers rising limit t (Err r)
     broken_answers y h n k e = (λ z. not_both y z, λ z. sym (checked_broken c h n limit y g k e))
 
     -- all records were read
-    pub all_answers : i ≡ count → Answers rising limit t (L.Taken count next)
+    pub all_answers : i ≡ count → Answers rising limit t (Ok (count, next))
     all_answers h = (
       λ e. array_done g (record { done = c.done; run = c.run; counted = c.counted; room = c.room }) h,
       λ e. sym (rising_by limit t (array_read g c.run (c.counted ∙ h)) ∙ ap (λ (b : Bool). eqb next (length t) && b) (c.rises e) ∙ and_true (eqb next (length t))),

@@ -1,6 +1,7 @@
 -- An accepted file and the outline of its bytes agree, and a file is what its bytes say.
 use Rattle.std.proofs.Common.{◌≡◌, ℕ, ◌+◌, ◌≤◌, List, [], ◌++◌, length, take, drop, sym, refl, ap, ◌∙◌, subst, append_assoc, arith, drop-drop}
 use lib.Seq.{drop-append_seam}
+use Rattle.std.specs.Prelude.{Some}
 use Rattle.xdr.specs.Reading.{taken}
 use Rattle.xdr.specs.Format.{encode, Valid}
 use Rattle.xdr.specs.Pad.{padded}
@@ -14,14 +15,13 @@ use Rattle.record.specs.Limits.{name_limit}
 use Rattle.record.specs.Block.{block}
 use Rattle.record.specs.File.{File, name, file, from_flags}
 use Rattle.record.specs.Outline.{word_at, blocks_size, outline_of, fields_of}
-use Rattle.record.specs.declared.outline.Outline.TheVariants as O
 use Rattle.record.proofs.NameSteps.{name_string}
 use Rattle.record.proofs.OutlineLaws.{Fixed, fixed, word_read, hyper_read, fields_whole}
 use Rattle.record.proofs.BlockLaws.{blocks_end}
 
 -- what is known of a file that was read at a place
 pub record FileAt (s : List ℕ) (at : ℕ) (f : File) (next : ℕ) : Type 0 where
-  pub outline_is : outline_of s at ≡ O.Whole (fields_of at f)
+  pub outline_is : outline_of s at ≡ Some (fields_of at f)
   pub name_is : f.name ≡ take (length f.name) (drop (at + 4) s)
   pub blocks_are : Elements block s (fields_of at f).first f.blocks next
   pub ends : next ≡ (fields_of at f).past
@@ -45,7 +45,7 @@ name_parts {s} {at} {l} {rest} h =
     }
 
 outline_of_lem : {s : List ℕ} {at rest first : ℕ} (f : File) → NameAt s at f.name rest → Fixed s rest f.flags f.modified f.version (length f.blocks) first
-    → first + blocks_size (length f.blocks) ≤ length s → outline_of s at ≡ O.Whole (fields_of at f)
+    → first + blocks_size (length f.blocks) ≤ length s → outline_of s at ≡ Some (fields_of at f)
 unfolding outline_of
 outline_of_lem {s} {at} {rest} {first} f n x h =
     let q : at + 4 + padded (length f.name) + 20 ≡ first = omega (arith, n.ends, x.ends) in

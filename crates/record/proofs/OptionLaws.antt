@@ -1,6 +1,7 @@
 -- Which outline of an option the tests of the bytes give.
 use Rattle.std.proofs.Common.{◌≡◌, ℕ, ◌+◌, ◌<◌, List, length, take, drop, sym, ap, ◌∙◌, arith, le-leb}
 use borrow.Author.Tests.{lt-leb}
+use Rattle.std.specs.Prelude.{Some, None}
 use Rattle.xdr.specs.Reading.{taken}
 use Rattle.xdr.specs.Fields.{text}
 use Rattle.xdr.specs.Pad.{padded}
@@ -11,26 +12,25 @@ use Rattle.record.specs.Limits.{key_limit, value_limit}
 use Rattle.record.specs.KeyValue.{KeyValue, key_value}
 use Rattle.record.specs.Outline.{past_string}
 use Rattle.record.specs.OptionOutline.{option_of}
-use Rattle.record.specs.declared.option_outline.OptionOutline.TheVariants as O
 use Rattle.record.proofs.OutlineLaws.{word_read}
 use Rattle.record.proofs.StringLaws.{StringThere}
 
 module _ (s : List ℕ) (at : ℕ) where
-  option_beyond : length s < past_string s (past_string s at) → O.Short ≡ option_of s at
+  option_beyond : length s < past_string s (past_string s at) → None ≡ option_of s at
   unfolding option_of
   option_beyond h = simp (lt-leb (past_string s (past_string s at)) (length s) h)
 
   -- the Key is not there
-  pub option_cut : length s < past_string s at → O.Short ≡ option_of s at
+  pub option_cut : length s < past_string s at → None ≡ option_of s at
   option_cut h = option_beyond (omega arith)
 
   module _ {n value : ℕ} (k : StringThere s at n value) where
     -- the Value is not there
-    pub option_short : length s < past_string s value → O.Short ≡ option_of s at
+    pub option_short : length s < past_string s value → None ≡ option_of s at
     option_short h = option_beyond (rw (← k.ends) h)
 
     pub option_whole : {m past : ℕ} → StringThere s value m past
-        → O.Whole (record { key = at + 4; key_length = n; value = value + 4; value_length = m; past = past }) ≡ option_of s at
+        → Some (record { key = at + 4; key_length = n; value = value + 4; value_length = m; past = past }) ≡ option_of s at
     unfolding option_of
     option_whole v = rw (← k.ends) (simp (k.is, v.is, v.ends, le-leb (past_string s value) (length s) (rw (← v.ends) v.room)))
 
@@ -52,7 +52,7 @@ text_parts limit {s} {at} {l} {next} h =
 
 -- what is known of an option that was read at a place: its Value begins at a second
 pub record OptionAt (s : List ℕ) (at value : ℕ) (o : KeyValue) (next : ℕ) : Type 0 where
-  pub outline_is : option_of s at ≡ O.Whole (record { key = at + 4; key_length = length o.key; value = value + 4; value_length = length o.value; past = next })
+  pub outline_is : option_of s at ≡ Some (record { key = at + 4; key_length = length o.key; value = value + 4; value_length = length o.value; past = next })
   pub key_is : o.key ≡ take (length o.key) (drop (at + 4) s)
   pub value_is : o.value ≡ take (length o.value) (drop (value + 4) s)
 

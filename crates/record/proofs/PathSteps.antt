@@ -4,8 +4,8 @@ use mathlib.Core.Bool.{and_assoc, and-true, and-false}
 use borrow.Author.Tests.{not-true, eqb-false}
 use Rattle.xdr.proofs.LeadLaws.{both}
 use Rattle.order.specs.Order.{is_equal, compare_lists, part}
-use Rattle.order.specs.declared.compare.Order.{Order}
-use Rattle.order.specs.declared.compare.Order.TheVariants.{Less, Equal, Greater}
+use Rattle.std.specs.declared.cmp.Ordering.{Ordering}
+use Rattle.std.specs.declared.cmp.Ordering.TheVariants.{Less, Equal, Greater}
 use Rattle.order.proofs.OrderLaws.{same_equal, equal_same}
 use Rattle.record.specs.Name.{parts_from, dot, dots, is_exactly, is_part, are_parts, lacks, is_path}
 
@@ -17,7 +17,7 @@ is_exactly_lem q = ap is_equal (same_equal q)
 exactly_is : (q p : List ℕ) → is_exactly q p ≡ true → p ≡ q
 exactly_is q p e = equal_same p q (go (compare_lists p q) e)
   where
-    go : (o : Order) → is_equal o ≡ true → o ≡ Equal
+    go : (o : Ordering) → is_equal o ≡ true → o ≡ Equal
     go Less h = absurd (true≢false (sym h))
     go Equal h = refl
     go Greater h = absurd (true≢false (sym h))

@@ -1,14 +1,12 @@
 -- The fixed fields of a record, and its blocks by number: what stands at places that the lengths alone give.
-use Rattle.std.specs.Prelude.{ℕ, zero, suc, ◌+◌, ◌*◌, cond, List, length, drop, nat_le}
+use Rattle.std.specs.Prelude.{ℕ, zero, suc, ◌+◌, ◌*◌, cond, List, length, drop, nat_le, Some, None}
+use Rattle.std.specs.declared.option.Option.{Option}
 use Rattle.xdr.specs.Number.{big_endian}
 use Rattle.xdr.specs.Pad.{padded}
 use Rattle.record.specs.Limits.{block_bytes}
 use Rattle.record.specs.File.{File}
 use Rattle.record.specs.declared.outline.RecordFields.{RecordFields}
-use Rattle.record.specs.declared.outline.Outline.{Outline}
-use Rattle.record.specs.declared.outline.Outline.TheVariants as O
-use Rattle.record.specs.declared.outline.BlockOutline.{BlockOutline}
-use Rattle.record.specs.declared.outline.BlockOutline.TheVariants as B
+use Rattle.record.specs.declared.outline.BlockFields.{BlockFields}
 
 -- the word at a place
 unfoldable pub word_at : List ℕ → ℕ → ℕ
@@ -42,15 +40,15 @@ fields_from s name stop rest =
     }
 
 -- fields that end within the bytes
-abbrev pub outlined : List ℕ → RecordFields → Outline
-outlined s f = cond (nat_le f.past (length s)) (O.Whole f) O.Short
+abbrev pub outlined : List ℕ → RecordFields → Option RecordFields
+outlined s f = cond (nat_le f.past (length s)) (Some f) None
 
 -- the record whose name goes from one place to another, and whose Flags stand at a third
-unfoldable pub outline_from : List ℕ → (name stop rest : ℕ) → Outline
+unfoldable pub outline_from : List ℕ → (name stop rest : ℕ) → Option RecordFields
 outline_from s name stop rest = outlined s (fields_from s name stop rest)
 
 -- the record at a place
-unfoldable pub outline_of : List ℕ → ℕ → Outline
+unfoldable pub outline_of : List ℕ → ℕ → Option RecordFields
 outline_of s at = outline_from s (at + 4) (at + 4 + word_at s at) (past_string s at)
 
 -- a file's fields and their places, where it begins at a place
@@ -73,13 +71,13 @@ abbrev pub block_place : ℕ → ℕ → ℕ
 block_place first i = first + blocks_size i
 
 -- the Length of block i and the place of its hash
-unfoldable pub block_of : List ℕ → (first i : ℕ) → BlockOutline
-block_of s first i = cond (nat_le (block_place first i + block_bytes) (length s)) (B.Whole (word_at s (block_place first i)) (block_place first i + 8)) B.Short
+unfoldable pub block_of : List ℕ → (first i : ℕ) → Option BlockFields
+block_of s first i = cond (nat_le (block_place first i + block_bytes) (length s)) (Some (record { size = word_at s (block_place first i); hash = block_place first i + 8 })) None
 
 -- the Length of a block, or 0 where it isn't there
-abbrev pub size_of : BlockOutline → ℕ
-size_of (B.Whole n at) = n
-size_of B.Short = 0
+abbrev pub size_of : Option BlockFields → ℕ
+size_of (Some b) = b.size
+size_of None = 0
 
 -- the offset of block i: the sum of the Lengths before it
 abbrev pub offset_of : List ℕ → (first i : ℕ) → ℕ

@@ -6,9 +6,9 @@ ghost use Rattle.record.specs.Answers.{block_answer, array_answer};
 ghost use Rattle.record.specs.Block.{is_size, size, hash, block, block_count, blocks};
 ghost use Rattle.record.specs.Steps.{IsHead, SoundBlocks};
 
-use crate::array::{Array, read_count};
+use crate::array::read_count;
 use crate::limits::{BLOCK_BYTES, BLOCKS_LIMIT, SIZE_LIMIT};
-use xdr::{Bytes, Hyper, Refusal, Word};
+use xdr::Refusal;
 
 // The least head of a block: a Length of 1 and a hash's length of 32, side by side as one number of 64 bits.
 const LEAST_HEAD: u64 = 4294967328;
@@ -24,58 +24,46 @@ pub fn is_size(n: u32) -> bool
 }
 
 // The Length of a block or of a Request at a place.
-pub fn read_size(s: &[u8], at: usize) -> Word
+pub fn read_size(s: &[u8], at: usize) -> Result<(u32, usize), Refusal>
     ensures { result ≡ word_answer (read_at size s.now at) }
 {
-    let answer = xdr::read_word(s, at);
-    let Word::Taken(n, next) = answer else {
-        return Word::Refused(answer.refusal());
-    };
+    let (n, next) = xdr::read_word(s, at)?;
     if !is_size(n) {
-        return Word::Refused(Refusal {
+        return Err(Refusal {
             number: 10,
             place: at,
         });
     }
-    Word::Taken(n, next)
+    Ok((n, next))
 }
 
 // The hash at a place: its 32 bytes begin 4 bytes after it, and it has no pad.
-pub fn read_hash(s: &[u8], at: usize) -> Bytes
+pub fn read_hash(s: &[u8], at: usize) -> Result<(usize, usize), Refusal>
     ensures { result ≡ bytes_answer (read_at hash s.now at) }
 {
-    let answer = xdr::read_word(s, at);
-    let Word::Taken(len, start) = answer else {
-        return Bytes::Refused(answer.refusal());
-    };
+    let (len, start) = xdr::read_word(s, at)?;
     if len != 32 {
-        return Bytes::Refused(Refusal {
+        return Err(Refusal {
             number: 9,
             place: at,
         });
     }
     if s.len() - start < 32 {
-        return Bytes::Refused(Refusal {
+        return Err(Refusal {
             number: 1,
             place: at,
         });
     }
-    Bytes::Taken(32, start + 32)
+    Ok((32, start + 32))
 }
 
 // The block at the front of a part.
-pub fn read_block(s: &[u8]) -> Word
+pub fn read_block(s: &[u8]) -> Result<(u32, usize), Refusal>
     ensures { result ≡ block_answer (read_at block s.now 0) }
 {
-    let length = read_size(s, 0);
-    let Word::Taken(n, hash_at) = length else {
-        return Word::Refused(length.refusal());
-    };
-    let bytes = read_hash(s, hash_at);
-    let Bytes::Taken(_, next) = bytes else {
-        return Word::Refused(bytes.refusal());
-    };
-    Word::Taken(n, next)
+    let (n, hash_at) = read_size(s, 0)?;
+    let (_, next) = read_hash(s, hash_at)?;
+    Ok((n, next))
 }
 
 // Whether a file may have so many blocks: a deleted one has none.
@@ -89,20 +77,17 @@ pub fn may_have(deleted: bool, count: u32) -> bool
 }
 
 // The block count at the front of a part.
-fn read_block_count(s: &[u8], deleted: bool) -> Word
+fn read_block_count(s: &[u8], deleted: bool) -> Result<(u32, usize), Refusal>
     ensures { result ≡ word_answer (read_at (block_count deleted) s.now 0) }
 {
-    let answer = read_count(s, 0, BLOCKS_LIMIT);
-    let Word::Taken(count, first) = answer else {
-        return Word::Refused(answer.refusal());
-    };
+    let (count, first) = read_count(s, 0, BLOCKS_LIMIT)?;
     if !may_have(deleted, count) {
-        return Word::Refused(Refusal {
+        return Err(Refusal {
             number: 12,
             place: 0,
         });
     }
-    Word::Taken(count, first)
+    Ok((count, first))
 }
 
 // Whether a number of 64 bits is the Length of a block and the length of its hash side by side: one test for both.
@@ -124,20 +109,18 @@ fn sound_blocks(s: &[u8], first: usize, count: u32) -> u32
     if (s.len() - first) / BLOCK_BYTES < count as usize {
         return 0;
     }
-    let mut i = 0;
     let mut at = first;
-    while i < count {
+    for i in 0..count {
         let end = at + BLOCK_BYTES;
-        let Hyper::Taken(head, _) = xdr::read_hyper(&s[at..end], 0) else {
+        let Ok((head, _)) = xdr::read_hyper(&s[at..end], 0) else {
             return i;
         };
         if !is_head(head) {
             return i;
         }
         at = end;
-        i += 1;
     }
-    i
+    count
 }
 
 // How many of the blocks at the front of a part are in order, where so many are there.
@@ -148,26 +131,22 @@ pub fn sound_front(s: &[u8], count: u32) -> u32
 }
 
 // The blocks at the front of a part, of a file, deleted or not.
-pub fn read_blocks(s: &[u8], deleted: bool) -> Array
+pub fn read_blocks(s: &[u8], deleted: bool) -> Result<(u32, usize), Refusal>
     ensures { result ≡ array_answer (read_at (blocks deleted) s.now 0) }
 {
-    let answer = read_block_count(s, deleted);
-    let Word::Taken(count, first) = answer else {
-        return Array::Refused(answer.refusal());
-    };
-    let mut i = sound_blocks(s, first, count);
-    let mut next = first + (i as usize) * BLOCK_BYTES;
-    while i < count {
-        let read = read_block(&s[next..]);
-        let Word::Taken(_, used) = read else {
-            let refusal = read.refusal();
-            return Array::Refused(Refusal {
-                number: refusal.number,
-                place: next + refusal.place,
-            });
-        };
-        next += used;
-        i += 1;
+    let (count, first) = read_block_count(s, deleted)?;
+    let sound = sound_blocks(s, first, count);
+    let mut next = first + (sound as usize) * BLOCK_BYTES;
+    for i in sound..count {
+        match read_block(&s[next..]) {
+            Ok((_, used)) => next += used,
+            Err(r) => {
+                return Err(Refusal {
+                    number: r.number,
+                    place: next + r.place,
+                });
+            }
+        }
     }
-    Array::Taken(count, next)
+    Ok((count, next))
 }

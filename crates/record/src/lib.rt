@@ -13,15 +13,12 @@ pub mod option_outline;
 pub mod outline;
 mod string_outline;
 
-pub use array::Array;
 pub use block::{is_size, may_have, read_block, read_blocks, read_hash, read_size, sound_front};
-pub use file::{
-    FileRead, FileSpan, is_deleted, is_invalid, mode, read_file, read_flags, read_name,
-};
+pub use file::{FileSpan, is_deleted, is_invalid, mode, read_file, read_flags, read_name};
 pub use files::{is_rising_array, read_files};
 pub use limits::{NAME_LIMIT, SIZE_LIMIT};
 pub use missing::{missing_at, option_missing_at};
 pub use name::name_fault;
-pub use option::{OptionRead, OptionSpan, read_option, read_options};
-pub use option_outline::{OptionFields, OptionOutline, option_at};
-pub use outline::{BlockOutline, Outline, RecordFields, block_at, offset_of, outline_at};
+pub use option::{OptionSpan, read_option, read_options};
+pub use option_outline::{OptionFields, option_at};
+pub use outline::{BlockFields, RecordFields, block_at, offset_of, outline_at};

@@ -3,7 +3,7 @@ ghost use Rattle.std.specs.Prelude.{◌≡◌, ◌+◌, ◌<◌};
 ghost use Rattle.record.specs.Missing.{missing_block, missing_after, missing_of, missing_option};
 
 use crate::limits::BLOCK_BYTES;
-use crate::string_outline::{StringOutline, string_at};
+use crate::string_outline::string_at;
 
 // Of blocks from a place on, of which so many bytes are there.
 fn missing_block(first: usize, left: usize) -> usize
@@ -41,26 +41,18 @@ fn missing_after(rest: usize, left: usize) -> usize
 pub fn missing_at(s: &[u8], at: usize) -> usize
     ensures { result ≡ missing_of s.now at }
 {
-    let StringOutline::Whole {
-        length: _,
-        past: rest,
-    } = string_at(s, at)
-    else {
+    let Some(name) = string_at(s, at) else {
         return at;
     };
-    missing_after(rest, s.len() - rest)
+    missing_after(name.past, s.len() - name.past)
 }
 
 // Of the option at a place: its Key, or else its Value.
 pub fn option_missing_at(s: &[u8], at: usize) -> usize
     ensures { result ≡ missing_option s.now at }
 {
-    let StringOutline::Whole {
-        length: _,
-        past: value,
-    } = string_at(s, at)
-    else {
-        return at;
-    };
-    value
+    match string_at(s, at) {
+        Some(key) => key.past,
+        None => at,
+    }
 }

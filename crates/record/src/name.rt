@@ -20,9 +20,7 @@ fn by_parts(s: &[u8]) -> bool
     ensures { result ≡ is_path s.now }
 {
     let mut start = 0;
-    let mut i = 0;
-    while i < s.len() {
-        let b = s[i];
+    for (i, &b) in s.iter().enumerate() {
         if b <= 47 {
             if b == 0 {
                 return false;
@@ -34,7 +32,6 @@ fn by_parts(s: &[u8]) -> bool
                 start = i + 1;
             }
         }
-        i += 1;
     }
     is_part(&s[start..])
 }
@@ -45,8 +42,7 @@ fn is_smooth(s: &[u8]) -> bool
     ensures { result ≡ true → Smooth s.now (length s.now - 1) }
 {
     let mut smooth = true;
-    let mut i = 1;
-    while i < s.len() {
+    for i in 1..s.len() {
         let b = s[i - 1];
         let c = s[i];
         if b == 0 {
@@ -60,23 +56,22 @@ fn is_smooth(s: &[u8]) -> bool
                 smooth = false;
             }
         }
-        i += 1;
     }
     smooth
 }
 
 // A place before which each byte may stand before the next, in steps of eight.
 fn past_eights(s: &[u8]) -> usize
+    requires { 1 ≤ length s.now }
     ensures { (result ≤ length s.now) × Smooth s.now result }
 {
-    let mut i = 0;
-    while 9 <= s.len() - i {
+    let whole = (s.len() - 1) / 8 * 8;
+    for i in (0..whole).step_by(8) {
         if !is_smooth(&s[i..i + 9]) {
             return i;
         }
-        i += 8;
     }
-    i
+    whole
 }
 
 // Whether a name leads down as most names do: no part begins with a dot.
@@ -86,17 +81,11 @@ fn leads_down(s: &[u8]) -> bool
     if s.len() < 9 {
         return false;
     }
-    if s[0] == 46 {
-        return false;
-    }
-    if s[0] == 47 {
+    if s[0] == 46 || s[0] == 47 {
         return false;
     }
     let last = s[s.len() - 1];
-    if last == 0 {
-        return false;
-    }
-    if last == 47 {
+    if last == 0 || last == 47 {
         return false;
     }
     if 9 <= s.len() - past_eights(s) {
@@ -115,15 +104,15 @@ pub fn is_path(s: &[u8]) -> bool
     by_parts(s)
 }
 
-// The number that text is refused with as a Name, 0 where it is one.
-pub fn name_fault(l: &[u8]) -> u32
+// The number that text is refused with as a Name, none where it is one.
+pub fn name_fault(l: &[u8]) -> Option<u32>
     ensures { result ≡ name_fault l.now }
 {
     if l.len() == 0 {
-        return 8;
+        return Some(8);
     }
     if !is_path(l) {
-        return 24;
+        return Some(24);
     }
-    0
+    None
 }

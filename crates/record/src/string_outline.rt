@@ -2,29 +2,23 @@
 ghost use Rattle.std.specs.Prelude.{◌≡◌};
 ghost use Rattle.record.specs.Steps.{string_of};
 
-use xdr::Word;
-
-// The length of a string's contents, which begin 4 bytes after its place, and the place after its pad, where they are within the bytes.
+// The length of a string's contents, which begin 4 bytes after its place, and the place after its pad.
 #[derive(Clone, Copy)]
-pub enum StringOutline {
-    Whole { length: usize, past: usize },
-    Short,
+pub struct StringFields {
+    pub length: usize,
+    pub past: usize,
 }
 
-// The string at a place.
-pub(crate) fn string_at(s: &[u8], at: usize) -> StringOutline
+// The string at a place, where it ends within the bytes.
+pub(crate) fn string_at(s: &[u8], at: usize) -> Option<StringFields>
     ensures { result ≡ string_of s.now at }
 {
-    let Word::Taken(len, start) = xdr::read_word(s, at) else {
-        return StringOutline::Short;
-    };
-    let n = len as usize;
-    let size = (n + 3) / 4 * 4;
+    let (len, start) = xdr::read_word(s, at).ok()?;
+    let length = len as usize;
+    let size = (length + 3) / 4 * 4;
     if s.len() - start < size {
-        return StringOutline::Short;
+        return None;
     }
-    StringOutline::Whole {
-        length: n,
-        past: start + size,
-    }
+    let past = start + size;
+    Some(StringFields { length, past })
 }

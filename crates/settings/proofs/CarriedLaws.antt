@@ -8,21 +8,20 @@ use native.Mathlib.Nat.{add-zero}
 use borrow.Author.Tests.{eqb-true}
 use lib.ListN.{length}
 use lib.Dec.{eqb}
+use Rattle.std.specs.Prelude.{Ok, Err}
+use Rattle.std.specs.declared.result.Result.{Result}
 use Rattle.xdr.specs.Reading.{Reading, taken, refused}
 use Rattle.xdr.specs.declared.answer.Refusal.{Refusal}
-use Rattle.xdr.specs.declared.filling.Filling.{Filling}
-use Rattle.xdr.specs.declared.filling.Filling.TheVariants as F
 use Rattle.settings.specs.Field.{size_of, contents_of, fault}
 use Rattle.settings.specs.Reading.{none, with_field, read_from, settings_answer}
 use Rattle.settings.specs.Steps.{end_answer}
 use Rattle.settings.specs.declared.answer.Settings.{Settings}
-use Rattle.settings.specs.declared.answer.Answer.TheVariants as A
 use Rattle.settings.proofs.FieldLaws.{no_fault}
 
 -- an answer n bytes further on
-abbrev further : ℕ → Filling → Filling
-further n (F.Filled m) = F.Filled (n + m)
-further n (F.Refused r) = F.Refused (record { number = r.number; place = n + r.place })
+abbrev further : ℕ → Result ℕ Refusal → Result ℕ Refusal
+further n (Ok m) = Ok (n + m)
+further n (Err r) = Err (record { number = r.number; place = n + r.place })
 
 moved : (l : List ℕ) (skip least at n : ℕ) (so so' : Settings) → end_answer (read_from l skip least (n + at) so') ≡ further n (end_answer (read_from l skip least at so))
 unfolding read_from
@@ -43,9 +42,9 @@ moved (b ∷ l) zero least at n so so' =
     go x y false e = refl
 
 -- reading goes to the end, or stops before it
-abbrev EndsAt : ℕ → Filling → Type 0
-EndsAt end (F.Filled n) = n ≡ end
-EndsAt end (F.Refused r) = r.place ≤ end
+abbrev EndsAt : ℕ → Result ℕ Refusal → Type 0
+EndsAt end (Ok n) = n ≡ end
+EndsAt end (Err r) = r.place ≤ end
 
 pub ends : (l : List ℕ) (skip least at : ℕ) (so : Settings) → skip ≤ length l → EndsAt (at + length l) (end_answer (read_from l skip least at so))
 unfolding read_from
@@ -62,7 +61,7 @@ ends (b ∷ l) zero least at so h =
     go x true e k = k (no_fault least b l (eqb-true (fault least b l) 0 e)).0
     go x false e k = omega arith
 
-pub filled_end : (l : List ℕ) (least at : ℕ) (so : Settings) {n : ℕ} → end_answer (read_from l 0 least at so) ≡ F.Filled n → n ≡ at + length l
+pub filled_end : (l : List ℕ) (least at : ℕ) (so : Settings) {n : ℕ} → end_answer (read_from l 0 least at so) ≡ Ok n → n ≡ at + length l
 filled_end l least at so e = subst (EndsAt (at + length l)) e (ends l 0 least at so (omega arith))
 
 -- carried fields, read from the start of their own slice
@@ -70,27 +69,27 @@ module _ (l : List ℕ) (least at : ℕ) (so : Settings) where
   from_start : end_answer (read_from l 0 least at so) ≡ further at (end_answer (read_from l 0 least 0 none))
   from_start = ap (λ (k : ℕ). end_answer (read_from l 0 least k so)) (sym (add-zero at)) ∙ moved l 0 least 0 at none so
 
-  pub carried_taken : {s : Settings} → A.Taken s ≡ settings_answer (read_from l 0 least 0 none) → F.Filled (at + length l) ≡ end_answer (read_from l 0 least at so)
+  pub carried_taken : {s : Settings} → Ok s ≡ settings_answer (read_from l 0 least 0 none) → Ok (at + length l) ≡ end_answer (read_from l 0 least at so)
   carried_taken {s} e = go (read_from l 0 least 0 none) refl e
     where
-      go : (r : Reading Settings) → read_from l 0 least 0 none ≡ r → A.Taken s ≡ settings_answer r → F.Filled (at + length l) ≡ end_answer (read_from l 0 least at so)
+      go : (r : Reading Settings) → read_from l 0 least 0 none ≡ r → Ok s ≡ settings_answer r → Ok (at + length l) ≡ end_answer (read_from l 0 least at so)
       go (taken x n) q f =
           let long : n ≡ 0 + length l = filled_end l least 0 none (ap end_answer q) in
           let same : at + length l ≡ at + n = omega arith in
-          ap F.Filled same ∙ sym (from_start ∙ ap (λ (r : Reading Settings). further at (end_answer r)) q)
-      go (refused k p) q f = let z : ◌≡◌ {A = ℕ} 0 1 = cc in absurd (omega arith)
+          ap Ok same ∙ sym (from_start ∙ ap (λ (r : Reading Settings). further at (end_answer r)) q)
+      go (refused k p) q f = cc
 
-  pub carried_refused : {r : Refusal} → A.Refused r ≡ settings_answer (read_from l 0 least 0 none)
-      → (r.place ≤ length l) × (F.Refused (record { number = r.number; place = at + r.place }) ≡ end_answer (read_from l 0 least at so))
+  pub carried_refused : {r : Refusal} → Err r ≡ settings_answer (read_from l 0 least 0 none)
+      → (r.place ≤ length l) × (Err (record { number = r.number; place = at + r.place }) ≡ end_answer (read_from l 0 least at so))
   carried_refused {r} e = go (read_from l 0 least 0 none) refl e
     where
-      go : (x : Reading Settings) → read_from l 0 least 0 none ≡ x → A.Refused r ≡ settings_answer x
-          → (r.place ≤ length l) × (F.Refused (record { number = r.number; place = at + r.place }) ≡ end_answer (read_from l 0 least at so))
-      go (taken y n) q f = let z : ◌≡◌ {A = ℕ} 0 1 = cc in absurd (omega arith)
+      go : (x : Reading Settings) → read_from l 0 least 0 none ≡ x → Err r ≡ settings_answer x
+          → (r.place ≤ length l) × (Err (record { number = r.number; place = at + r.place }) ≡ end_answer (read_from l 0 least at so))
+      go (taken y n) q f = cc
       go (refused k p) q f =
           let same : r ≡ record { number = k; place = p } = cc in
           let within : p ≤ 0 + length l = subst (EndsAt (0 + length l)) (ap end_answer q) (ends l 0 least 0 none (omega arith)) in
           let place : r.place ≡ p = ap (λ (x : Refusal). x.place) same in (
             omega arith,
-            ap (λ (x : Refusal). F.Refused (record { number = x.number; place = at + x.place })) same ∙ sym (from_start ∙ ap (λ (x : Reading Settings). further at (end_answer x)) q),
+            ap (λ (x : Refusal). Err (record { number = x.number; place = at + x.place })) same ∙ sym (from_start ∙ ap (λ (x : Reading Settings). further at (end_answer x)) q),
           )

@@ -10,6 +10,8 @@ use borrow.Author.Tests.{le-leb, lt-leb, lt-ltb, le-ltb, ne_eqb, eqb-true, eqb-f
 use lib.ListN.{length, take, drop, get_or}
 use lib.Seq.{drop-drop, get_or-drop}
 use lib.Dec.{leb, eqb}
+use Rattle.std.specs.Prelude.{Some, None, Ok, Err}
+use Rattle.std.specs.declared.option.Option.{Option}
 use Rattle.xdr.specs.Reading.{taken}
 use Rattle.xdr.specs.Number.{big_endian}
 use Rattle.xdr.specs.Text.{is_within, is_text}
@@ -17,13 +19,10 @@ use Rattle.xdr.specs.Format.{read, read_at}
 use Rattle.xdr.specs.Fields.{word}
 use Rattle.xdr.specs.Answers.{word_answer}
 use Rattle.xdr.specs.declared.answer.Refusal.{Refusal}
-use Rattle.xdr.specs.declared.answer.Word.TheVariants as W
 use Rattle.settings.specs.Field.{size_of, is_whole, contents_of, is_window, is_allowance, is_repository, is_note, wrong, fault}
 use Rattle.settings.specs.Reading.{with_field}
-use Rattle.settings.specs.Steps.{byte_of}
+use Rattle.settings.specs.Steps.{byte_of, unless_0}
 use Rattle.settings.specs.declared.answer.Settings.{Settings}
-use Rattle.settings.specs.declared.answer.Number.TheVariants as N
-use Rattle.settings.specs.declared.answer.Span.TheVariants as S
 
 -- numbers of two and four bytes
 pub two_bytes : (s : List ℕ) (at : ℕ) → get_or s at 0 * 256 + get_or s (at + 1) 0 ≡ big_endian 2 (drop at s)
@@ -33,43 +32,63 @@ four_read : (l : List ℕ) → length l ≡ 4 → read_at word l 0 ≡ taken (bi
 unfolding read_at read
 four_read l h = simp (le-leb 4 (length l) (omega arith))
 
-pub four_taken : (l : List ℕ) (n m : ℕ) → W.Taken n m ≡ word_answer (read_at word l 0) → length l ≡ 4 → n ≡ big_endian 4 l
-four_taken l n m e h = let f = four_read l h in cc
-
-pub four_refused : (l : List ℕ) (r : Refusal) → W.Refused r ≡ word_answer (read_at word l 0) → length l ≡ 4 → ⊥
-four_refused l r e h =
+pub four_taken : (l : List ℕ) (n m : ℕ) → Ok (n, m) ≡ word_answer (read_at word l 0) → length l ≡ 4 → n ≡ big_endian 4 l
+four_taken l n m e h =
     let f = four_read l h in
-    let z : ◌≡◌ {A = ℕ} 0 1 = cc in
-    omega arith
+    let same : (n, m) ≡ (big_endian 4 l, 4) = cc in
+    ap (λ (p : ℕ × ℕ). p.0) same
+
+pub four_refused : (l : List ℕ) (r : Refusal) → Err r ≡ word_answer (read_at word l 0) → length l ≡ 4 → ⊥
+four_refused l r e h = let f = four_read l h in cc
 
 pub no_byte : (l : List ℕ) → length l ≡ 0 → 0 ≡ big_endian 1 l
 no_byte [] h = refl
 no_byte (x ∷ l) h = absurd (omega arith)
 
 -- the byte of a number, where one holds it
-pub byte_held : (n : ℕ) → n ≤ 255 → n ∷ [] ≡ byte_of (N.There n)
+pub byte_held : (n : ℕ) → n ≤ 255 → n ∷ [] ≡ byte_of (Some n)
 byte_held n h = simp (le-leb n 255 h)
 
-pub byte_none : (n : ℕ) → 255 < n → 0 ∷ [] ≡ byte_of (N.There n)
+pub byte_none : (n : ℕ) → 255 < n → 0 ∷ [] ≡ byte_of (Some n)
 byte_none n h = simp (lt-leb n 255 h)
 
+-- what is answered, by what is wrong
+pub nothing_wrong : (n : ℕ) → unless_0 n ≡ None → n ≡ 0
+nothing_wrong n e = go (eqb n 0) refl e
+  where
+    go : (b : Bool) → eqb n 0 ≡ b → cond b None (Some n) ≡ None → n ≡ 0
+    go true q f = eqb-true n 0 q
+    go false q f = cc
+
+pub something_wrong : (n m : ℕ) → unless_0 n ≡ Some m → (n ≡ m) × (n ≡ 0 → ⊥)
+something_wrong n m e = go (eqb n 0) refl e
+  where
+    go : (b : Bool) → eqb n 0 ≡ b → cond b None (Some n) ≡ Some m → (n ≡ m) × (n ≡ 0 → ⊥)
+    go true q f = cc
+    go false q f = (cc, eqb-false n 0 q)
+
+-- what is answered of contents that are right, and of those that aren't
+good_answer : (b : Bool) → cond b None (Some 26) ≡ unless_0 (cond b 0 26)
+good_answer true = refl
+good_answer false = refl
+
 -- what is wrong with contents, by the tag
-module _ (tag : ℕ) (l : List ℕ) (r : ℕ) where
-  pub wrong_window : tag ≡ 1 → r ≡ cond (is_window l) 0 26 → r ≡ wrong tag l
+module _ (tag : ℕ) (l : List ℕ) (r : Option ℕ) where
+  pub wrong_window : tag ≡ 1 → r ≡ cond (is_window l) None (Some 26) → r ≡ unless_0 (wrong tag l)
   unfolding wrong
-  wrong_window h e = e ∙ rw h refl
+  wrong_window h e = e ∙ rw h (good_answer (is_window l))
 
-  pub wrong_allowance : tag ≡ 2 → r ≡ cond (is_allowance l) 0 26 → r ≡ wrong tag l
+  pub wrong_allowance : tag ≡ 2 → r ≡ cond (is_allowance l) None (Some 26) → r ≡ unless_0 (wrong tag l)
   unfolding wrong
-  wrong_allowance h e = e ∙ rw h refl
+  wrong_allowance h e = e ∙ rw h (good_answer (is_allowance l))
 
-  pub wrong_repository : tag ≡ 3 → r ≡ cond (is_repository l) 0 26 → r ≡ wrong tag l
+  pub wrong_repository : tag ≡ 3 → r ≡ cond (is_repository l) None (Some 26) → r ≡ unless_0 (wrong tag l)
   unfolding wrong
-  wrong_repository h e = e ∙ rw h refl
+  wrong_repository h e = e ∙ rw h (good_answer (is_repository l))
 
-  pub wrong_note : tag ≡ 128 → r ≡ cond (is_note l) 0 26 → r ≡ wrong tag l
+  pub wrong_note : tag ≡ 128 → r ≡ cond (is_note l) None (Some 26) → r ≡ unless_0 (wrong tag l)
   unfolding wrong
-  wrong_note h e = e ∙ rw h refl
+  wrong_note h e = e ∙ rw h (good_answer (is_note l))
 
 module _ (tag : ℕ) (l : List ℕ) where
   pub wrong_unknown : (tag ≡ 1 → ⊥) → (tag ≡ 2 → ⊥) → (tag ≡ 3 → ⊥) → tag < 128 → 25 ≡ wrong tag l
@@ -191,8 +210,8 @@ module _ (least tag : ℕ) (l : List ℕ) where
       go : (b : Bool) → is_whole l ≡ b → (d : Bool) → leb least tag ≡ d → ◌≡◌ {A = ℕ} (cond b (cond d (wrong tag (contents_of l)) 26) 26) 0
           → (2 + size_of l ≤ length l) × (least ≤ tag) × (wrong tag (contents_of l) ≡ 0)
       go true p true q f = (leb-true (2 + size_of l) (length l) p, leb-true least tag q, f)
-      go true p false q f = let z : ◌≡◌ {A = ℕ} 26 0 = f in absurd (omega arith)
-      go false p d q f = let z : ◌≡◌ {A = ℕ} 26 0 = f in absurd (omega arith)
+      go true p false q f = absurd (omega arith)
+      go false p d q f = absurd (omega arith)
 
 -- the contents of the field at a place, as a part of all bytes
 pub contents_part : (s : List ℕ) (at n : ℕ) → n ≡ size_of (drop (at + 1) s) → take (at + 3 + n - (at + 3)) (drop (at + 3) s) ≡ contents_of (drop (at + 1) s)
@@ -204,22 +223,22 @@ contents_part s at n e =
 -- the settings with a field of each kind
 module _ (so : Settings) (start : ℕ) (tag : ℕ) (l : List ℕ) {end : ℕ} (e : end ≡ start + length l) where
   pub with_window : {n : ℕ} → tag ≡ 1 → n ≡ big_endian 1 l
-      → record { window = N.There n; allowance = so.allowance; repository = so.repository; note = so.note; carried = end } ≡ with_field so start tag l
+      → record { window = Some n; allowance = so.allowance; repository = so.repository; note = so.note; carried = end } ≡ with_field so start tag l
   unfolding with_field
   with_window h k = rw (h, k, e) refl
 
   pub with_allowance : {n : ℕ} → tag ≡ 2 → n ≡ big_endian 4 l
-      → record { window = so.window; allowance = N.There n; repository = so.repository; note = so.note; carried = end } ≡ with_field so start tag l
+      → record { window = so.window; allowance = Some n; repository = so.repository; note = so.note; carried = end } ≡ with_field so start tag l
   unfolding with_field
   with_allowance h k = rw (h, k, e) refl
 
   pub with_repository_lem : tag ≡ 3
-      → record { window = so.window; allowance = so.allowance; repository = S.There start (length l); note = so.note; carried = end } ≡ with_field so start tag l
+      → record { window = so.window; allowance = so.allowance; repository = Some (record { start = start; length = length l }); note = so.note; carried = end } ≡ with_field so start tag l
   unfolding with_field
   with_repository_lem h = rw (h, e) refl
 
   pub with_note : tag ≡ 128
-      → record { window = so.window; allowance = so.allowance; repository = so.repository; note = S.There start (length l); carried = end } ≡ with_field so start tag l
+      → record { window = so.window; allowance = so.allowance; repository = so.repository; note = Some (record { start = start; length = length l }); carried = end } ≡ with_field so start tag l
   unfolding with_field
   with_note h = rw (h, e) refl
 

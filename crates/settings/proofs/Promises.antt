@@ -7,6 +7,8 @@ use native.Mathlib.Omega.{arith}
 use native.Mathlib.Decide.{dec_le}
 use lib.ListN.{length, take, drop, take-append-drop}
 use lib.Seq.{drop-length}
+use Rattle.std.specs.Prelude.{Ok, Err}
+use Rattle.std.specs.declared.option.Option.{Option}
 use Rattle.xdr.specs.Reading.{Reading, taken, refused}
 use Rattle.xdr.specs.Number.{IsBytes}
 use Rattle.xdr.specs.Filling.{gives, refuses}
@@ -17,8 +19,6 @@ use Rattle.settings.specs.Saving.{Setting, of_number, own_bytes, read_on, read_b
 use Rattle.settings.specs.Steps.{end_answer}
 use Rattle.settings.specs.Promised.{carried_of, saving_again, kept_from, without_carried, WhenRead, WhenRefused, Says, WhenSaved}
 use Rattle.settings.specs.declared.answer.Settings.{Settings}
-use Rattle.settings.specs.declared.answer.Number.{Number}
-use Rattle.settings.specs.declared.answer.Answer.TheVariants as A
 use Rattle.settings.proofs.ReadLaws.{at_end, refused_at}
 use Rattle.settings.proofs.SavingLaws.{accepted}
 use Rattle.settings.proofs.ToldLaws.{Told, told}
@@ -74,19 +74,19 @@ module _ (s : List ℕ) (bytes : IsBytes s) {so : Settings} {n : ℕ} (e : readi
       }
 
 -- WHAT WAS READ SAVES TO THE SAME BYTES, AND GIVES THE SAME SETTINGS WITHOUT ITS TAGS ABOVE 128
-pub when_read : (s : List ℕ) → IsBytes s → {so : Settings} → settings_answer (reading s) ≡ A.Taken so → WhenRead s so
+pub when_read : (s : List ℕ) → IsBytes s → {so : Settings} → settings_answer (reading s) ≡ Ok so → WhenRead s so
 when_read s bytes {so} e = go (reading s) refl e
   where
-    go : (x : Reading Settings) → reading s ≡ x → settings_answer x ≡ A.Taken so → WhenRead s so
+    go : (x : Reading Settings) → reading s ≡ x → settings_answer x ≡ Ok so → WhenRead s so
     go (taken y n) q f = let same : y ≡ so = cc in kept s bytes (q ∙ ap (λ (z : Settings). taken z n) same)
-    go (refused k p) q f = let z : ◌≡◌ {A = ℕ} 0 1 = cc in absurd (omega arith)
+    go (refused k p) q f = cc
 
 -- WHAT IS REFUSED IS REFUSED WITH 25 OR 26, AMONG THE BYTES
-pub when_refused : (s : List ℕ) {r : Refusal} → settings_answer (reading s) ≡ A.Refused r → WhenRefused s r.number r.place
+pub when_refused : (s : List ℕ) {r : Refusal} → settings_answer (reading s) ≡ Err r → WhenRefused s r.number r.place
 when_refused s {r} e = go (reading s) refl e
   where
-    go : (x : Reading Settings) → reading s ≡ x → settings_answer x ≡ A.Refused r → WhenRefused s r.number r.place
-    go (taken y n) q f = let z : ◌≡◌ {A = ℕ} 0 1 = cc in absurd (omega arith)
+    go : (x : Reading Settings) → reading s ≡ x → settings_answer x ≡ Err r → WhenRefused s r.number r.place
+    go (taken y n) q f = cc
     go (refused k p) q f =
         let number : k ≡ r.number = cc in
         let place : p ≡ r.place = cc in
@@ -94,7 +94,7 @@ when_refused s {r} e = go (reading s) refl e
         record { least = omega (arith, i.0); most = omega (arith, i.1); within = omega (arith, i.2) }
 
 -- settings and carried fields that are saved
-module _ (w a : Number) (r n : Setting) (carried : List ℕ) where
+module _ (w a : Option ℕ) (r n : Setting) (carried : List ℕ) where
   abbrev own : List ℕ
   own = own_bytes w a r n
 
@@ -118,7 +118,7 @@ module _ (w a : Number) (r n : Setting) (carried : List ℕ) where
   number_26 k p e = go (read_back own carried) refl e
     where
       go : (x : Reading Settings) → read_back own carried ≡ x → as_read (own ++ carried) x ≡ refuses k p → k ≡ 26
-      go (taken so m) q f = let z : ◌≡◌ {A = ℕ} 0 1 = cc in absurd (omega arith)
+      go (taken so m) q f = cc
       go (refused j i) q f = let same : k ≡ j = cc in same ∙ only_26 (of_number 1 w) (of_number 4 a) r n carried q
 
   -- WHAT IS SAVED READS TO THE SAME SETTINGS AND CARRIED FIELDS; SAVING GIVES WHAT READING THE RESULT WOULD, A CARRIED TAG UP TO 128 BEING 26

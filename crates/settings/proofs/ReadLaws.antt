@@ -90,7 +90,7 @@ fault_range least tag l =
 
 pub refused_at : (l : List ℕ) (skip least at : ℕ) (so : Settings) {k p : ℕ} → read_from l skip least at so ≡ refused k p → (25 ≤ k) × (k ≤ 26) × (p < at + length l)
 unfolding read_from
-refused_at [] skip least at so e = let z : ◌≡◌ {A = ℕ} 0 1 = cc in absurd (omega arith)
+refused_at [] skip least at so e = cc
 refused_at (b ∷ l) (suc skip) least at so e = let i = refused_at l skip least (suc at) so e in (i.0, i.1, omega (arith, i.2))
 refused_at (b ∷ l) zero least at so {k} {p} e =
     go (eqb (fault least b l) 0) refl e (λ f. let i = refused_at l (2 + size_of l) (suc b) (suc at) (with_field so (at + 3) b (contents_of l)) f in (i.0, i.1, omega (arith, i.2)))

@@ -52,7 +52,7 @@ fault_26 least b l h g = go (is_whole l) (leb least b) refl g
 
 carried_26 : (l : List ℕ) (skip least at : ℕ) (so : Settings) {k p : ℕ} → 129 ≤ least → read_from l skip least at so ≡ refused k p → k ≡ 26
 unfolding read_from
-carried_26 [] skip least at so h e = let z : ◌≡◌ {A = ℕ} 0 1 = cc in absurd (omega arith)
+carried_26 [] skip least at so h e = cc
 carried_26 (b ∷ l) (suc skip) least at so h e = carried_26 l skip least (suc at) so h e
 carried_26 (b ∷ l) zero least at so {k} {p} h e =
     go (eqb (fault least b l) 0) refl e (λ i f. carried_26 l (2 + size_of l) (suc b) (suc at) (with_field so (at + 3) b (contents_of l)) i f)

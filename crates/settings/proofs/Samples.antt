@@ -2,17 +2,16 @@
 use Prim.Native.Nat.{ℕ}
 use mathlib.Core.List.{List, [], ◌∷◌}
 use mathlib.Core.Path.{◌≡◌, refl}
+use Rattle.std.specs.Prelude.{Some, None}
 use Rattle.xdr.specs.Reading.{taken, refused}
 use Rattle.xdr.specs.Text.{sound_up_to}
 use Rattle.settings.specs.Field.{wrong, fault}
 use Rattle.settings.specs.Reading.{with_field, read_from, reading}
-use Rattle.settings.specs.declared.answer.Number.TheVariants as N
-use Rattle.settings.specs.declared.answer.Span.TheVariants as S
 
 sample : List ℕ
 sample = 1 ∷ 0 ∷ 1 ∷ 4 ∷ 3 ∷ 0 ∷ 1 ∷ 114 ∷ 129 ∷ 0 ∷ 1 ∷ 120 ∷ 200 ∷ 0 ∷ 0 ∷ []
 
-sample_read : reading sample ≡ taken (record { window = N.There 4; allowance = N.Absent; repository = S.There 7 1; note = S.Absent; carried = 8 }) 15
+sample_read : reading sample ≡ taken (record { window = Some 4; allowance = None; repository = Some (record { start = 7; length = 1 }); note = None; carried = 8 }) 15
 unfolding sample read_from fault wrong with_field sound_up_to
 sample_read = refl
 

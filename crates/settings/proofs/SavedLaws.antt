@@ -9,17 +9,16 @@ use borrow.Author.Tests.{eqb-true, eq-eqb}
 use lib.ListN.{length, take, drop, length-append}
 use lib.Seq.{take_at, drop_at}
 use lib.Dec.{eqb}
+use Rattle.std.specs.Prelude.{Some, None}
+use Rattle.std.specs.declared.option.Option.{Option}
 use Rattle.xdr.specs.Reading.{taken, refused}
 use Rattle.xdr.specs.Number.{digits}
 use Rattle.settings.specs.Field.{field, size_of, contents_of, fault}
 use Rattle.settings.specs.Reading.{none, with_field, read_from, reading}
-use Rattle.settings.specs.Saving.{Setting, absent, there, of_number, setting_bytes, fields_of, tagged, own_bytes}
+use Rattle.settings.specs.Saving.{Setting, of_number, setting_bytes, fields_of, tagged, own_bytes}
 use Rattle.settings.specs.Steps.{end_answer}
 use Rattle.settings.specs.Promised.{of_span, Says}
 use Rattle.settings.specs.declared.answer.Settings.{Settings}
-use Rattle.settings.specs.declared.answer.Number.{Number}
-use Rattle.settings.specs.declared.answer.Number.TheVariants as N
-use Rattle.settings.specs.declared.answer.Span.TheVariants as S
 use Rattle.settings.proofs.FieldLaws.{no_fault, fault_contents, with_above}
 use Rattle.settings.proofs.SettingLaws.{so_after, least_of, so_of, least_own, own_read, own_alone, past_right, carried_all, ordered}
 use Rattle.settings.proofs.SavingLaws.{Accepted}
@@ -36,7 +35,7 @@ lower (b ∷ l) least less at so {last} {m} h e = go (eqb (fault least b l) 0) r
         let g = no_fault least b l (eqb-true (fault least b l) 0 q) in
         let z : fault less b l ≡ 0 = sym (fault_contents less b l g.0 (omega (arith, g.1))) ∙ g.2 in
         simp (eq-eqb (fault less b l) 0 z) f
-    go false q f = let z : ◌≡◌ {A = ℕ} 0 1 = cc in absurd (omega arith)
+    go false q f = cc
 
 -- they change no settings
 unchanged : (l : List ℕ) (skip least at : ℕ) (so : Settings) {last : Settings} {m : ℕ} → 129 ≤ least → read_from l skip least at so ≡ taken last m → last ≡ so
@@ -52,56 +51,56 @@ unchanged (b ∷ l) zero least at so {last} {m} h e =
         let g = no_fault least b l (eqb-true (fault least b l) 0 q) in
         let high : 128 < b = omega (arith, g.1) in
         k (omega arith) f ∙ sym (with_above so (at + 3) b (contents_of l) high)
-    go false q f k = let z : ◌≡◌ {A = ℕ} 0 1 = cc in absurd (omega arith)
+    go false q f k = cc
 
 -- what each setting adds
 module _ (so : Settings) (start : ℕ) where
-  window_is : (w : Number) → so.window ≡ N.Absent → (so_after so start 1 (of_number 1 w)).window ≡ w
+  window_is : (w : Option ℕ) → so.window ≡ None → (so_after so start 1 (of_number 1 w)).window ≡ w
   unfolding with_field
-  window_is N.Absent e = e
-  window_is (N.There k) e =
+  window_is None e = e
+  window_is (Some k) e =
       let same : k / 1 * 1 + 0 ≡ k = omega arith in
-      ap N.There same
+      ap Some same
 
-  allowance_is : (a : Number) → so.allowance ≡ N.Absent → (so_after so start 2 (of_number 4 a)).allowance ≡ a
+  allowance_is : (a : Option ℕ) → so.allowance ≡ None → (so_after so start 2 (of_number 4 a)).allowance ≡ a
   unfolding with_field
-  allowance_is N.Absent e = e
-  allowance_is (N.There k) e =
+  allowance_is None e = e
+  allowance_is (Some k) e =
       let same : k / 16777216 * 16777216 + (k % 16777216 / 65536 * 65536 + (k % 16777216 % 65536 / 256 * 256 + (k % 16777216 % 65536 % 256 / 1 * 1 + 0))) ≡ k = omega arith in
-      ap N.There same
+      ap Some same
 
-  repository_is : (s : List ℕ) (x : Setting) → so.repository ≡ S.Absent → ((l : List ℕ) → x ≡ there l → take (length l) (drop start s) ≡ l)
+  repository_is : (s : List ℕ) (x : Setting) → so.repository ≡ None → ((l : List ℕ) → x ≡ Some l → take (length l) (drop start s) ≡ l)
       → of_span s (so_after so start 3 x).repository ≡ x
   unfolding with_field
-  repository_is s absent e f = ap (of_span s) e
-  repository_is s (there l) e f = ap there (f l refl)
+  repository_is s None e f = ap (of_span s) e
+  repository_is s (Some l) e f = ap Some (f l refl)
 
-  note_is : (s : List ℕ) (x : Setting) → so.note ≡ S.Absent → ((l : List ℕ) → x ≡ there l → take (length l) (drop start s) ≡ l)
+  note_is : (s : List ℕ) (x : Setting) → so.note ≡ None → ((l : List ℕ) → x ≡ Some l → take (length l) (drop start s) ≡ l)
       → of_span s (so_after so start 128 x).note ≡ x
   unfolding with_field
-  note_is s absent e f = ap (of_span s) e
-  note_is s (there l) e f = ap there (f l refl)
+  note_is s None e f = ap (of_span s) e
+  note_is s (Some l) e f = ap Some (f l refl)
 
   -- and what it leaves as it was
   kept_1 : (x : Setting) → ((so_after so start 1 x).allowance ≡ so.allowance) × ((so_after so start 1 x).repository ≡ so.repository) × ((so_after so start 1 x).note ≡ so.note)
   unfolding with_field
-  kept_1 absent = (refl, refl, refl)
-  kept_1 (there l) = (refl, refl, refl)
+  kept_1 None = (refl, refl, refl)
+  kept_1 (Some l) = (refl, refl, refl)
 
   kept_2 : (x : Setting) → ((so_after so start 2 x).window ≡ so.window) × ((so_after so start 2 x).repository ≡ so.repository) × ((so_after so start 2 x).note ≡ so.note)
   unfolding with_field
-  kept_2 absent = (refl, refl, refl)
-  kept_2 (there l) = (refl, refl, refl)
+  kept_2 None = (refl, refl, refl)
+  kept_2 (Some l) = (refl, refl, refl)
 
   kept_3 : (x : Setting) → ((so_after so start 3 x).window ≡ so.window) × ((so_after so start 3 x).allowance ≡ so.allowance) × ((so_after so start 3 x).note ≡ so.note)
   unfolding with_field
-  kept_3 absent = (refl, refl, refl)
-  kept_3 (there l) = (refl, refl, refl)
+  kept_3 None = (refl, refl, refl)
+  kept_3 (Some l) = (refl, refl, refl)
 
   kept_4 : (x : Setting) → ((so_after so start 128 x).window ≡ so.window) × ((so_after so start 128 x).allowance ≡ so.allowance) × ((so_after so start 128 x).repository ≡ so.repository)
   unfolding with_field
-  kept_4 absent = (refl, refl, refl)
-  kept_4 (there l) = (refl, refl, refl)
+  kept_4 None = (refl, refl, refl)
+  kept_4 (Some l) = (refl, refl, refl)
 
 -- the contents of a field in the midst of other bytes
 in_midst : (p q : List ℕ) (tag : ℕ) (l : List ℕ) (at : ℕ) → length p ≡ at → take (length l) (drop (at + 3) (p ++ (field tag l ++ q))) ≡ l
@@ -116,7 +115,7 @@ in_midst p q tag l at e =
     regroup h = simp append_assoc
 
 -- all of it
-module _ (wd al : Number) (r n : Setting) (l : List ℕ) where
+module _ (wd al : Option ℕ) (r n : Setting) (l : List ℕ) where
   abbrev w : Setting
   w = of_number 1 wd
 
@@ -154,13 +153,13 @@ module _ (wd al : Number) (r n : Setting) (l : List ℕ) where
   says_allowance : so_four.allowance ≡ al
   says_allowance = (kept_4 so_three (at_three + 3) n).1 ∙ (kept_3 so_two (at_two + 3) r).1 ∙ allowance_is so_one (at_one + 3) al (kept_1 none 3 w).0
 
-  no_repository : so_two.repository ≡ S.Absent
+  no_repository : so_two.repository ≡ None
   no_repository = (kept_2 so_one (at_one + 3) a).1 ∙ (kept_1 none 3 w).1
 
-  no_note : so_three.note ≡ S.Absent
+  no_note : so_three.note ≡ None
   no_note = (kept_3 so_two (at_two + 3) r).2 ∙ (kept_2 so_one (at_one + 3) a).2 ∙ (kept_1 none 3 w).2
 
-  repository_there : (m : List ℕ) → r ≡ there m → take (length m) (drop (at_two + 3) saved) ≡ m
+  repository_there : (m : List ℕ) → r ≡ Some m → take (length m) (drop (at_two + 3) saved) ≡ m
   repository_there m h =
       ap (λ (x : Setting). take (length m) (drop (at_two + 3) (fields_of (tagged w a x n) ++ l))) h
       ∙ ap (λ (k : List ℕ). take (length m) (drop (at_two + 3) k)) (regroup (setting_bytes 1 w) (setting_bytes 2 a) (field 3 m) (setting_bytes 128 n))
@@ -169,7 +168,7 @@ module _ (wd al : Number) (r n : Setting) (l : List ℕ) where
       regroup : (x y z v : List ℕ) → (x ++ (y ++ (z ++ (v ++ [])))) ++ l ≡ (x ++ y) ++ (z ++ (v ++ l))
       regroup x y z v = simp (append_assoc, append-nil)
 
-  note_there : (m : List ℕ) → n ≡ there m → take (length m) (drop (at_three + 3) saved) ≡ m
+  note_there : (m : List ℕ) → n ≡ Some m → take (length m) (drop (at_three + 3) saved) ≡ m
   note_there m h =
       ap (λ (x : Setting). take (length m) (drop (at_three + 3) (fields_of (tagged w a r x) ++ l))) h
       ∙ ap (λ (k : List ℕ). take (length m) (drop (at_three + 3) k)) (regroup (setting_bytes 1 w) (setting_bytes 2 a) (setting_bytes 3 r) (field 128 m))

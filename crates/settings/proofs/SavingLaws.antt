@@ -7,52 +7,51 @@ use native.Mathlib.Omega.{arith}
 use native.Mathlib.Nat.{zero-add}
 use native.Mathlib.Decide.{dec_le}
 use borrow.Author.Tests.{le-leb, lt-leb}
+use denote.Ref.{Bor}
 use lib.ListN.{length, length-append}
 use lib.Dec.{leb}
+use Rattle.std.specs.Prelude.{Some, None, Ok, Err}
+use Rattle.std.specs.Option.{option_copied, option_and}
+use Rattle.std.specs.declared.option.Option.{Option}
+use Rattle.std.specs.declared.result.Result.{Result}
 use Rattle.xdr.specs.Reading.{Reading, taken, refused}
 use Rattle.xdr.specs.Number.{big_endian, digits}
 use Rattle.xdr.specs.Buffer.{filled, over, put}
 use Rattle.xdr.specs.Filling.{Outcome, gives, refuses}
 use Rattle.xdr.specs.declared.answer.Refusal.{Refusal}
-use Rattle.xdr.specs.declared.filling.Filling.{Filling}
-use Rattle.xdr.specs.declared.filling.Filling.TheVariants as F
-use Rattle.xdr.proofs.BufferLaws.{over_over, length_over, put_nothing, FilledTo, filled_none, put_next}
+use Rattle.xdr.proofs.BufferLaws.{over_over, length_over, FilledTo, filled_none, put_next}
 use Rattle.settings.specs.Field.{field, is_window, wrong}
 use Rattle.settings.specs.Reading.{none, read_from, reading}
-use Rattle.settings.specs.Saving.{Setting, there, of_number, of_bytes, setting_bytes, fields_of, tagged, read_on, read_back, as_read, saving_bytes, saving}
-use Rattle.settings.specs.Steps.{is_there, byte_of, word_of, end_answer, setting_end, Storable}
+use Rattle.settings.specs.Saving.{Setting, of_number, setting_bytes, fields_of, tagged, read_on, read_back, as_read, saving_bytes, saving}
+use Rattle.settings.specs.Steps.{unless_0, byte_of, word_of, end_answer, setting_end, Storable}
 use Rattle.settings.specs.declared.answer.Settings.{Settings}
-use Rattle.settings.specs.declared.answer.Number.{Number}
-use Rattle.settings.specs.declared.answer.Number.TheVariants as N
-use Rattle.settings.proofs.FieldLaws.{byte_held, byte_none, window, own_26}
+use Rattle.settings.proofs.FieldLaws.{byte_held, byte_none, nothing_wrong, something_wrong, window, own_26}
 use Rattle.settings.proofs.CarriedLaws.{filled_end}
 use Rattle.settings.proofs.SettingLaws.{field_long, field_faulty, end_right, end_faulty, short_setting, past_right, ordered}
 
--- where a setting ends, by whether it is there
-module _ (b : Bool) (at tag : ℕ) (l : List ℕ) where
-  pub absent_end : b ≡ false → F.Filled at ≡ setting_end at tag (of_bytes b l)
-  unfolding setting_end
-  absent_end e = rw e refl
+-- where a setting ends that is there, by what is answered of its contents
+module _ (at tag : ℕ) (l : List ℕ) where
+  pub wrong_end : {k : ℕ} → unless_0 (wrong tag l) ≡ Some k → Err (record { number = k; place = at }) ≡ setting_end at tag (Some l)
+  wrong_end {k} e =
+      let w = something_wrong (wrong tag l) k e in
+      ap (λ (n : ℕ). Err (record { number = n; place = at })) (sym w.0) ∙ sym (end_faulty at tag l w.1)
 
-  pub wrong_end : b ≡ true → {k : ℕ} → k ≡ wrong tag l → (k ≡ 0 → ⊥) → F.Refused (record { number = k; place = at }) ≡ setting_end at tag (of_bytes b l)
-  wrong_end e {k} q z = rw (e, q) (sym (end_faulty at tag l (λ u. z (q ∙ u))))
-
-  pub right_end : b ≡ true → wrong tag l ≡ 0 → F.Filled (at + 3 + length l) ≡ setting_end at tag (of_bytes b l)
-  right_end e q =
+  pub right_end : unless_0 (wrong tag l) ≡ None → Ok (at + 3 + length l) ≡ setting_end at tag (Some l)
+  right_end e =
       let same : at + 3 + length l ≡ at + length (field tag l) = omega (arith, field_long tag l) in
-      rw e (ap F.Filled same ∙ sym (end_right at tag (there l) q))
+      ap Ok same ∙ sym (end_right at tag (Some l) (nothing_wrong (wrong tag l) e))
 
 -- reading all: the settings, and then the carried fields
-module _ (o l : List ℕ) {f : Filling} (first : f ≡ end_answer (reading o)) where
-  pub own_refused : {r : Refusal} → f ≡ F.Refused r → f ≡ end_answer (read_back o l)
+module _ (o l : List ℕ) {f : Result ℕ Refusal} (first : f ≡ end_answer (reading o)) where
+  pub own_refused : {r : Refusal} → f ≡ Err r → f ≡ end_answer (read_back o l)
   unfolding read_back
   own_refused {r} e = go (reading o) first
     where
       go : (x : Reading Settings) → f ≡ end_answer x → f ≡ end_answer (read_on x l)
-      go (taken so n) k = let z : ◌≡◌ {A = ℕ} 0 1 = cc in absurd (omega arith)
+      go (taken so n) k = cc
       go (refused k p) j = j
 
-  pub both_read : {end : ℕ} → f ≡ F.Filled end → {w : Filling} → ((so : Settings) → w ≡ end_answer (read_from l 0 129 end so)) → w ≡ end_answer (read_back o l)
+  pub both_read : {end : ℕ} → f ≡ Ok end → {w : Result ℕ Refusal} → ((so : Settings) → w ≡ end_answer (read_from l 0 129 end so)) → w ≡ end_answer (read_back o l)
   unfolding read_back
   both_read {end} e {w} behind = go (reading o) first
     where
@@ -60,15 +59,15 @@ module _ (o l : List ℕ) {f : Filling} (first : f ≡ end_answer (reading o)) w
       go (taken so n) k =
           let same : end ≡ n = cc in
           behind so ∙ ap (λ (m : ℕ). end_answer (read_from l 0 129 m so)) same
-      go (refused k p) i = let z : ◌≡◌ {A = ℕ} 0 1 = cc in absurd (omega arith)
+      go (refused k p) i = cc
 
 -- what is saved, by that answer: a refusal
-pub saving_refused : (o l : List ℕ) {f : Filling} {r : Refusal} → f ≡ end_answer (read_back o l) → f ≡ F.Refused r → saving_bytes o l ≡ refuses r.number r.place
+pub saving_refused : (o l : List ℕ) {f : Result ℕ Refusal} {r : Refusal} → f ≡ end_answer (read_back o l) → f ≡ Err r → saving_bytes o l ≡ refuses r.number r.place
 unfolding saving_bytes
 saving_refused o l {f} {r} e q = go (read_back o l) (sym q ∙ e)
   where
-    go : (x : Reading Settings) → F.Refused r ≡ end_answer x → as_read (o ++ l) x ≡ refuses r.number r.place
-    go (taken so n) k = let z : ◌≡◌ {A = ℕ} 0 1 = cc in absurd (omega arith)
+    go : (x : Reading Settings) → Err r ≡ end_answer x → as_read (o ++ l) x ≡ refuses r.number r.place
+    go (taken so n) k = cc
     go (refused k p) i = let n : r.number ≡ k = cc in let m : r.place ≡ p = cc in rw (n, m) refl
 
 -- or all of it
@@ -80,11 +79,11 @@ pub record Accepted (o l : List ℕ) (n : ℕ) : Type 0 where
   pub size : n ≡ length (o ++ l)
   pub saves : saving_bytes o l ≡ gives (o ++ l)
 
-pub accepted : (o l : List ℕ) {n : ℕ} → end_answer (read_back o l) ≡ F.Filled n → Accepted o l n
+pub accepted : (o l : List ℕ) {n : ℕ} → end_answer (read_back o l) ≡ Ok n → Accepted o l n
 unfolding saving_bytes read_back
 accepted o l {n} e = go (reading o) refl e
   where
-    on : (so : Settings) → reading o ≡ taken so (length o) → (x : Reading Settings) → read_from l 0 129 (length o) so ≡ x → end_answer x ≡ F.Filled n → Accepted o l n
+    on : (so : Settings) → reading o ≡ taken so (length o) → (x : Reading Settings) → read_from l 0 129 (length o) so ≡ x → end_answer x ≡ Ok n → Accepted o l n
     on so q (taken last m) u f =
         let same : m ≡ n = cc in
         let end : m ≡ length o + length l = filled_end l 129 (length o) so (ap end_answer u) in
@@ -96,20 +95,20 @@ accepted o l {n} e = go (reading o) refl e
           size = omega (arith, length-append o l);
           saves = ap (λ (x : Reading Settings). as_read (o ++ l) (read_on x l)) q ∙ ap (as_read (o ++ l)) u;
         }
-    on so q (refused j p) u f = let z : ◌≡◌ {A = ℕ} 0 1 = cc in absurd (omega arith)
+    on so q (refused j p) u f = cc
 
-    go : (x : Reading Settings) → reading o ≡ x → end_answer (read_on x l) ≡ F.Filled n → Accepted o l n
+    go : (x : Reading Settings) → reading o ≡ x → end_answer (read_on x l) ≡ Ok n → Accepted o l n
     go (taken so m) q f =
         let end : m ≡ 0 + length o = filled_end o 0 0 none (ap end_answer q) in
         let same : m ≡ length o = omega arith in
-        on so (q ∙ ap (taken so) same) (read_from l 0 129 (length o) so) refl (subst (λ (i : ℕ). end_answer (read_from l 0 129 i so) ≡ F.Filled n) same f)
-    go (refused j p) q f = let z : ◌≡◌ {A = ℕ} 0 1 = cc in absurd (omega arith)
+        on so (q ∙ ap (taken so) same) (read_from l 0 129 (length o) so) refl (subst (λ (i : ℕ). end_answer (read_from l 0 129 i so) ≡ Ok n) same f)
+    go (refused j p) q f = cc
 
 -- the settings end before place 1,032, where they are taken
 four_long : (w a r n : Setting) → length (fields_of (tagged w a r n)) ≡ length (setting_bytes 1 w) + length (setting_bytes 2 a) + length (setting_bytes 3 r) + length (setting_bytes 128 n)
 four_long w a r n = simp (length-append, append-nil) (omega arith)
 
-pub own_short : (w a r n : Setting) {f : Filling} {end : ℕ} → f ≡ end_answer (reading (fields_of (tagged w a r n))) → f ≡ F.Filled end → end ≤ 1032
+pub own_short : (w a r n : Setting) {f : Result ℕ Refusal} {end : ℕ} → f ≡ end_answer (reading (fields_of (tagged w a r n))) → f ≡ Ok end → end ≤ 1032
 own_short w a r n {f} {end} first e =
     let o = past_right (tagged w a r n) 0 0 none (ordered w a r n) (sym first ∙ e) in
     let long = filled_end (fields_of (tagged w a r n)) 0 0 none (sym first ∙ e) in
@@ -152,20 +151,15 @@ module _ (out : List ℕ) (at tag : ℕ) (l : List ℕ) where
       three_long : length head ≡ 3
       three_long = refl
 
--- storing one setting
-module _ (b : Bool) (out : List ℕ) (at tag : ℕ) (l : List ℕ) where
-  pub store_none : b ≡ false → (0 ≡ length (setting_bytes tag (of_bytes b l))) × (out ≡ put out at (setting_bytes tag (of_bytes b l)))
-  store_none e = rw e (refl, (put_nothing out at).1)
+-- storing a setting that is there
+module _ (out : List ℕ) (at tag : ℕ) (l : List ℕ) where
+  pub field_short : length (setting_bytes tag (Some l)) ≤ 258 → length l ≤ 255
+  field_short h = omega (arith, h, field_long tag l)
 
-  pub field_short : b ≡ true → length (setting_bytes tag (of_bytes b l)) ≤ 258 → length l ≤ 255
-  field_short e h = omega (arith, subst (λ (d : Bool). length (setting_bytes tag (of_bytes d l)) ≤ 258) e h, field_long tag l)
-
-  pub store_field : {o p : List ℕ} → b ≡ true → at + length (setting_bytes tag (of_bytes b l)) ≤ length out → o ≡ put out at (tag ∷ length l / 256 ∷ length l % 256 ∷ []) → p ≡ put o (at + 3) l
-      → (3 + length l ≡ length (setting_bytes tag (of_bytes b l))) × (p ≡ put out at (setting_bytes tag (of_bytes b l)))
+  pub store_field : {o p : List ℕ} → at + length (setting_bytes tag (Some l)) ≤ length out → o ≡ put out at (tag ∷ length l / 256 ∷ length l % 256 ∷ []) → p ≡ put o (at + 3) l
+      → (3 + length l ≡ length (setting_bytes tag (Some l))) × (p ≡ put out at (setting_bytes tag (Some l)))
   unfolding head
-  store_field {o} {p} e h q u =
-      let room : at + length (field tag l) ≤ length out = subst (λ (d : Bool). at + length (setting_bytes tag (of_bytes d l)) ≤ length out) e h in
-      rw e (sym (field_long tag l), put_two out at tag l room q u)
+  store_field h q u = (sym (field_long tag l), put_two out at tag l h q u)
 
 -- storing all
 module _ (w a r n : Setting) (l : List ℕ) where
@@ -199,12 +193,20 @@ module _ (w a r n : Setting) (l : List ℕ) where
       }
 
 -- numbers as the bytes that they are saved as
-word_saved : (a : Number) → of_number 4 a ≡ of_bytes (is_there a) (word_of a)
-word_saved N.Absent = refl
-word_saved (N.There k) = refl
+abbrev byte_saved : Option ℕ → Setting
+byte_saved None = None
+byte_saved (Some k) = Some (byte_of (Some k))
+
+pub byte_given : (w : Option ℕ) (b : Bor (List ℕ)) {o : Option (Bor (List ℕ))} → o ≡ option_and w (Some b) → b.now ≡ byte_of w → option_copied o ≡ byte_saved w
+byte_given None b e h = ap option_copied e
+byte_given (Some k) b e h = ap option_copied e ∙ ap Some h
+
+pub word_given : (a : Option ℕ) (b : Bor (List ℕ)) {o : Option (Bor (List ℕ))} → o ≡ option_and a (Some b) → b.now ≡ word_of a → option_copied o ≡ of_number 4 a
+word_given None b e h = ap option_copied e
+word_given (Some k) b e h = ap option_copied e ∙ ap Some h
 
 -- a window that is wrong is refused first
-window_refused : (l : List ℕ) (a r n : Setting) (c : List ℕ) → (wrong 1 l ≡ 0 → ⊥) → saving_bytes (fields_of (tagged (there l) a r n)) c ≡ refuses 26 0
+window_refused : (l : List ℕ) (a r n : Setting) (c : List ℕ) → (wrong 1 l ≡ 0 → ⊥) → saving_bytes (fields_of (tagged (Some l) a r n)) c ≡ refuses 26 0
 unfolding saving_bytes read_back
 window_refused l a r n c h =
     let rest : List ℕ = setting_bytes 2 a ++ (setting_bytes 3 r ++ (setting_bytes 128 n ++ [])) in
@@ -228,15 +230,14 @@ great_wrong k h e =
     let z : ◌≡◌ {A = ℕ} 26 0 = subst (λ (b : Bool). ◌≡◌ {A = ℕ} (cond b 0 26) 0) (great_none k h) e in
     omega arith
 
-window_saved : (w : Number) (a r n : Setting) (c : List ℕ)
-    → saving_bytes (fields_of (tagged (of_number 1 w) a r n)) c ≡ saving_bytes (fields_of (tagged (of_bytes (is_there w) (byte_of w)) a r n)) c
-window_saved N.Absent a r n c = refl
-window_saved (N.There k) a r n c = go (dec_le k 255)
+window_saved : (w : Option ℕ) (a r n : Setting) (c : List ℕ) → saving_bytes (fields_of (tagged (of_number 1 w) a r n)) c ≡ saving_bytes (fields_of (tagged (byte_saved w) a r n)) c
+window_saved None a r n c = refl
+window_saved (Some k) a r n c = go (dec_le k 255)
   where
     with : List ℕ → Outcome
-    with l = saving_bytes (fields_of (tagged (there l) a r n)) c
+    with l = saving_bytes (fields_of (tagged (Some l) a r n)) c
 
-    go : Dec (k ≤ 255) → saving_bytes (fields_of (tagged (there (digits 1 k)) a r n)) c ≡ saving_bytes (fields_of (tagged (there (byte_of (N.There k))) a r n)) c
+    go : Dec (k ≤ 255) → saving_bytes (fields_of (tagged (Some (digits 1 k)) a r n)) c ≡ saving_bytes (fields_of (tagged (Some (byte_of (Some k))) a r n)) c
     go (yes h) =
         let same : k / 1 ≡ k = omega arith in
         ap with (ap (λ (m : ℕ). m ∷ []) same ∙ byte_held k h)
@@ -245,9 +246,5 @@ window_saved (N.There k) a r n c = go (dec_le k 255)
         ∙ sym (window_refused (0 ∷ []) a r n c zero_wrong)
         ∙ ap with (byte_none k (omega arith))
 
-pub numbers_saved : (w a : Number) (r n : Setting) (c : List ℕ) {wt at : Bool} {wl al : List ℕ} → wt ≡ is_there w → wl ≡ byte_of w → at ≡ is_there a → al ≡ word_of a
-    → saving w a r n c ≡ saving_bytes (fields_of (tagged (of_bytes wt wl) (of_bytes at al) r n)) c
-numbers_saved w a r n c p q u v =
-    window_saved w (of_number 4 a) r n c
-    ∙ ap (λ (x : Setting). saving_bytes (fields_of (tagged (of_bytes (is_there w) (byte_of w)) x r n)) c) (word_saved a)
-    ∙ rw (p, q, u, v) refl
+pub numbers_saved : (w a : Option ℕ) (r n : Setting) (c : List ℕ) {x y : Setting} → x ≡ byte_saved w → y ≡ of_number 4 a → saving w a r n c ≡ saving_bytes (fields_of (tagged x y r n)) c
+numbers_saved w a r n c p q = window_saved w (of_number 4 a) r n c ∙ rw (p, q) refl

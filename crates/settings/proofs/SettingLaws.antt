@@ -9,14 +9,14 @@ use borrow.Author.Tests.{eq-eqb, ne_eqb, eqb-true, eqb-false}
 use lib.ListN.{length, take, drop, length-append}
 use lib.Seq.{take_at, drop_at}
 use lib.Dec.{eqb}
+use Rattle.std.specs.Prelude.{Some, None, Ok, Err}
+use Rattle.std.specs.declared.result.Result.{Result}
 use Rattle.xdr.specs.Reading.{taken, refused}
 use Rattle.xdr.specs.Number.{digits}
 use Rattle.xdr.specs.declared.answer.Refusal.{Refusal}
-use Rattle.xdr.specs.declared.filling.Filling.{Filling}
-use Rattle.xdr.specs.declared.filling.Filling.TheVariants as F
 use Rattle.settings.specs.Field.{field, size_of, contents_of, wrong, fault}
 use Rattle.settings.specs.Reading.{none, with_field, read_from, reading}
-use Rattle.settings.specs.Saving.{Setting, absent, there, setting_bytes, fields_of, tagged}
+use Rattle.settings.specs.Saving.{Setting, setting_bytes, fields_of, tagged}
 use Rattle.settings.specs.Steps.{end_answer, setting_end}
 use Rattle.settings.specs.declared.answer.Settings.{Settings}
 use Rattle.settings.proofs.FieldLaws.{Own, window, allowance, repository, note, own_26, short, fault_contents, own_carried}
@@ -68,77 +68,77 @@ field_long tag l = length-append (tag ∷ digits 2 (length l)) l
 
 -- a setting that isn't there, or whose contents are right
 abbrev Right : (tag : ℕ) → Setting → Type 0
-Right tag absent = Unit {0}
-Right tag (there l) = wrong tag l ≡ 0
+Right tag None = Unit {0}
+Right tag (Some l) = wrong tag l ≡ 0
 
 -- the least tag that is in order behind it, and the settings with it
 abbrev least_after : (least tag : ℕ) → Setting → ℕ
-least_after least tag absent = least
-least_after least tag (there l) = suc tag
+least_after least tag None = least
+least_after least tag (Some l) = suc tag
 
 abbrev pub so_after : Settings → (start tag : ℕ) → Setting → Settings
-so_after so start tag absent = so
-so_after so start tag (there l) = with_field so start tag l
+so_after so start tag None = so
+so_after so start tag (Some l) = with_field so start tag l
 
 least_after_lem : (least tag : ℕ) (x : Setting) → least ≤ tag → least_after least tag x ≤ suc tag
-least_after_lem least tag absent h = omega arith
-least_after_lem least tag (there l) h = omega arith
+least_after_lem least tag None h = omega arith
+least_after_lem least tag (Some l) h = omega arith
 
 -- reading goes on behind it
 setting_good : (tag : ℕ) (x : Setting) (least at : ℕ) (so : Settings) (rest : List ℕ) → least ≤ tag → Right tag x
     → read_from (setting_bytes tag x ++ rest) 0 least at so ≡ read_from rest 0 (least_after least tag x) (at + length (setting_bytes tag x)) (so_after so (at + 3) tag x)
-setting_good tag absent least at so rest h g = ap (λ (k : ℕ). read_from rest 0 least k so) (sym (add-zero at))
-setting_good tag (there l) least at so rest h g =
+setting_good tag None least at so rest h g = ap (λ (k : ℕ). read_from rest 0 least k so) (sym (add-zero at))
+setting_good tag (Some l) least at so rest h g =
     let same : at + 3 + length l ≡ at + length (field tag l) = omega (arith, field_long tag l) in
     field_good tag l rest least at so h g ∙ ap (λ (k : ℕ). read_from rest 0 (suc tag) k (with_field so (at + 3) tag l)) same
 
 -- where it ends, or what is wrong with it
-pub end_right : (at tag : ℕ) (x : Setting) → Right tag x → setting_end at tag x ≡ F.Filled (at + length (setting_bytes tag x))
+pub end_right : (at tag : ℕ) (x : Setting) → Right tag x → setting_end at tag x ≡ Ok (at + length (setting_bytes tag x))
 unfolding setting_end
-end_right at tag absent g = ap F.Filled (sym (add-zero at))
-end_right at tag (there l) g =
+end_right at tag None g = ap Ok (sym (add-zero at))
+end_right at tag (Some l) g =
     let same : at + 3 + length l ≡ at + length (field tag l) = omega (arith, field_long tag l) in
-    simp (eq-eqb (wrong tag l) 0 g) (ap F.Filled same)
+    simp (eq-eqb (wrong tag l) 0 g) (ap Ok same)
 
-pub end_faulty : (at tag : ℕ) (l : List ℕ) → (wrong tag l ≡ 0 → ⊥) → setting_end at tag (there l) ≡ F.Refused (record { number = wrong tag l; place = at })
+pub end_faulty : (at tag : ℕ) (l : List ℕ) → (wrong tag l ≡ 0 → ⊥) → setting_end at tag (Some l) ≡ Err (record { number = wrong tag l; place = at })
 unfolding setting_end
 end_faulty at tag l g = simp (ne_eqb (wrong tag l) 0 g)
 
 pub data Fate (tag : ℕ) : Setting → Type 0 where
   right : {x : Setting} → Right tag x → Fate tag x
-  faulty : {l : List ℕ} → (wrong tag l ≡ 0 → ⊥) → Fate tag (there l)
+  faulty : {l : List ℕ} → (wrong tag l ≡ 0 → ⊥) → Fate tag (Some l)
 
 fate : (tag : ℕ) (x : Setting) → Fate tag x
-fate tag absent = right tt
-fate tag (there l) = go (eqb (wrong tag l) 0) refl
+fate tag None = right tt
+fate tag (Some l) = go (eqb (wrong tag l) 0) refl
   where
-    go : (d : Bool) → eqb (wrong tag l) 0 ≡ d → Fate tag (there l)
+    go : (d : Bool) → eqb (wrong tag l) 0 ≡ d → Fate tag (Some l)
     go true e = right (eqb-true (wrong tag l) 0 e)
     go false e = faulty (eqb-false (wrong tag l) 0 e)
 
 -- what the answer for a setting tells
-pub filled_right : (at tag : ℕ) (x : Setting) {n : ℕ} → setting_end at tag x ≡ F.Filled n → Right tag x × (n ≡ at + length (setting_bytes tag x))
+pub filled_right : (at tag : ℕ) (x : Setting) {n : ℕ} → setting_end at tag x ≡ Ok n → Right tag x × (n ≡ at + length (setting_bytes tag x))
 filled_right at tag x {n} e = go x (fate tag x) e
   where
-    go : (x : Setting) → Fate tag x → setting_end at tag x ≡ F.Filled n → Right tag x × (n ≡ at + length (setting_bytes tag x))
+    go : (x : Setting) → Fate tag x → setting_end at tag x ≡ Ok n → Right tag x × (n ≡ at + length (setting_bytes tag x))
     go x (right g) f = let k = end_right at tag x g in (g, cc)
-    go (there l) (faulty g) f = let k = end_faulty at tag l g in let z : ◌≡◌ {A = ℕ} 0 1 = cc in absurd (omega arith)
+    go (Some l) (faulty g) f = let k = end_faulty at tag l g in cc
 
 -- where it is refused, reading is
-refused_read : (at tag : ℕ) (x : Setting) {r : Refusal} (least : ℕ) (so : Settings) (rest : List ℕ) → least ≤ tag → setting_end at tag x ≡ F.Refused r
+refused_read : (at tag : ℕ) (x : Setting) {r : Refusal} (least : ℕ) (so : Settings) (rest : List ℕ) → least ≤ tag → setting_end at tag x ≡ Err r
     → setting_end at tag x ≡ end_answer (read_from (setting_bytes tag x ++ rest) 0 least at so)
 refused_read at tag x {r} least so rest h e = go x (fate tag x) e
   where
-    go : (x : Setting) → Fate tag x → setting_end at tag x ≡ F.Refused r → setting_end at tag x ≡ end_answer (read_from (setting_bytes tag x ++ rest) 0 least at so)
-    go x (right g) f = let k = end_right at tag x g in let z : ◌≡◌ {A = ℕ} 0 1 = cc in absurd (omega arith)
-    go (there l) (faulty g) f = end_faulty at tag l g ∙ ap end_answer (sym (field_faulty tag l rest least at so h g))
+    go : (x : Setting) → Fate tag x → setting_end at tag x ≡ Err r → setting_end at tag x ≡ end_answer (read_from (setting_bytes tag x ++ rest) 0 least at so)
+    go x (right g) f = let k = end_right at tag x g in cc
+    go (Some l) (faulty g) f = end_faulty at tag l g ∙ ap end_answer (sym (field_faulty tag l rest least at so h g))
 
 -- the steps of the check: a setting that is refused ends the reading; one that is taken hands on to what follows
-module _ (at tag : ℕ) (x : Setting) {p : Filling} (e : p ≡ setting_end at tag x) (least : ℕ) (so : Settings) (h : least ≤ tag) where
-  pub step_refused : {r : Refusal} (rest : List ℕ) → p ≡ F.Refused r → p ≡ end_answer (read_from (setting_bytes tag x ++ rest) 0 least at so)
+module _ (at tag : ℕ) (x : Setting) {p : Result ℕ Refusal} (e : p ≡ setting_end at tag x) (least : ℕ) (so : Settings) (h : least ≤ tag) where
+  pub step_refused : {r : Refusal} (rest : List ℕ) → p ≡ Err r → p ≡ end_answer (read_from (setting_bytes tag x ++ rest) 0 least at so)
   step_refused rest f = e ∙ refused_read at tag x least so rest h (sym e ∙ f)
 
-  pub step_on : {n : ℕ} (rest : List ℕ) {r : Filling} → p ≡ F.Filled n
+  pub step_on : {n : ℕ} (rest : List ℕ) {r : Result ℕ Refusal} → p ≡ Ok n
       → ((least' : ℕ) (so' : Settings) → least' ≤ suc tag → r ≡ end_answer (read_from rest 0 least' n so')) → r ≡ end_answer (read_from (setting_bytes tag x ++ rest) 0 least at so)
   step_on {n} rest f k =
       let w = filled_right at tag x (sym e ∙ f) in
@@ -150,14 +150,14 @@ module _ (at tag : ℕ) (x : Setting) {p : Filling} (e : p ≡ setting_end at ta
   unfolding read_from
   step_last = go p refl
     where
-      go : (q : Filling) → p ≡ q → p ≡ end_answer (read_from (setting_bytes tag x ++ []) 0 least at so)
-      go (F.Filled n) f = step_on [] f (λ least' so' i. f)
-      go (F.Refused r) f = step_refused [] f
+      go : (q : Result ℕ Refusal) → p ≡ q → p ≡ end_answer (read_from (setting_bytes tag x ++ []) 0 least at so)
+      go (Ok n) f = step_on [] f (λ least' so' i. f)
+      go (Err r) f = step_refused [] f
 
 -- one that is right is short
 pub short_setting : (tag : ℕ) (x : Setting) → tag ≤ 128 → Right tag x → length (setting_bytes tag x) ≤ 258
-short_setting tag absent h g = omega arith
-short_setting tag (there l) h g = let k = short tag l h g in omega (arith, field_long tag l)
+short_setting tag None h g = omega arith
+short_setting tag (Some l) h g = let k = short tag l h g in omega (arith, field_long tag l)
 
 -- settings one after another: all are right
 abbrev AllRight : List (ℕ × Setting) → Type 0
@@ -219,7 +219,7 @@ all_fate (p ∷ ps) least at so o =
 
     go : (x : Setting) → p.1 ≡ x → Fate p.0 x → AllFate ps (least_after least p.0 p.1) (at + length (setting_bytes p.0 p.1)) (so_after so (at + 3) p.0 p.1) → AllFate (p ∷ ps) least at so
     go x e (right g) k = then (subst (Right p.0) (sym e) g) k
-    go (there l) e (faulty g) k =
+    go (Some l) e (faulty g) k =
         one_faulty at
         (λ rest.
         apart rest
@@ -228,20 +228,19 @@ all_fate (p ∷ ps) least at so o =
         ∙ ap (λ (n : ℕ). refused n at) (own_26 p.0 l o.1 g))
 
 -- settings that reading goes past are right
-pub past_right : (ps : List (ℕ × Setting)) (least at : ℕ) (so : Settings) {n : ℕ} → Ordered least ps → end_answer (read_from (fields_of ps) 0 least at so) ≡ F.Filled n → AllRight ps
+pub past_right : (ps : List (ℕ × Setting)) (least at : ℕ) (so : Settings) {n : ℕ} → Ordered least ps → end_answer (read_from (fields_of ps) 0 least at so) ≡ Ok n → AllRight ps
 past_right ps least at so {n} o e = go (all_fate ps least at so o)
   where
     go : AllFate ps least at so → AllRight ps
     go (all_right g) = g
     go (one_faulty p f) =
         let k : read_from (fields_of ps) 0 least at so ≡ refused 26 p = ap (λ (m : List ℕ). read_from m 0 least at so) (sym (append-nil (fields_of ps))) ∙ f [] in
-        let z : ◌≡◌ {A = ℕ} 0 1 = cc in
-        absurd (omega arith)
+        cc
 
 -- the carried fields begin behind them
 carried_one : (tag : ℕ) (x : Setting) (at : ℕ) (so : Settings) → Own tag → so.carried ≡ at → (so_after so (at + 3) tag x).carried ≡ at + length (setting_bytes tag x)
-carried_one tag absent at so o e = e ∙ sym (add-zero at)
-carried_one tag (there l) at so o e = own_carried so (at + 3) tag l o ∙ omega (arith, field_long tag l)
+carried_one tag None at so o e = e ∙ sym (add-zero at)
+carried_one tag (Some l) at so o e = own_carried so (at + 3) tag l o ∙ omega (arith, field_long tag l)
 
 pub carried_all : (ps : List (ℕ × Setting)) (least at : ℕ) (so : Settings) → Ordered least ps → so.carried ≡ at → (so_of ps at so).carried ≡ at + length (fields_of ps)
 carried_all [] least at so o e = e ∙ sym (add-zero at)

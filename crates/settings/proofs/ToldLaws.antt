@@ -11,16 +11,15 @@ use borrow.Author.Tests.{eqb-true, le-leb, lt-leb}
 use lib.ListN.{length, take, drop, length-drop, take-append-drop}
 use lib.Seq.{drop-drop, take-append-add, length-take-le}
 use lib.Dec.{eqb}
+use Rattle.std.specs.Prelude.{Some, None}
 use Rattle.xdr.specs.Reading.{taken, refused}
 use Rattle.xdr.specs.Number.{big_endian, digits, IsBytes}
 use Rattle.xdr.proofs.NumberLaws.{digits_read, bytes_drop, number_first}
 use Rattle.settings.specs.Field.{field, size_of, contents_of, wrong, fault}
 use Rattle.settings.specs.Reading.{none, with_field, read_from, reading}
-use Rattle.settings.specs.Saving.{Setting, absent, there, of_number, setting_bytes, fields_of, tagged, own_bytes}
+use Rattle.settings.specs.Saving.{Setting, of_number, setting_bytes, fields_of, tagged, own_bytes}
 use Rattle.settings.specs.Promised.{of_span, kept_from, without_carried, Inside}
 use Rattle.settings.specs.declared.answer.Settings.{Settings}
-use Rattle.settings.specs.declared.answer.Number.TheVariants as N
-use Rattle.settings.specs.declared.answer.Span.TheVariants as S
 use Rattle.settings.proofs.FieldLaws.{window, allowance, repository, note, Kind, own, carried, kind, window_long, allowance_long, no_fault, fault_contents, with_window, with_allowance, with_repository_lem, with_note, with_above}
 use Rattle.settings.proofs.ReadLaws.{front_good}
 use Rattle.settings.proofs.SettingLaws.{field_good}
@@ -36,10 +35,10 @@ pub record Told (s : List ℕ) (so : Settings) (least at : ℕ) : Type 0 where
   pub early : so.carried ≤ at
   -- up to tag 128 no field was carried, and what has a tag from the least on isn't there
   pub before : least ≤ 128 → so.carried ≡ at
-  pub no_window : least ≤ 1 → so.window ≡ N.Absent
-  pub no_allowance : least ≤ 2 → so.allowance ≡ N.Absent
-  pub no_repository : least ≤ 3 → so.repository ≡ S.Absent
-  pub no_note : least ≤ 128 → so.note ≡ S.Absent
+  pub no_window : least ≤ 1 → so.window ≡ None
+  pub no_allowance : least ≤ 2 → so.allowance ≡ None
+  pub no_repository : least ≤ 3 → so.repository ≡ None
+  pub no_note : least ≤ 128 → so.note ≡ None
   pub repository_in : Inside s so.repository
   pub note_in : Inside s so.note
   -- all bytes without their tags above 128 are those bytes, and what is kept from here on
@@ -156,7 +155,7 @@ module _ (s : List ℕ) (at b : ℕ) (l : List ℕ) (split : drop at s ≡ b ∷
   module _ {so : Settings} {least : ℕ} (t : Told s so least at) (order : least ≤ b) (right : wrong b (contents_of l) ≡ 0) where
     -- a setting more
     own_step : b ≤ 128 → (so' : Settings) → so' ≡ with_field so (at + 3) b (contents_of l) → so'.carried ≡ at + 3 + length (contents_of l) → own_of s so' ≡ own_of s so ++ field b (contents_of l)
-        → (suc b ≤ 2 → so'.allowance ≡ N.Absent) → (suc b ≤ 3 → so'.repository ≡ S.Absent) → (suc b ≤ 128 → so'.note ≡ S.Absent) → (suc b ≤ 1 → so'.window ≡ N.Absent)
+        → (suc b ≤ 2 → so'.allowance ≡ None) → (suc b ≤ 3 → so'.repository ≡ None) → (suc b ≤ 128 → so'.note ≡ None) → (suc b ≤ 1 → so'.window ≡ None)
         → Inside s so'.repository → Inside s so'.note → Told s so' (suc b) (at + 3 + size_of l)
     own_step high so' e c o na nr nn nw ri ni =
         let next : so'.carried ≡ at + 3 + size_of l = c ∙ ap (λ (n : ℕ). at + 3 + n) contents_long in
@@ -229,22 +228,22 @@ module _ (s : List ℕ) (at b : ℕ) (l : List ℕ) (split : drop at s ≡ b ∷
 
 -- the bytes of the settings with one more, where those behind it aren't there
 module _ (w a r n : Setting) (c : List ℕ) where
-  own_window : w ≡ absent → a ≡ absent → r ≡ absent → n ≡ absent → fields_of (tagged (there c) a r n) ≡ fields_of (tagged w a r n) ++ field 1 c
+  own_window : w ≡ None → a ≡ None → r ≡ None → n ≡ None → fields_of (tagged (Some c) a r n) ≡ fields_of (tagged w a r n) ++ field 1 c
   own_window p q u v = rw (p, q, u, v) (append-nil (field 1 c))
 
-  own_allowance : a ≡ absent → r ≡ absent → n ≡ absent → fields_of (tagged w (there c) r n) ≡ fields_of (tagged w a r n) ++ field 2 c
+  own_allowance : a ≡ None → r ≡ None → n ≡ None → fields_of (tagged w (Some c) r n) ≡ fields_of (tagged w a r n) ++ field 2 c
   own_allowance q u v = rw (q, u, v) (regroup (setting_bytes 1 w) (field 2 c))
     where
       regroup : (x f : List ℕ) → x ++ (f ++ []) ≡ (x ++ []) ++ f
       regroup x f = simp append-nil
 
-  own_repository_lem : r ≡ absent → n ≡ absent → fields_of (tagged w a (there c) n) ≡ fields_of (tagged w a r n) ++ field 3 c
+  own_repository_lem : r ≡ None → n ≡ None → fields_of (tagged w a (Some c) n) ≡ fields_of (tagged w a r n) ++ field 3 c
   own_repository_lem u v = rw (u, v) (regroup (setting_bytes 1 w) (setting_bytes 2 a) (field 3 c))
     where
       regroup : (x y f : List ℕ) → x ++ (y ++ (f ++ [])) ≡ (x ++ (y ++ [])) ++ f
       regroup x y f = simp (append-nil, append_assoc)
 
-  own_note : n ≡ absent → fields_of (tagged w a r (there c)) ≡ fields_of (tagged w a r n) ++ field 128 c
+  own_note : n ≡ None → fields_of (tagged w a r (Some c)) ≡ fields_of (tagged w a r n) ++ field 128 c
   own_note v = rw v (regroup (setting_bytes 1 w) (setting_bytes 2 a) (setting_bytes 3 r) (field 128 c))
     where
       regroup : (x y z f : List ℕ) → x ++ (y ++ (z ++ (f ++ []))) ≡ (x ++ (y ++ (z ++ []))) ++ f
@@ -275,8 +274,8 @@ module _ (s : List ℕ) (at b : ℕ) (l : List ℕ) (split : drop at s ≡ b ∷
   step_window h =
       let e = with_window so (at + 3) b c {end = at + 3 + length c} refl {n = big_endian 1 c} h refl in
       subst (λ (x : Settings). Told s x (suc b) (at + 3 + size_of l)) e
-      (own_step s at b l split bytes whole t order right (omega arith) (record { window = N.There (big_endian 1 c); allowance = so.allowance; repository = so.repository; note = so.note; carried = at + 3 + length c }) e refl
-      (ap (λ (m : List ℕ). fields_of (tagged (there m) a r n)) (number_is s at b l split bytes whole 1 (window_long b c h right))
+      (own_step s at b l split bytes whole t order right (omega arith) (record { window = Some (big_endian 1 c); allowance = so.allowance; repository = so.repository; note = so.note; carried = at + 3 + length c }) e refl
+      (ap (λ (m : List ℕ). fields_of (tagged (Some m) a r n)) (number_is s at b l split bytes whole 1 (window_long b c h right))
       ∙ own_window w a r n c (ap (of_number 1) (t.no_window (omega arith))) (ap (of_number 4) (t.no_allowance (omega arith))) (ap (of_span s) (t.no_repository (omega arith))) (ap (of_span s) (t.no_note (omega arith)))
       ∙ ap (λ (k : ℕ). fields_of (tagged w a r n) ++ field k c) (sym h))
       (λ k. t.no_allowance (omega arith)) (λ k. t.no_repository (omega arith)) (λ k. t.no_note (omega arith)) (λ k. absurd (omega arith)) t.repository_in t.note_in)
@@ -285,8 +284,8 @@ module _ (s : List ℕ) (at b : ℕ) (l : List ℕ) (split : drop at s ≡ b ∷
   step_allowance h =
       let e = with_allowance so (at + 3) b c {end = at + 3 + length c} refl {n = big_endian 4 c} h refl in
       subst (λ (x : Settings). Told s x (suc b) (at + 3 + size_of l)) e
-      (own_step s at b l split bytes whole t order right (omega arith) (record { window = so.window; allowance = N.There (big_endian 4 c); repository = so.repository; note = so.note; carried = at + 3 + length c }) e refl
-      (ap (λ (m : List ℕ). fields_of (tagged w (there m) r n)) (number_is s at b l split bytes whole 4 (allowance_long b c h right))
+      (own_step s at b l split bytes whole t order right (omega arith) (record { window = so.window; allowance = Some (big_endian 4 c); repository = so.repository; note = so.note; carried = at + 3 + length c }) e refl
+      (ap (λ (m : List ℕ). fields_of (tagged w (Some m) r n)) (number_is s at b l split bytes whole 4 (allowance_long b c h right))
       ∙ own_allowance w a r n c (ap (of_number 4) (t.no_allowance (omega arith))) (ap (of_span s) (t.no_repository (omega arith))) (ap (of_span s) (t.no_note (omega arith)))
       ∙ ap (λ (k : ℕ). fields_of (tagged w a r n) ++ field k c) (sym h))
       (λ k. absurd (omega arith)) (λ k. t.no_repository (omega arith)) (λ k. t.no_note (omega arith)) (λ k. absurd (omega arith)) t.repository_in t.note_in)
@@ -295,8 +294,8 @@ module _ (s : List ℕ) (at b : ℕ) (l : List ℕ) (split : drop at s ≡ b ∷
   step_repository h =
       let e = with_repository_lem so (at + 3) b c {end = at + 3 + length c} refl h in
       subst (λ (x : Settings). Told s x (suc b) (at + 3 + size_of l)) e
-      (own_step s at b l split bytes whole t order right (omega arith) (record { window = so.window; allowance = so.allowance; repository = S.There (at + 3) (length c); note = so.note; carried = at + 3 + length c }) e refl
-      (ap (λ (m : List ℕ). fields_of (tagged w a (there m) n)) (contents_at s at b l split bytes whole)
+      (own_step s at b l split bytes whole t order right (omega arith) (record { window = so.window; allowance = so.allowance; repository = Some (record { start = at + 3; length = length c }); note = so.note; carried = at + 3 + length c }) e refl
+      (ap (λ (m : List ℕ). fields_of (tagged w a (Some m) n)) (contents_at s at b l split bytes whole)
       ∙ own_repository_lem w a r n c (ap (of_span s) (t.no_repository (omega arith))) (ap (of_span s) (t.no_note (omega arith)))
       ∙ ap (λ (k : ℕ). fields_of (tagged w a r n) ++ field k c) (sym h))
       (λ k. absurd (omega arith)) (λ k. absurd (omega arith)) (λ k. t.no_note (omega arith)) (λ k. absurd (omega arith)) inside_next t.note_in)
@@ -305,8 +304,8 @@ module _ (s : List ℕ) (at b : ℕ) (l : List ℕ) (split : drop at s ≡ b ∷
   step_note h =
       let e = with_note so (at + 3) b c {end = at + 3 + length c} refl h in
       subst (λ (x : Settings). Told s x (suc b) (at + 3 + size_of l)) e
-      (own_step s at b l split bytes whole t order right (omega arith) (record { window = so.window; allowance = so.allowance; repository = so.repository; note = S.There (at + 3) (length c); carried = at + 3 + length c }) e refl
-      (ap (λ (m : List ℕ). fields_of (tagged w a r (there m))) (contents_at s at b l split bytes whole)
+      (own_step s at b l split bytes whole t order right (omega arith) (record { window = so.window; allowance = so.allowance; repository = so.repository; note = Some (record { start = at + 3; length = length c }); carried = at + 3 + length c }) e refl
+      (ap (λ (m : List ℕ). fields_of (tagged w a r (Some m))) (contents_at s at b l split bytes whole)
       ∙ own_note w a r n c (ap (of_span s) (t.no_note (omega arith)))
       ∙ ap (λ (k : ℕ). fields_of (tagged w a r n) ++ field k c) (sym h))
       (λ k. absurd (omega arith)) (λ k. absurd (omega arith)) (λ k. absurd (omega arith)) (λ k. absurd (omega arith)) t.repository_in inside_next)
@@ -352,7 +351,7 @@ told_end s bytes (b ∷ l) zero least at so {last} {n} d h i t e =
         → ((2 + size_of l ≤ length l) × (least ≤ b) × (wrong b (contents_of l) ≡ 0) → read_from l (2 + size_of l) (suc b) (suc at) (with_field so (at + 3) b (contents_of l)) ≡ taken last n → (top : ℕ) × Told s last top (length s))
         → (top : ℕ) × Told s last top (length s)
     go true q f k = k (no_fault least b l (eqb-true (fault least b l) 0 q)) f
-    go false q f k = let z : ◌≡◌ {A = ℕ} 0 1 = cc in absurd (omega arith)
+    go false q f k = cc
 
 pub told : (s : List ℕ) → IsBytes s → {so : Settings} {n : ℕ} → reading s ≡ taken so n → (top : ℕ) × Told s so top (length s)
 told s bytes e = told_end s bytes s 0 0 0 none refl (omega arith) (omega arith) (start s) e

@@ -1,19 +1,18 @@
 -- What reading and saving promise together.
-use Rattle.std.specs.Prelude.{ℕ, zero, suc, ◌+◌, ◌≤◌, ◌<◌, List, [], ◌∷◌, ◌++◌, ◌≡◌, Bool, true, false, cond, leb, length, take, drop}
+use Rattle.std.specs.Prelude.{ℕ, zero, suc, ◌+◌, ◌≤◌, ◌<◌, List, [], ◌∷◌, ◌++◌, ◌≡◌, Bool, true, false, cond, leb, length, take, drop, Some, None}
+use Rattle.std.specs.declared.option.Option.{Option}
 use Rattle.xdr.specs.Reading.{taken, refused}
 use Rattle.xdr.specs.Filling.{Outcome, gives, refuses}
 use Rattle.settings.specs.Field.{size_of}
 use Rattle.settings.specs.Reading.{read_from, reading}
-use Rattle.settings.specs.Saving.{Setting, absent, there, own_bytes, as_read, saving}
+use Rattle.settings.specs.Saving.{Setting, own_bytes, as_read, saving}
 use Rattle.settings.specs.declared.answer.Settings.{Settings}
-use Rattle.settings.specs.declared.answer.Number.{Number}
 use Rattle.settings.specs.declared.answer.Span.{Span}
-use Rattle.settings.specs.declared.answer.Span.TheVariants as S
 
 -- the setting that a span of some bytes is
-abbrev pub of_span : List ℕ → Span → Setting
-of_span s S.Absent = absent
-of_span s (S.There start n) = there (take n (drop start s))
+abbrev pub of_span : List ℕ → Option Span → Setting
+of_span s None = None
+of_span s (Some p) = Some (take p.length (drop p.start s))
 
 -- the carried fields among some bytes
 abbrev pub carried_of : List ℕ → Settings → List ℕ
@@ -34,9 +33,9 @@ abbrev pub without_carried : List ℕ → List ℕ
 without_carried s = kept_from s 0 true
 
 -- a span lies within some bytes
-abbrev pub Inside : List ℕ → Span → Type 0
-Inside s S.Absent = Unit {0}
-Inside s (S.There start n) = start + n ≤ length s
+abbrev pub Inside : List ℕ → Option Span → Type 0
+Inside s None = Unit {0}
+Inside s (Some p) = p.start + p.length ≤ length s
 
 -- of bytes that were read: they save to the same bytes, give the same settings without their tags above 128, behind which there are fields with
 -- such tags alone, and what is told of them lies within them
@@ -55,7 +54,7 @@ pub record WhenRefused (s : List ℕ) (number place : ℕ) : Type 0 where
   pub within : place < length s
 
 -- some bytes read to just these settings and these carried fields
-pub record Says (s : List ℕ) (w a : Number) (r n : Setting) (carried : List ℕ) : Type 0 where
+pub record Says (s : List ℕ) (w a : Option ℕ) (r n : Setting) (carried : List ℕ) : Type 0 where
   pub settings : Settings
   pub reads : reading s ≡ taken settings (length s)
   pub window : settings.window ≡ w
@@ -71,7 +70,7 @@ BeginsAbove (b ∷ l) = 128 < b
 
 -- of settings and carried fields that are saved: what is saved reads to the same; saving gives what reading the result would, but that a first
 -- carried tag up to 128 is 26 at its place (a later one is out of order behind one above 128); and there is no other number than 26
-pub record WhenSaved (w a : Number) (r n : Setting) (carried : List ℕ) : Type 0 where
+pub record WhenSaved (w a : Option ℕ) (r n : Setting) (carried : List ℕ) : Type 0 where
   pub reads_same : (m : List ℕ) → saving w a r n carried ≡ gives m → Says m w a r n carried
   pub as_result : BeginsAbove carried → saving w a r n carried ≡ as_read (own_bytes w a r n ++ carried) (reading (own_bytes w a r n ++ carried))
   pub own_refused : (k p : ℕ) → reading (own_bytes w a r n) ≡ refused k p → saving w a r n carried ≡ refuses k p

@@ -1,25 +1,23 @@
 -- Reading settings as bytes (02 §14's stick): the fields one after another, from the left.
-use Rattle.std.specs.Prelude.{ℕ, zero, suc, ◌+◌, List, [], ◌∷◌, cond, length, eqb}
+use Rattle.std.specs.Prelude.{ℕ, zero, suc, ◌+◌, List, [], ◌∷◌, cond, length, eqb, Some, None, Ok, Err}
+use Rattle.std.specs.declared.result.Result.{Result}
 use Rattle.xdr.specs.Reading.{Reading, taken, refused}
 use Rattle.xdr.specs.Number.{big_endian}
+use Rattle.xdr.specs.declared.answer.Refusal.{Refusal}
 use Rattle.settings.specs.Field.{size_of, contents_of, fault}
 use Rattle.settings.specs.declared.answer.Settings.{Settings}
-use Rattle.settings.specs.declared.answer.Number.TheVariants as N
-use Rattle.settings.specs.declared.answer.Span.TheVariants as S
-use Rattle.settings.specs.declared.answer.Answer.{Answer}
-use Rattle.settings.specs.declared.answer.Answer.TheVariants as A
 
 -- no settings, and the carried fields begin at once
 abbrev pub none : Settings
-none = record { window = N.Absent; allowance = N.Absent; repository = S.Absent; note = S.Absent; carried = 0 }
+none = record { window = None; allowance = None; repository = None; note = None; carried = 0 }
 
 -- settings with one field more, whose contents begin at a place: a setting, behind which the carried fields begin, or a carried field
 unfoldable pub with_field : Settings → (start tag : ℕ) → List ℕ → Settings
 with_field so start tag l =
-    cond (eqb tag 1) (record { window = N.There (big_endian 1 l); allowance = so.allowance; repository = so.repository; note = so.note; carried = start + length l })
-    (cond (eqb tag 2) (record { window = so.window; allowance = N.There (big_endian 4 l); repository = so.repository; note = so.note; carried = start + length l })
-    (cond (eqb tag 3) (record { window = so.window; allowance = so.allowance; repository = S.There start (length l); note = so.note; carried = start + length l })
-    (cond (eqb tag 128) (record { window = so.window; allowance = so.allowance; repository = so.repository; note = S.There start (length l); carried = start + length l })
+    cond (eqb tag 1) (record { window = Some (big_endian 1 l); allowance = so.allowance; repository = so.repository; note = so.note; carried = start + length l })
+    (cond (eqb tag 2) (record { window = so.window; allowance = Some (big_endian 4 l); repository = so.repository; note = so.note; carried = start + length l })
+    (cond (eqb tag 3) (record { window = so.window; allowance = so.allowance; repository = Some (record { start = start; length = length l }); note = so.note; carried = start + length l })
+    (cond (eqb tag 128) (record { window = so.window; allowance = so.allowance; repository = so.repository; note = Some (record { start = start; length = length l }); carried = start + length l })
     so)))
 
 -- reading on at a place, with the settings so far: first so many bytes of a field that was read are passed over; then comes a tag, and the
@@ -37,6 +35,6 @@ abbrev pub reading : List ℕ → Reading Settings
 reading s = read_from s 0 0 0 none
 
 -- what reading answers
-abbrev pub settings_answer : Reading Settings → Answer
-settings_answer (taken so n) = A.Taken so
-settings_answer (refused k p) = A.Refused (record { number = k; place = p })
+abbrev pub settings_answer : Reading Settings → Result Settings Refusal
+settings_answer (taken so n) = Ok so
+settings_answer (refused k p) = Err (record { number = k; place = p })

@@ -1,33 +1,26 @@
 -- Saving settings: those that are there, and then the carried fields as they are.
-use Rattle.std.specs.Prelude.{ℕ, List, [], ◌∷◌, ◌++◌, Bool, true, false}
+use Rattle.std.specs.Prelude.{ℕ, List, [], ◌∷◌, ◌++◌, Some, None}
+use Rattle.std.specs.declared.option.Option.{Option}
 use Rattle.xdr.specs.Reading.{Reading, taken, refused}
 use Rattle.xdr.specs.Number.{digits}
 use Rattle.xdr.specs.Filling.{Outcome, gives, refuses}
 use Rattle.settings.specs.Field.{field}
 use Rattle.settings.specs.Reading.{read_from, reading}
 use Rattle.settings.specs.declared.answer.Settings.{Settings}
-use Rattle.settings.specs.declared.answer.Number.{Number}
-use Rattle.settings.specs.declared.answer.Number.TheVariants as N
 
 -- a setting that is to be saved: it is not there, or its contents are these
-pub data Setting : Type 0 where
-  absent : Setting
-  there : List ℕ → Setting
+abbrev pub Setting : Type 0
+Setting = Option (List ℕ)
 
 -- a number of so many bytes
-abbrev pub of_number : (bytes : ℕ) → Number → Setting
-of_number k N.Absent = absent
-of_number k (N.There n) = there (digits k n)
-
--- bytes, and whether they are there
-abbrev pub of_bytes : Bool → List ℕ → Setting
-of_bytes true l = there l
-of_bytes false l = absent
+abbrev pub of_number : (bytes : ℕ) → Option ℕ → Setting
+of_number k None = None
+of_number k (Some n) = Some (digits k n)
 
 -- a setting as bytes
 abbrev pub setting_bytes : (tag : ℕ) → Setting → List ℕ
-setting_bytes tag absent = []
-setting_bytes tag (there l) = field tag l
+setting_bytes tag None = []
+setting_bytes tag (Some l) = field tag l
 
 -- settings with their tags, one after another
 abbrev pub fields_of : List (ℕ × Setting) → List ℕ
@@ -39,7 +32,7 @@ abbrev pub tagged : (window allowance repository note : Setting) → List (ℕ �
 tagged w a r n = (1, w) ∷ (2, a) ∷ (3, r) ∷ (128, n) ∷ []
 
 -- those of them that are there, as bytes
-abbrev pub own_bytes : (window allowance : Number) (repository note : Setting) → List ℕ
+abbrev pub own_bytes : (window allowance : Option ℕ) (repository note : Setting) → List ℕ
 own_bytes w a r n = fields_of (tagged (of_number 1 w) (of_number 4 a) r n)
 
 -- reading carried fields behind settings that were read: the least tag that is in order is 129
@@ -61,5 +54,5 @@ unfoldable pub saving_bytes : (own carried : List ℕ) → Outcome
 saving_bytes own carried = as_read (own ++ carried) (read_back own carried)
 
 -- saving settings, each there or not, and carried fields
-abbrev pub saving : (window allowance : Number) (repository note : Setting) (carried : List ℕ) → Outcome
+abbrev pub saving : (window allowance : Option ℕ) (repository note : Setting) (carried : List ℕ) → Outcome
 saving w a r n carried = saving_bytes (own_bytes w a r n) carried

@@ -1,10 +1,9 @@
 // The contents that each tag may have.
-ghost use Rattle.std.specs.Prelude.{◌≡◌, cond, length};
+ghost use Rattle.std.specs.Prelude.{◌≡◌, cond, length, Some, None};
 ghost use Rattle.xdr.specs.Number.{big_endian};
 ghost use Rattle.xdr.specs.Text.{is_within};
 ghost use Rattle.settings.specs.Field.{is_window, is_allowance, is_repository, is_note, wrong as wrong_in};
-
-use xdr::Word;
+ghost use Rattle.settings.specs.Steps.{unless_0};
 
 // The tags of the settings: those above the note's are carried.
 pub(crate) const WINDOW: u8 = 1;
@@ -42,8 +41,8 @@ pub(crate) fn word_in(contents: &[u8]) -> u32
     ensures { length contents.now ≡ 4 → result ≡ big_endian 4 contents.now }
 {
     match xdr::read_word(contents, 0) {
-        Word::Taken(n, _) => n,
-        Word::Refused(_) => 0,
+        Ok((n, _)) => n,
+        Err(_) => 0,
     }
 }
 
@@ -91,15 +90,15 @@ fn is_note(contents: &[u8]) -> bool
 }
 
 // 26 where contents aren't as they should be.
-fn unless(good: bool) -> u32
-    ensures { result ≡ cond good 0 26 }
+fn unless(good: bool) -> Option<u32>
+    ensures { result ≡ cond good None (Some 26) }
 {
-    if good { 0 } else { 26 }
+    if good { None } else { Some(26) }
 }
 
-// What is wrong with a field's contents (26) or its tag (25), or 0.
-pub(crate) fn wrong(tag: u8, contents: &[u8]) -> u32
-    ensures { result ≡ wrong_in tag contents.now }
+// What is wrong with a field's contents (26) or its tag (25), which may be any byte.
+pub(crate) fn wrong(tag: u8, contents: &[u8]) -> Option<u32>
+    ensures { result ≡ unless_0 (wrong_in tag contents.now) }
 {
     if tag == WINDOW {
         return unless(is_window(contents));
@@ -111,10 +110,10 @@ pub(crate) fn wrong(tag: u8, contents: &[u8]) -> u32
         return unless(is_repository(contents));
     }
     if tag < NOTE {
-        return 25;
+        return Some(25);
     }
     if tag == NOTE {
         return unless(is_note(contents));
     }
-    0
+    None
 }

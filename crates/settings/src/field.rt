@@ -3,8 +3,9 @@ ghost use Rattle.std.specs.Prelude.{◌≡◌, ◌+◌, ◌*◌, ◌≤◌, ◌<
 ghost use Rattle.xdr.specs.Number.{big_endian};
 ghost use Rattle.settings.specs.Field.{wrong as wrong_in, fault as fault_of};
 ghost use Rattle.settings.specs.Reading.{with_field};
+ghost use Rattle.settings.specs.Steps.{unless_0};
 
-use crate::answer::{Number, Settings, Span};
+use crate::answer::{Settings, Span};
 use crate::contents::{ALLOWANCE, NOTE, REPOSITORY, WINDOW, byte_in, word_in, wrong};
 
 // The number that two bytes are, the higher first.
@@ -22,50 +23,31 @@ pub(crate) fn size_at(s: &[u8], at: usize) -> usize
     joined(s[at], s[at + 1])
 }
 
-// Whether a tag is in order, where the least that is in order is given.
+// Whether a tag is in order, where the least that is in order is given. A tag stays a byte: fields of any tag are carried along.
 fn in_order(tag: u8, least: usize) -> bool
     ensures { result ≡ leb least tag }
 {
     least <= (tag as usize)
 }
 
-// What is wrong with the field at a place, where the least tag is given that is in order, or 0.
-pub(crate) fn fault_at(s: &[u8], at: usize, least: usize) -> u32
+// What is wrong with the field at a place, where the least tag is given that is in order.
+pub(crate) fn fault_at(s: &[u8], at: usize, least: usize) -> Option<u32>
     requires { at < length s.now }
-    ensures { result ≡ fault_of least (get_or s.now at 0) (drop (at + 1) s.now) }
+    ensures { result ≡ unless_0 (fault_of least (get_or s.now at 0) (drop (at + 1) s.now)) }
 {
     if s.len() - at < 3 {
-        return 26;
+        return Some(26);
     }
     let start = at + 3;
     let n = size_at(s, at + 1);
     if s.len() - start < n {
-        return 26;
+        return Some(26);
     }
     if !in_order(s[at], least) {
-        return 26;
+        return Some(26);
     }
     let end = start + n;
     wrong(s[at], &s[start..end])
-}
-
-// Settings of these parts.
-fn settings_of(
-    window: Number,
-    allowance: Number,
-    repository: Span,
-    note: Span,
-    carried: usize,
-) -> Settings
-    ensures { result ≡ record { window = window; allowance = allowance; repository = repository; note = note; carried = carried } }
-{
-    Settings {
-        window,
-        allowance,
-        repository,
-        note,
-        carried,
-    }
 }
 
 // Settings with one field more, whose contents are the slice, and begin and end at these places of what is read.
@@ -79,24 +61,39 @@ pub(crate) fn with_field(
     requires { (wrong_in tag contents.now ≡ 0) × (end ≡ start + length contents.now) }
     ensures { result ≡ with_field settings start tag contents.now }
 {
-    let window = settings.window;
-    let allowance = settings.allowance;
-    let repository = settings.repository;
-    let note = settings.note;
     if tag == WINDOW {
-        let number = Number::There(byte_in(contents));
-        return settings_of(number, allowance, repository, note, end);
+        let window = Some(byte_in(contents));
+        return Settings {
+            window,
+            carried: end,
+            ..settings
+        };
     }
     if tag == ALLOWANCE {
-        let number = Number::There(word_in(contents));
-        return settings_of(window, number, repository, note, end);
+        let allowance = Some(word_in(contents));
+        return Settings {
+            allowance,
+            carried: end,
+            ..settings
+        };
     }
-    let span = Span::There(start, contents.len());
+    let span = Some(Span {
+        start,
+        length: contents.len(),
+    });
     if tag == REPOSITORY {
-        return settings_of(window, allowance, span, note, end);
+        return Settings {
+            repository: span,
+            carried: end,
+            ..settings
+        };
     }
     if tag == NOTE {
-        return settings_of(window, allowance, repository, span, end);
+        return Settings {
+            note: span,
+            carried: end,
+            ..settings
+        };
     }
     settings
 }

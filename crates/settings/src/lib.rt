@@ -10,6 +10,6 @@ mod field;
 pub mod reading;
 pub mod saving;
 
-pub use answer::{Answer, Number, Settings, Span};
+pub use answer::{Settings, Span};
 pub use reading::read;
 pub use saving::save;

@@ -1,80 +1,62 @@
 // Saving settings into a lent buffer: all is checked as reading it would, and then stored.
 ghost use Rattle.std.specs.Prelude.{◌≡◌, ◌++◌, ◌+◌, ◌≤◌, length};
+ghost use Rattle.std.specs.Option.{option_copied};
 ghost use Rattle.xdr.specs.Buffer.{filled, put};
 ghost use Rattle.xdr.specs.Filling.{Fills};
 ghost use Rattle.settings.specs.Reading.{read_from, reading};
-ghost use Rattle.settings.specs.Saving.{of_bytes, setting_bytes, fields_of, read_back, saving_bytes, saving};
+ghost use Rattle.settings.specs.Saving.{setting_bytes, fields_of, read_back, saving_bytes, saving};
 ghost use Rattle.settings.specs.Steps.{given, end_answer, setting_end, Storable};
 ghost use Rattle.settings.specs.declared.answer.Settings.{Settings};
 
-use crate::answer::{Answer, Number};
+use crate::answer::{byte, word};
 use crate::contents::{ALLOWANCE, NOTE, REPOSITORY, WINDOW, wrong};
 use crate::reading::read_from;
-use xdr::{Filling, Refusal};
+use xdr::Refusal;
 
 // The least tag that is carried.
 const CARRIED: usize = 129;
 
-// Which of the settings are there.
+// The contents of the four settings, each there or not.
 #[derive(Clone, Copy)]
-struct Presence {
-    window: bool,
-    allowance: bool,
-    repository: bool,
-    note: bool,
+struct Given<'a> {
+    window: Option<&'a [u8]>,
+    allowance: Option<&'a [u8]>,
+    repository: Option<&'a [u8]>,
+    note: Option<&'a [u8]>,
 }
 
 // Where a setting ends that begins at a place, or what reading would say of it there.
-fn setting_end(there: bool, at: usize, tag: u8, contents: &[u8]) -> Filling
+fn setting_end(at: usize, tag: u8, contents: Option<&[u8]>) -> Result<usize, Refusal>
     requires { (at ≤ 1000) × (tag ≤ 128) }
-    ensures { result ≡ setting_end at tag (of_bytes there contents.now) }
+    ensures { result ≡ setting_end at tag (option_copied contents.entry) }
 {
-    if !there {
-        return Filling::Filled(at);
+    let Some(contents) = contents else {
+        return Ok(at);
+    };
+    if let Some(number) = wrong(tag, contents) {
+        return Err(Refusal { number, place: at });
     }
-    let fault = wrong(tag, contents);
-    if fault != 0 {
-        return Filling::Refused(Refusal {
-            number: fault,
-            place: at,
-        });
-    }
-    Filling::Filled(at + 3 + contents.len())
+    Ok(at + 3 + contents.len())
 }
 
 // Where the settings end, or what reading would say of them.
-fn settings_end(
-    there: Presence,
-    window: &[u8],
-    allowance: &[u8],
-    repository: &[u8],
-    note: &[u8],
-) -> Filling
-    ensures { result ≡ end_answer (reading (fields_of (given there window.now allowance.now repository.now note.now))) }
+fn settings_end(own: Given) -> Result<usize, Refusal>
+    ensures { result ≡ end_answer (reading (fields_of (given own.entry))) }
 {
-    let first = setting_end(there.window, 0, WINDOW, window);
-    let Filling::Filled(second_at) = first else {
-        return first;
-    };
-    let second = setting_end(there.allowance, second_at, ALLOWANCE, allowance);
-    let Filling::Filled(third_at) = second else {
-        return second;
-    };
-    let third = setting_end(there.repository, third_at, REPOSITORY, repository);
-    let Filling::Filled(fourth_at) = third else {
-        return third;
-    };
-    setting_end(there.note, fourth_at, NOTE, note)
+    let second = setting_end(0, WINDOW, own.window)?;
+    let third = setting_end(second, ALLOWANCE, own.allowance)?;
+    let fourth = setting_end(third, REPOSITORY, own.repository)?;
+    setting_end(fourth, NOTE, own.note)
 }
 
 // Where carried fields end that begin at a place, or what reading would say of them there.
-fn carried_end(carried: &[u8], at: usize) -> Filling
+fn carried_end(carried: &[u8], at: usize) -> Result<usize, Refusal>
     requires { at ≤ 2000 }
     ensures { (so : Settings) → result ≡ end_answer (read_from carried.now 0 129 at so) }
 {
     match read_from(carried, CARRIED) {
-        Answer::Taken(_) => Filling::Filled(at + carried.len()),
-        Answer::Refused(r) => Filling::Refused(Refusal {
+        Ok(_) => Ok(at + carried.len()),
+        Err(r) => Err(Refusal {
             number: r.number,
             place: at + r.place,
         }),
@@ -82,31 +64,21 @@ fn carried_end(carried: &[u8], at: usize) -> Filling
 }
 
 // Where all ends that is saved, or what reading would say of it.
-fn saved_end(
-    there: Presence,
-    window: &[u8],
-    allowance: &[u8],
-    repository: &[u8],
-    note: &[u8],
-    carried: &[u8],
-) -> Filling
-    ensures { result ≡ end_answer (read_back (fields_of (given there window.now allowance.now repository.now note.now)) carried.now) }
+fn saved_end(own: Given, carried: &[u8]) -> Result<usize, Refusal>
+    ensures { result ≡ end_answer (read_back (fields_of (given own.entry)) carried.now) }
 {
-    let own = settings_end(there, window, allowance, repository, note);
-    let Filling::Filled(end) = own else {
-        return own;
-    };
+    let end = settings_end(own)?;
     carried_end(carried, end)
 }
 
 // A setting at a place, where there is room for it: how many bytes it took.
-fn store_setting(out: &mut [u8], at: usize, there: bool, tag: u8, contents: &[u8]) -> usize
-    requires { (at + length (setting_bytes tag (of_bytes there contents.now)) ≤ length out.old) × (length (setting_bytes tag (of_bytes there contents.now)) ≤ 258) }
-    ensures { (result ≡ length (setting_bytes tag (of_bytes there contents.now))) × (out.new ≡ put out.old at (setting_bytes tag (of_bytes there contents.now))) }
+fn store_setting(out: &mut [u8], at: usize, tag: u8, contents: Option<&[u8]>) -> usize
+    requires { (at + length (setting_bytes tag (option_copied contents)) ≤ length out.old) × (length (setting_bytes tag (option_copied contents)) ≤ 258) }
+    ensures { (result ≡ length (setting_bytes tag (option_copied contents.entry))) × (out.new ≡ put out.old at (setting_bytes tag (option_copied contents.entry))) }
 {
-    if !there {
+    let Some(contents) = contents else {
         return 0;
-    }
+    };
     let n = contents.len();
     let head = [tag, (n / 256) as u8, (n % 256) as u8];
     xdr::put_raw(out, at, &head);
@@ -115,68 +87,47 @@ fn store_setting(out: &mut [u8], at: usize, there: bool, tag: u8, contents: &[u8
 }
 
 // All that is saved, at the front of a buffer that has room for it.
-fn store(
-    out: &mut [u8],
-    there: Presence,
-    window: &[u8],
-    allowance: &[u8],
-    repository: &[u8],
-    note: &[u8],
-    carried: &[u8],
-)
-    requires { Storable (of_bytes there.window window.now) (of_bytes there.allowance allowance.now) (of_bytes there.repository repository.now) (of_bytes there.note note.now) (length carried.now) (length out.old) }
-    ensures { out.new ≡ filled out.old (fields_of (given there window.now allowance.now repository.now note.now) ++ carried.now) }
+fn store(out: &mut [u8], own: Given, carried: &[u8])
+    requires { Storable (option_copied own.window) (option_copied own.allowance) (option_copied own.repository) (option_copied own.note) (length carried.now) (length out.old) }
+    ensures { out.new ≡ filled out.old (fields_of (given own.entry) ++ carried.now) }
 {
-    let second = store_setting(out, 0, there.window, WINDOW, window);
-    let third = second + store_setting(out, second, there.allowance, ALLOWANCE, allowance);
-    let fourth = third + store_setting(out, third, there.repository, REPOSITORY, repository);
-    let end = fourth + store_setting(out, fourth, there.note, NOTE, note);
+    let second = store_setting(out, 0, WINDOW, own.window);
+    let third = second + store_setting(out, second, ALLOWANCE, own.allowance);
+    let fourth = third + store_setting(out, third, REPOSITORY, own.repository);
+    let end = fourth + store_setting(out, fourth, NOTE, own.note);
     xdr::put_raw(out, end, carried);
 }
 
 // Settings, with the numbers as bytes, and carried fields: they are checked, and stored if there is room.
-fn save_bytes(
-    there: Presence,
-    window: &[u8],
-    allowance: &[u8],
-    repository: &[u8],
-    note: &[u8],
-    carried: &[u8],
-    out: &mut [u8],
-) -> Filling
-    ensures { Fills (saving_bytes (fields_of (given there window.now allowance.now repository.now note.now)) carried.now) out.old result out.new }
+fn save_bytes(own: Given, carried: &[u8], out: &mut [u8]) -> Result<usize, Refusal>
+    ensures { Fills (saving_bytes (fields_of (given own.entry)) carried.now) out.old result out.new }
 {
-    let checked = saved_end(there, window, allowance, repository, note, carried);
-    let Filling::Filled(size) = checked else {
-        return checked;
-    };
+    let size = saved_end(own, carried)?;
     if out.len() < size {
         return xdr::refused(14);
     }
-    store(out, there, window, allowance, repository, note, carried);
-    checked
+    store(out, own, carried);
+    Ok(size)
 }
 
 // Settings, each there or not, and carried fields as they were read: those that are there, and then the carried ones.
 pub fn save(
-    window: Number,
-    allowance: Number,
-    named: bool,
-    repository: &[u8],
-    noted: bool,
-    note: &[u8],
+    window: Option<u32>,
+    allowance: Option<u32>,
+    repository: Option<&[u8]>,
+    note: Option<&[u8]>,
     carried: &[u8],
     out: &mut [u8],
-) -> Filling
-    ensures { Fills (saving window allowance (of_bytes named repository.now) (of_bytes noted note.now) carried.now) out.old result out.new }
+) -> Result<usize, Refusal>
+    ensures { Fills (saving window allowance (option_copied repository.entry) (option_copied note.entry) carried.now) out.old result out.new }
 {
-    let there = Presence {
-        window: window.is_there(),
-        allowance: allowance.is_there(),
-        repository: named,
-        note: noted,
+    let w = byte(window);
+    let a = word(allowance);
+    let own = Given {
+        window: window.and(Some(&w[..])),
+        allowance: allowance.and(Some(&a[..])),
+        repository,
+        note,
     };
-    let w = window.byte();
-    let a = allowance.word();
-    save_bytes(there, &w, &a, repository, note, carried, out)
+    save_bytes(own, carried, out)
 }

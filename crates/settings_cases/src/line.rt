@@ -1,54 +1,39 @@
 // What settings are, in words.
-use settings::{Number, Span};
-use std::io;
+use settings::Span;
+use std::{fmt, io};
 
-// Bytes, or a dash for none.
-pub fn hex(rt: &impl Print, s: &[u8]) -> io::Result<()> {
-    if s.len() == 0 {
-        return lines::text(rt, b" -");
+// Bytes in hexadecimal, or a dash for none.
+#[derive(Clone, Copy)]
+pub struct Hex<'a>(pub &'a [u8]);
+
+impl<'a> fmt::Display for Hex<'a> {
+    fn fmt<W: fmt::Write>(&self, f: &mut fmt::Formatter<W>) -> fmt::Result {
+        if self.0.is_empty() {
+            write!(f, "-")
+        } else {
+            write!(f, "{}", lines::Hex(self.0))
+        }
     }
-    lines::text(rt, b" ")?;
-    lines::bytes(rt, s)
 }
 
 // A number, where it is there.
-pub fn number(rt: &impl Print, label: &[u8], n: Number) -> io::Result<()> {
-    let Number::There(k) = n else {
-        return Ok(());
-    };
-    lines::text(rt, label)?;
-    lines::text(rt, b" ")?;
-    lines::number(rt, k as u64)
+pub fn number(rt: &impl Print, label: &str, n: Option<u32>) -> io::Result<()> {
+    match n {
+        Some(n) => print!(rt; " {label} {n}"),
+        None => Ok(()),
+    }
 }
 
 // Bytes, where they are there.
-pub fn bytes(rt: &impl Print, label: &[u8], there: bool, s: &[u8]) -> io::Result<()> {
-    if there {
-        lines::text(rt, label)?;
-        hex(rt, s)?;
+pub fn bytes(rt: &impl Print, label: &str, s: Option<&[u8]>) -> io::Result<()> {
+    match s {
+        Some(s) => print!(rt; " {label} {}", Hex(s)),
+        None => Ok(()),
     }
-    Ok(())
-}
-
-// Bytes from a place to another, where they are there.
-pub fn part(rt: &impl Print, label: &[u8], s: &[u8], start: usize, end: usize) -> io::Result<()> {
-    if start <= end {
-        if end <= s.len() {
-            bytes(rt, label, true, &s[start..end])?;
-        }
-    }
-    Ok(())
 }
 
 // The bytes of a span, where it is there.
-pub fn span(rt: &impl Print, label: &[u8], s: &[u8], p: Span) -> io::Result<()> {
-    let Span::There(start, len) = p else {
-        return Ok(());
-    };
-    if start <= s.len() {
-        if len <= s.len() - start {
-            part(rt, label, s, start, start + len)?;
-        }
-    }
-    Ok(())
+pub fn span(s: &[u8], p: Option<Span>) -> Option<&[u8]> {
+    let p = p?;
+    s.get(p.start..)?.get(..p.length)
 }

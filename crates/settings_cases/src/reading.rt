@@ -1,29 +1,23 @@
 // Settings that are read.
 use crate::line;
-use settings::{Answer, Settings};
+use settings::Settings;
 use std::io;
 
 fn told(rt: &impl Print, s: &[u8], found: Settings) -> io::Result<()> {
-    let window = found.window;
-    let allowance = found.allowance;
-    let repository = found.repository;
-    let note = found.note;
-    line::number(rt, b" window", window)?;
-    line::number(rt, b" allowance", allowance)?;
-    line::span(rt, b" Repository", s, repository)?;
-    line::span(rt, b" note", s, note)?;
-    line::part(rt, b" carried", s, found.carried, s.len())?;
-    lines::text(rt, b"\n")
+    line::number(rt, "window", found.window)?;
+    line::number(rt, "allowance", found.allowance)?;
+    line::bytes(rt, "Repository", line::span(s, found.repository))?;
+    line::bytes(rt, "note", line::span(s, found.note))?;
+    line::bytes(rt, "carried", s.get(found.carried..))?;
+    println!(rt; "")
 }
 
 fn read(rt: &impl Print, s: &[u8]) -> io::Result<()> {
-    lines::text(rt, b"read")?;
-    line::hex(rt, s)?;
-    lines::text(rt, b":")?;
+    print!(rt; "read {}:", line::Hex(s))?;
     match settings::read(s) {
-        Answer::Taken(found) => told(rt, s, found),
-        Answer::Refused(r) => {
-            lines::text(rt, b" ")?;
+        Ok(found) => told(rt, s, found),
+        Err(r) => {
+            print!(rt; " ")?;
             lines::refusal(rt, r)
         }
     }

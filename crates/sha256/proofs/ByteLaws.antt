@@ -1,7 +1,8 @@
 -- A number's bytes.
-use Rattle.std.proofs.Common.{◌≡◌, ℕ, zero, suc, ◌+◌, ◌-◌, ◌*◌, ◌/◌, ◌%◌, ◌^◌, ◌<◌, List, [], ◌∷◌, ◌++◌, length, get_or, take, drop, set, sym, refl, ap, ◌∙◌, append_assoc, append-nil, div-one, add-one, arith, length-append, length-take-le, take-suc, take_at}
+use Rattle.std.proofs.Common.{◌≡◌, ℕ, zero, suc, ◌+◌, ◌-◌, ◌*◌, ◌/◌, ◌%◌, ◌^◌, ◌<◌, List, [], ◌∷◌, ◌++◌, length, get_or, take, drop, sym, refl, ap, ◌∙◌, append_assoc, append-nil, div-one, add-one, arith, length-append, length-take-le, take-suc, take_at, drop-drop}
 use lib.ListN.{length-replicate}
-use lib.Seq.{drop-append-add, sets-eq}
+use borrow.Rule.Slice.PartMut.{put_mid}
+use lib.Seq.{drop-append-add}
 use Rattle.sha256.specs.Hash.{bytes_of, word_of, words_of, state_bytes}
 use Rattle.sha256.specs.declared.state.State.{State}
 use Rattle.sha256.proofs.BlockLaws.{blank, drop_zeros}
@@ -104,11 +105,8 @@ unfolding bytes_of
 all_long [] = refl
 all_long (w ∷ ws) = omega (arith, all_long ws)
 
--- four stores, where zeros follow the words so far
+-- a word's bytes put where zeros follow the words so far
 module _ (ws out : List ℕ) (i : ℕ) (below : i < 8) (long : length ws ≡ 8) (so_far : out ≡ all_bytes (take i ws) ++ blank (32 - 4 * i)) where
-  w : ℕ
-  w = get_or ws i 0
-
   done : List ℕ
   done = all_bytes (take i ws)
 
@@ -127,21 +125,16 @@ module _ (ws out : List ℕ) (i : ℕ) (below : i < 8) (long : length ws ≡ 8) 
       let n : 32 - 4 * i - 4 ≡ 32 - 4 * (i + 1) = omega arith in
       ap (λ (k : ℕ). drop k out) at ∙ ap (drop (length done + 4)) so_far ∙ drop-append-add done (blank (32 - 4 * i)) 4 ∙ drop_zeros 4 (32 - 4 * i) ∙ ap blank n
 
-  pub word_put :
-      set (set (set (set out (4 * i) (get_or ws i 0 / 16777216 % 256)) (4 * i + 1) (get_or ws i 0 / 65536 % 256)) (4 * i + 2) (get_or ws i 0 / 256 % 256)) (4 * i + 3) (get_or ws i 0 % 256)
-      ≡ all_bytes (take (i + 1) ws) ++ blank (32 - 4 * (i + 1))
-  unfolding w done
-  word_put =
-      let e1 : 4 * i + 1 ≡ suc (4 * i) = omega arith in
-      let e2 : 4 * i + 2 ≡ suc (suc (4 * i)) = omega arith in
-      let e3 : 4 * i + 3 ≡ suc (suc (suc (4 * i))) = omega arith in
-      rw (e1, e2, e3)
-      (sets-eq (w / 16777216 % 256 ∷ w / 65536 % 256 ∷ w / 256 % 256 ∷ w % 256 ∷ []) out (4 * i) (omega (arith, out_long))
-      ∙ ap (λ (l : List ℕ). take (4 * i) out ++ l ++ drop (4 * i + 4) out) (four_bytes w)
-      ∙ ap (λ (l : List ℕ). take (4 * i) out ++ bytes_of 4 w ++ l) behind
-      ∙ ap (λ (l : List ℕ). l ++ bytes_of 4 w ++ blank (32 - 4 * (i + 1))) (ap (take (4 * i)) so_far ∙ take_at done (blank (32 - 4 * i)) (4 * i) done_long)
+  pub word_put : (k : ℕ) (ys : List ℕ) → k ≡ 4 → ys ≡ bytes_of 4 (get_or ws i 0) → put_mid (4 * i) k out ys ≡ all_bytes (take (i + 1) ws) ++ blank (32 - 4 * (i + 1))
+  unfolding done
+  word_put k ys e f =
+      ap (λ (n : ℕ). put_mid (4 * i) n out ys) e
+      ∙ ap (λ (l : List ℕ). put_mid (4 * i) 4 out l) f
+      ∙ sym (append_assoc (take (4 * i) out) (bytes_of 4 (get_or ws i 0)) (drop 4 (drop (4 * i) out)))
+      ∙ ap (λ (l : List ℕ). take (4 * i) out ++ bytes_of 4 (get_or ws i 0) ++ l) (drop-drop 4 (4 * i) out ∙ behind)
+      ∙ ap (λ (l : List ℕ). l ++ bytes_of 4 (get_or ws i 0) ++ blank (32 - 4 * (i + 1))) (ap (take (4 * i)) so_far ∙ take_at done (blank (32 - 4 * i)) (4 * i) done_long)
       ∙ ap (λ (l : List ℕ). l ++ blank (32 - 4 * (i + 1)))
-      (ap (λ (l : List ℕ). done ++ l) (sym (append-nil (bytes_of 4 w))) ∙ sym (all_join (take i ws) (w ∷ [])) ∙ ap all_bytes (sym (take-suc ws i 0 (omega arith)) ∙ ap (λ (n : ℕ). take n ws) (sym (add-one i)))))
+      (ap (λ (l : List ℕ). done ++ l) (sym (append-nil (bytes_of 4 (get_or ws i 0)))) ∙ sym (all_join (take i ws) (get_or ws i 0 ∷ [])) ∙ ap all_bytes (sym (take-suc ws i 0 (omega arith)) ∙ ap (λ (n : ℕ). take n ws) (sym (add-one i))))
 
 -- words that fit have their bytes for words
 pub words_bytes : (ws : List ℕ) → ((i : ℕ) → get_or ws i 0 < 2 ^ 32) → words_of (length ws) (all_bytes ws) ≡ ws

@@ -1,12 +1,12 @@
 // The sixteen words of a block, or the sixteen newest of the schedule.
-ghost use Rattle.std.specs.Prelude.{◌≡◌, ◌+◌, ◌*◌, ◌≤◌, length, drop};
+ghost use Rattle.std.specs.Prelude.{◌≡◌, ◌+◌, ◌≤◌, length, drop};
 ghost use Rattle.sha256.specs.Functions.{◌⊞◌, σ₀, σ₁};
 ghost use Rattle.sha256.specs.Hash.{word_of, words_of};
 ghost use Rattle.sha256.specs.Steps.{words_in};
 
 use crate::functions::{lower0, lower1, sum2};
 
-// Sixteen words of the schedule, in its order.
+// Sixteen words of the schedule, in its order: fields and no array, since each round names its words and has no index to be proved in bounds.
 #[derive(Clone, Copy)]
 pub struct Block {
     pub w0: u32,
@@ -27,43 +27,36 @@ pub struct Block {
     pub w15: u32,
 }
 
-// The word that four bytes are, the highest first.
-fn joined(a: u8, b: u8, c: u8, d: u8) -> u32
-    ensures { result ≡ a * 16777216 + b * 65536 + c * 256 + d }
-{
-    (a as u32) * 16777216 + (b as u32) * 65536 + (c as u32) * 256 + (d as u32)
-}
-
 // The word at a place.
 fn word_at(s: &[u8], at: usize) -> u32
     requires { at + 4 ≤ length s.now }
     ensures { result ≡ word_of (drop at s.now) }
 {
-    joined(s[at], s[at + 1], s[at + 2], s[at + 3])
+    u32::from_be_bytes([s[at], s[at + 1], s[at + 2], s[at + 3]])
 }
 
-// The block at a place.
-pub(crate) fn block_at(s: &[u8], at: usize) -> Block
-    requires { at + 64 ≤ length s.now }
-    ensures { words_in result ≡ words_of 16 (drop at s.now) }
+// The block that the first 64 bytes are.
+pub(crate) fn block_of(s: &[u8]) -> Block
+    requires { 64 ≤ length s.now }
+    ensures { words_in result ≡ words_of 16 s.now }
 {
     Block {
-        w0: word_at(s, at),
-        w1: word_at(s, at + 4),
-        w2: word_at(s, at + 8),
-        w3: word_at(s, at + 12),
-        w4: word_at(s, at + 16),
-        w5: word_at(s, at + 20),
-        w6: word_at(s, at + 24),
-        w7: word_at(s, at + 28),
-        w8: word_at(s, at + 32),
-        w9: word_at(s, at + 36),
-        w10: word_at(s, at + 40),
-        w11: word_at(s, at + 44),
-        w12: word_at(s, at + 48),
-        w13: word_at(s, at + 52),
-        w14: word_at(s, at + 56),
-        w15: word_at(s, at + 60),
+        w0: word_at(s, 0),
+        w1: word_at(s, 4),
+        w2: word_at(s, 8),
+        w3: word_at(s, 12),
+        w4: word_at(s, 16),
+        w5: word_at(s, 20),
+        w6: word_at(s, 24),
+        w7: word_at(s, 28),
+        w8: word_at(s, 32),
+        w9: word_at(s, 36),
+        w10: word_at(s, 40),
+        w11: word_at(s, 44),
+        w12: word_at(s, 48),
+        w13: word_at(s, 52),
+        w14: word_at(s, 56),
+        w15: word_at(s, 60),
     }
 }
 

@@ -5,7 +5,7 @@ ghost use Rattle.sha256.specs.Constants.{K};
 ghost use Rattle.sha256.specs.Hash as fips;
 ghost use Rattle.sha256.specs.Steps.{low_words, high_words, words_in, Eight};
 
-use crate::block::{Block, block_at, next_word};
+use crate::block::{Block, block_of, next_word};
 use crate::constants;
 use crate::state::{State, added, round};
 
@@ -16,7 +16,8 @@ pub struct Step {
     pub block: Block,
 }
 
-// Eight rounds with the first constants of a row, each beside the word of the schedule for sixteen rounds later.
+// Eight rounds with the first constants of a row, each beside the word of the schedule for sixteen rounds later. They are written out, since
+// a loop would have to move all words on by one for each.
 fn first_eight(mut s: State, mut w: Block, k: &[u32; 64], row: usize) -> Step
     requires { k.now ≡ K }
     ensures { Eight (row % 4 * 16) (low_words w) (high_words w) (low_words result.block) (high_words result.block) s result.state }
@@ -95,13 +96,11 @@ fn rounds(s: State, w: Block, k: &[u32; 64]) -> State
 {
     let mut state = s;
     let mut block = w;
-    let mut row = 0;
-    while row < 3 {
+    for row in 0..3 {
         let half = first_eight(state, block, k, row);
         let step = second_eight(half.state, half.block, k, row);
         state = step.state;
         block = step.block;
-        row += 1;
     }
     last_sixteen(state, block, k)
 }
@@ -112,11 +111,8 @@ fn hash_blocks(start: State, s: &[u8], k: &[u32; 64]) -> State
     ensures { result ≡ fips.hash_all start s.now }
 {
     let mut state = start;
-    let mut at = 0;
-    while 64 <= s.len() - at {
-        let w = block_at(s, at);
-        state = added(state, rounds(state, w, k));
-        at += 64;
+    for bytes in s.chunks_exact(64) {
+        state = added(state, rounds(state, block_of(bytes), k));
     }
     state
 }

@@ -6,7 +6,7 @@ ghost use Rattle.sha256.specs.Functions.{◌⊞◌, Ch, Maj, Σ₀, Σ₁, σ₀
 pub(crate) fn sum2(x: u32, y: u32) -> u32
     ensures { result ≡ x ⊞ y }
 {
-    std::num::wrapping_add_u32(x, y)
+    x.wrapping_add(y)
 }
 
 // By each bit of x, that of y or of z, with one operation less than the standard has.
@@ -26,23 +26,23 @@ pub(crate) fn majority(x: u32, y: u32, z: u32) -> u32
 pub(crate) fn upper0(x: u32) -> u32
     ensures { result ≡ Σ₀ x }
 {
-    ((x >> 2) | (x << 30)) ^ ((x >> 13) | (x << 19)) ^ ((x >> 22) | (x << 10))
+    x.rotate_right(2) ^ x.rotate_right(13) ^ x.rotate_right(22)
 }
 
 pub(crate) fn upper1(x: u32) -> u32
     ensures { result ≡ Σ₁ x }
 {
-    ((x >> 6) | (x << 26)) ^ ((x >> 11) | (x << 21)) ^ ((x >> 25) | (x << 7))
+    x.rotate_right(6) ^ x.rotate_right(11) ^ x.rotate_right(25)
 }
 
 pub(crate) fn lower0(x: u32) -> u32
     ensures { result ≡ σ₀ x }
 {
-    ((x >> 7) | (x << 25)) ^ ((x >> 18) | (x << 14)) ^ (x >> 3)
+    x.rotate_right(7) ^ x.rotate_right(18) ^ (x >> 3)
 }
 
 pub(crate) fn lower1(x: u32) -> u32
     ensures { result ≡ σ₁ x }
 {
-    ((x >> 17) | (x << 15)) ^ ((x >> 19) | (x << 13)) ^ (x >> 10)
+    x.rotate_right(17) ^ x.rotate_right(19) ^ (x >> 10)
 }

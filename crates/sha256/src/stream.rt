@@ -3,7 +3,7 @@ ghost use Rattle.std.specs.Prelude.{◌≡◌, ◌%◌, ◌++◌, length};
 ghost use Rattle.sha256.specs.Hash as fips;
 ghost use Rattle.sha256.specs.Stream.{begun, continued, ended};
 
-use crate::bytes::{eight_bytes, laid, state_bytes};
+use crate::bytes::{laid, state_bytes};
 use crate::compress::hashed;
 use crate::state::{State, initial};
 
@@ -29,7 +29,7 @@ fn closed(state: State, rest: &[u8], size: u64) -> State
     ensures { result ≡ fips.hash_all state (rest.now ++ fips.padding size) }
 {
     let held = rest.len();
-    let bits = eight_bytes(size << 3);
+    let bits = (size << 3).to_be_bytes();
     let mut block = laid([0; 64], 0, rest);
     block[held] = 0x80;
     if held < 56 {
@@ -59,7 +59,7 @@ impl Hasher {
     {
         let held = place(self.size);
         let room = 64 - held;
-        let size = std::num::wrapping_add_u64(self.size, s.len() as u64);
+        let size = self.size.wrapping_add(s.len() as u64);
         let tail = self.tail;
         let state = self.state;
         if s.len() < room {

@@ -6,8 +6,8 @@ use mathlib.Core.Path.{◌≡◌, refl, sym, ap, subst, ◌∙◌}
 use mathlib.Core.Logic.{◌⊎◌, inl, inr, ⊎_elim}
 use Rattle.record.specs.File.{File}
 use Rattle.order.specs.Order.{compare_lists}
-use Rattle.order.specs.declared.compare.Order.{Order}
-use Rattle.order.specs.declared.compare.Order.TheVariants.{Less, Equal, Greater}
+use Rattle.std.specs.declared.cmp.Ordering.{Ordering}
+use Rattle.std.specs.declared.cmp.Ordering.TheVariants.{Less, Equal, Greater}
 use Rattle.order.proofs.OrderLaws.{Below, below_trans, greater_above, equal_same}
 use Rattle.record.proofs.RisingLaws.{Above, Rising}
 use Rattle.table.specs.Insert.{placed, insert}
@@ -43,7 +43,7 @@ module _ (stays : File → File → File) where
     insert_above n f [] h a = h
     insert_above n f (g ∷ l) h a = go (compare_lists f.name g.name) refl
       where
-        go : (o : Order) → compare_lists f.name g.name ≡ o → Above n (placed stays o f g l (insert stays f l))
+        go : (o : Ordering) → compare_lists f.name g.name ≡ o → Above n (placed stays o f g l (insert stays f l))
         go Less e = h
         go Equal e = subst (Below n) (sym (stays_name f g (equal_same f.name g.name e))) h
         go Greater e = a
@@ -52,7 +52,7 @@ module _ (stays : File → File → File) where
     insert_rising f [] r = (tt, tt)
     insert_rising f (g ∷ l) r = go (compare_lists f.name g.name) refl (insert_rising f l r.1)
       where
-        go : (o : Order) → compare_lists f.name g.name ≡ o → Rising (insert stays f l) → Rising (placed stays o f g l (insert stays f l))
+        go : (o : Ordering) → compare_lists f.name g.name ≡ o → Rising (insert stays f l) → Rising (placed stays o f g l (insert stays f l))
         go Less e ih = (e, r)
         go Equal e ih = let n = equal_same f.name g.name e in (subst (λ (m : List ℕ). Above m l) (sym (stays_name f g n ∙ n)) r.0, r.1)
         go Greater e ih = (insert_above g.name f l (greater_above f.name g.name e) r.0, ih)
@@ -62,7 +62,7 @@ module _ (stays : File → File → File) where
     insert_from f [] x m = Memᴰ.cases_cons m
     insert_from f (g ∷ l) x m = go (compare_lists f.name g.name) m (insert_from f l x)
       where
-        go : (o : Order) → Memᴰ x (placed stays o f g l (insert stays f l)) → (Memᴰ x (insert stays f l) → (x ≡ f) ⊎ Memᴰ x l) → (x ≡ f) ⊎ Memᴰ x (g ∷ l)
+        go : (o : Ordering) → Memᴰ x (placed stays o f g l (insert stays f l)) → (Memᴰ x (insert stays f l) → (x ≡ f) ⊎ Memᴰ x l) → (x ≡ f) ⊎ Memᴰ x (g ∷ l)
         go Less m ih = Memᴰ.cases_cons m
         go Equal m ih =
             ⊎_elim (λ e. ⊎_elim (λ p. inl (e ∙ p)) (λ p. inr (Memᴰ.head (e ∙ p))) (one f g)) (λ k. inr (Memᴰ.tail k)) (Memᴰ.cases_cons m)

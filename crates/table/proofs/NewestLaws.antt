@@ -6,23 +6,16 @@ use lib.Signed.{◌<ℤ◌}
 use Rattle.xdr.specs.Format.{encode, Valid}
 use Rattle.record.specs.File.{File, name, file, from_flags}
 use Rattle.record.specs.Modified.{signed, raised}
-use Rattle.record.specs.declared.outline.RecordFields.{RecordFields}
 use Rattle.record.proofs.FileLaws.{split_encoding, same_file}
 use Rattle.record.proofs.SignedOrder.{raised_order}
 use Rattle.order.specs.Order.{compare_lists}
-use Rattle.table.specs.Newest.{key, key_at, compare_files, compare_at}
-use Rattle.order.specs.declared.compare.Order.{Order}
-use Rattle.order.specs.declared.compare.Order.TheVariants.{Less, Equal}
-use Rattle.order.proofs.OrderLaws.{number_less, heads, Compared, reversed, compare_reversed, equal_same, below_trans, same_equal, below_irrefl, below_asym, at_most_same, at_most_trans}
+use Rattle.table.specs.Newest.{key, compare_files}
+use Rattle.std.specs.declared.cmp.Ordering.TheVariants.{Less, Equal}
+use Rattle.order.proofs.OrderLaws.{number_less, heads, reversed, compare_reversed, equal_same, below_trans, same_equal, below_irrefl, below_asym, at_most_same, at_most_trans}
 
 pub by_key : (f g : File) → compare_files f g ≡ compare_lists (key f) (key g)
 unfolding compare_files
 by_key f g = refl
-
--- at places of some bytes
-pub compared_at : (s : List ℕ) (f : RecordFields) (t : List ℕ) (g : RecordFields) {o : Order} → Compared (key_at s f) (key_at t g) o → o ≡ compare_at s f t g
-unfolding compare_at
-compared_at s f t g c = c.is
 
 -- Modified decides as the signed number that it is
 pub lower_modified : (f g : File) → f.modified < 2 ^ 64 → g.modified < 2 ^ 64 → signed f.modified <ℤ signed g.modified → compare_files f g ≡ Less

@@ -5,15 +5,15 @@ use mathlib.Core.Path.{◌≡◌, refl, sym, ap, subst, ◌∙◌}
 use mathlib.Core.Logic.{◌⊎◌}
 use Rattle.record.specs.File.{File}
 use Rattle.order.specs.Order.{compare_lists}
-use Rattle.order.specs.declared.compare.Order.{Order}
-use Rattle.order.specs.declared.compare.Order.TheVariants.{Less, Equal, Greater}
+use Rattle.std.specs.declared.cmp.Ordering.{Ordering}
+use Rattle.std.specs.declared.cmp.Ordering.TheVariants.{Less, Equal, Greater}
 use Rattle.order.proofs.OrderLaws.{Below, equal_same, above_greater, greater_above}
 use Rattle.record.proofs.RisingLaws.{Above}
 use Rattle.table.specs.Insert.{placed, insert}
 use Rattle.table.proofs.InsertLaws.{above_below, insert_first, stays_name}
 
 -- the heads f and g, by their names: `both`, `left` and `right` are what is left without both, without f and without g
-abbrev pub union_by : (stays : File → File → File) → Order → (f g : File) → (both left right : List File) → List File
+abbrev pub union_by : (stays : File → File → File) → Ordering → (f g : File) → (both left right : List File) → List File
 union_by stays Less f g both left right = f ∷ left
 union_by stays Equal f g both left right = stays f g ∷ both
 union_by stays Greater f g both left right = g ∷ right
@@ -68,7 +68,7 @@ module _ (stays : File → File → File) where
     union_above n (f ∷ fs) [] a b = a
     union_above n (f ∷ fs) (g ∷ gs) a b = go (compare_lists f.name g.name) refl
       where
-        go : (o : Order) → compare_lists f.name g.name ≡ o → Above n (union_by stays o f g (union stays fs gs) (union stays fs (g ∷ gs)) (union_head stays f (union stays fs) gs))
+        go : (o : Ordering) → compare_lists f.name g.name ≡ o → Above n (union_by stays o f g (union stays fs gs) (union stays fs (g ∷ gs)) (union_head stays f (union stays fs) gs))
         go Less e = a
         go Equal e = subst (Below n) (sym (stays_name stays one f g (equal_same f.name g.name e))) a
         go Greater e = b
@@ -79,13 +79,13 @@ module _ (stays : File → File → File) where
     insert_union f fs [] a = insert_first stays f (union stays fs []) (union_above f.name fs [] a tt)
     insert_union f fs (g ∷ gs) a = go (compare_lists f.name g.name) refl (insert_union f fs gs a)
       where
-        go : (o : Order) → compare_lists f.name g.name ≡ o → insert stays f (union stays fs gs) ≡ union_head stays f (union stays fs) gs
+        go : (o : Ordering) → compare_lists f.name g.name ≡ o → insert stays f (union stays fs gs) ≡ union_head stays f (union stays fs) gs
             → insert stays f (union stays fs (g ∷ gs)) ≡ union_by stays o f g (union stays fs gs) (union stays fs (g ∷ gs)) (union_head stays f (union stays fs) gs)
         go Less e ih = insert_first stays f (union stays fs (g ∷ gs)) (union_above f.name fs (g ∷ gs) a e)
         go Equal e ih =
             let same : f.name ≡ g.name = equal_same f.name g.name e in
-            ap (insert stays f) (right_first g fs gs (rw (← same) a)) ∙ ap (λ (o : Order). placed stays o f g (union stays fs gs) (insert stays f (union stays fs gs))) e
+            ap (insert stays f) (right_first g fs gs (rw (← same) a)) ∙ ap (λ (o : Ordering). placed stays o f g (union stays fs gs) (insert stays f (union stays fs gs))) e
         go Greater e ih =
             ap (insert stays f) (right_first g fs gs (above_below g.name f.name fs (greater_above f.name g.name e) a))
-            ∙ ap (λ (o : Order). placed stays o f g (union stays fs gs) (insert stays f (union stays fs gs))) e
+            ∙ ap (λ (o : Ordering). placed stays o f g (union stays fs gs) (insert stays f (union stays fs gs))) e
             ∙ ap (λ (l : List File). g ∷ l) ih

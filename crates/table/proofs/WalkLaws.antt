@@ -1,4 +1,6 @@
 -- Walking a table by outlines: what stands at a place where records begin, and where the next one begins.
+use Rattle.std.specs.Prelude.{Some, None}
+use Rattle.std.specs.declared.option.Option.{Option}
 use Prim.Native.Nat.{ℕ, ◌+◌, ◌-◌}
 use mathlib.Core.List.{List, [], ◌∷◌}
 use mathlib.Core.Path.{◌≡◌, refl, sym, ap, ◌∙◌}
@@ -10,8 +12,6 @@ use Rattle.xdr.specs.Fields.{word}
 use Rattle.record.specs.File.{File, file, from_flags}
 use Rattle.record.specs.Outline.{word_at, outline_of, fields_of}
 use Rattle.record.specs.declared.outline.RecordFields.{RecordFields}
-use Rattle.record.specs.declared.outline.Outline.{Outline}
-use Rattle.record.specs.declared.outline.Outline.TheVariants as O
 use Rattle.record.proofs.FileLaws.{encoding_parts, encoding_rest}
 use Rattle.record.proofs.OutlineLaws.{outline_cut}
 use Rattle.order.specs.Order.{part}
@@ -38,14 +38,14 @@ pub at_last : (t : List ℕ) → At t (length t) []
 at_last t = record { here = drop-length t; inside = omega arith; valid = tt }
 
 -- no record is left
-pub at_end : {t : List ℕ} {at : ℕ} → At t at [] → outline_of t at ≡ O.Short
+pub at_end : {t : List ℕ} {at : ℕ} → At t at [] → outline_of t at ≡ None
 at_end {t} {at} w =
     let h : length t - at ≡ 0 = simp length-drop at (ap length w.here) in
     sym (outline_cut t at (word_at t at) refl (omega (arith, w.inside)))
 
 -- the record that stands at a place
 pub record Standing (t : List ℕ) (at : ℕ) (f : File) (fs : List File) : Type 0 where
-  pub outline_is : outline_of t at ≡ O.Whole (fields_of at f)
+  pub outline_is : outline_of t at ≡ Some (fields_of at f)
   pub name_is : part t (fields_of at f).name (fields_of at f).stop ≡ f.name
   pub rest_is : part t (fields_of at f).rest (fields_of at f).past ≡ from_flags f
   pub bytes_are : part t at (fields_of at f).past ≡ encode file f
@@ -93,12 +93,12 @@ pub record Headed (t : List ℕ) (at : ℕ) (fs : List File) (g : RecordFields) 
   pub stands : At t at (head ∷ tail)
   pub fields : g ≡ fields_of at head
 
-pub at_whole : {t : List ℕ} {at : ℕ} {fs : List File} {x : Outline} {g : RecordFields} → At t at fs → x ≡ outline_of t at → x ≡ O.Whole g → Headed t at fs g
-at_whole {fs = []} {g = g} w e q = let k : O.Whole g ≡ O.Short = sym q ∙ e ∙ at_end w in let z : ◌≡◌ {A = ℕ} 0 1 = cc in absurd (omega arith)
+pub at_whole : {t : List ℕ} {at : ℕ} {fs : List File} {x : Option RecordFields} {g : RecordFields} → At t at fs → x ≡ outline_of t at → x ≡ Some g → Headed t at fs g
+at_whole {fs = []} {g = g} w e q = let k : Some g ≡ None = sym q ∙ e ∙ at_end w in cc
 at_whole {at = at} {fs = f ∷ fs} {g = g} w e q =
-    let k : O.Whole g ≡ O.Whole (fields_of at f) = sym q ∙ e ∙ (standing w).outline_is in
+    let k : Some g ≡ Some (fields_of at f) = sym q ∙ e ∙ (standing w).outline_is in
     record { head = f; tail = fs; is = refl; stands = w; fields = cc }
 
-pub at_short : {t : List ℕ} {at : ℕ} {fs : List File} {x : Outline} → At t at fs → x ≡ outline_of t at → x ≡ O.Short → fs ≡ []
+pub at_short : {t : List ℕ} {at : ℕ} {fs : List File} {x : Option RecordFields} → At t at fs → x ≡ outline_of t at → x ≡ None → fs ≡ []
 at_short {fs = []} w e q = refl
-at_short {at = at} {fs = f ∷ fs} w e q = let k : O.Whole (fields_of at f) ≡ O.Short = sym (standing w).outline_is ∙ sym e ∙ q in let z : ◌≡◌ {A = ℕ} 0 1 = cc in absurd (omega arith)
+at_short {at = at} {fs = f ∷ fs} w e q = let k : Some (fields_of at f) ≡ None = sym (standing w).outline_is ∙ sym e ∙ q in cc

@@ -10,18 +10,12 @@ pub const BYTES_LIMIT: usize = 65536;
 pub fn within_limits(count: u32, size: usize) -> bool
     ensures { result ≡ is_within count size }
 {
-    if RECORDS_LIMIT < count {
-        return false;
-    }
-    size <= BYTES_LIMIT
+    count <= RECORDS_LIMIT && size <= BYTES_LIMIT
 }
 
 // Whether bytes are a good table: each record is read once, and its name compared with the one before it.
 pub fn is_good(table: &[u8]) -> bool
     ensures { result ≡ is_good table.now }
 {
-    if BYTES_LIMIT < table.len() {
-        return false;
-    }
-    record::is_rising_array(table, RECORDS_LIMIT)
+    table.len() <= BYTES_LIMIT && record::is_rising_array(table, RECORDS_LIMIT)
 }

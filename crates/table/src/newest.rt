@@ -1,11 +1,12 @@
 // Which of two records of one name is the newer.
-ghost use Rattle.std.specs.Prelude.{◌≡◌};
+ghost use Rattle.std.specs.Prelude.{◌≡◌, not};
+ghost use Rattle.record.specs.File.{is_deleted, is_invalid};
 ghost use Rattle.record.specs.Modified.{raised as raised_of};
-ghost use Rattle.table.specs.Newest.{bit, compare_at};
-ghost use Rattle.order.specs.Order.{compare_numbers};
+ghost use Rattle.table.specs.Newest.{compare_at};
 
-use order::{Order, compare_long, compare_numbers, part};
+use order::{compare_long, part};
 use record::RecordFields;
+use std::cmp::Ordering;
 
 // Modified as a number from 0, in the order of the signed numbers.
 fn raised(modified: u64) -> u64
@@ -17,49 +18,21 @@ fn raised(modified: u64) -> u64
     modified - 9223372036854775808
 }
 
-// 1 for yes, 0 for no.
-fn number_of(b: bool) -> u64
-    ensures { result ≡ bit b }
+// What decides before the bytes do, in turn: Modified as a signed number, Version, valid over invalid, deleted over undeleted.
+fn key(f: RecordFields) -> (u64, u32, bool, bool)
+    ensures { result ≡ (raised_of f.modified, f.version, not (is_invalid f.flags), is_deleted f.flags) }
 {
-    if b {
-        return 1;
-    }
-    0
-}
-
-// Modified as a signed number.
-fn compare_modified(m: u64, n: u64) -> Order
-    ensures { result ≡ compare_numbers (raised_of m) (raised_of n) }
-{
-    compare_numbers(raised(m), raised(n))
-}
-
-// Yes over no.
-fn compare_bits(a: bool, b: bool) -> Order
-    ensures { result ≡ compare_numbers (bit a) (bit b) }
-{
-    compare_numbers(number_of(a), number_of(b))
+    (
+        raised(f.modified),
+        f.version,
+        !record::is_invalid(f.flags),
+        record::is_deleted(f.flags),
+    )
 }
 
 // Two records by their fields, each in its own bytes: Greater where the first is the newer.
-pub fn compare_records(s: &[u8], f: RecordFields, t: &[u8], g: RecordFields) -> Order
+pub fn compare_records(s: &[u8], f: RecordFields, t: &[u8], g: RecordFields) -> Ordering
     ensures { result ≡ compare_at s.now f t.now g }
 {
-    let modified = compare_modified(f.modified, g.modified);
-    if !modified.is_equal() {
-        return modified;
-    }
-    let version = compare_numbers(f.version as u64, g.version as u64);
-    if !version.is_equal() {
-        return version;
-    }
-    let valid = compare_bits(!record::is_invalid(f.flags), !record::is_invalid(g.flags));
-    if !valid.is_equal() {
-        return valid;
-    }
-    let deleted = compare_bits(record::is_deleted(f.flags), record::is_deleted(g.flags));
-    if !deleted.is_equal() {
-        return deleted;
-    }
-    compare_long(part(s, f.rest, f.past), part(t, g.rest, g.past))
+    key(f).cmp(&key(g)).then_with(|| compare_long(part(s, f.rest, f.past), part(t, g.rest, g.past)))
 }

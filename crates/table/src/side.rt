@@ -2,13 +2,12 @@
 ghost use Rattle.std.specs.Prelude.{◌≡◌};
 ghost use Rattle.table.specs.Steps.Side.{side_at, side_of_two};
 
-use order::Order;
-use record::{Outline, RecordFields};
+use record::RecordFields;
+use std::cmp::Ordering;
 
-// The first table's up to a place, the second's, or both, which have one name; or none is left.
+// The first table's up to a place, the second's, or both, which have one name.
 #[derive(Clone, Copy)]
 pub enum Side {
-    Neither,
     Left(usize),
     Right(usize),
     Both(RecordFields, RecordFields),
@@ -19,24 +18,20 @@ fn side_of_two(a: &[u8], f: RecordFields, b: &[u8], g: RecordFields) -> Side
     ensures { result ≡ side_of_two a.now f b.now g }
 {
     match order::compare_parts(a, f.name, f.stop, b, g.name, g.stop) {
-        Order::Less => Side::Left(f.past),
-        Order::Equal => Side::Both(f, g),
-        Order::Greater => Side::Right(g.past),
+        Ordering::Less => Side::Left(f.past),
+        Ordering::Equal => Side::Both(f, g),
+        Ordering::Greater => Side::Right(g.past),
     }
 }
 
-// By the records at a place of each.
-pub fn side_at(a: &[u8], i: usize, b: &[u8], j: usize) -> Side
+// By the records at a place of each; none is left where both tables have come to their end.
+pub fn side_at(a: &[u8], i: usize, b: &[u8], j: usize) -> Option<Side>
     ensures { result ≡ side_at a.now i b.now j }
 {
-    match record::outline_at(a, i) {
-        Outline::Short => match record::outline_at(b, j) {
-            Outline::Short => Side::Neither,
-            Outline::Whole(g) => Side::Right(g.past),
-        },
-        Outline::Whole(f) => match record::outline_at(b, j) {
-            Outline::Short => Side::Left(f.past),
-            Outline::Whole(g) => side_of_two(a, f, b, g),
-        },
+    match (record::outline_at(a, i), record::outline_at(b, j)) {
+        (None, None) => None,
+        (None, Some(g)) => Some(Side::Right(g.past)),
+        (Some(f), None) => Some(Side::Left(f.past)),
+        (Some(f), Some(g)) => Some(side_of_two(a, f, b, g)),
     }
 }

@@ -1,22 +1,29 @@
 // The lines of calls that fill a buffer.
+use lines::Hex;
 use std::io;
-use xdr::Filling;
+use xdr::Refusal;
 
-// What a call answered: the table of a small result, the length of a large one, or the refusal; and whether the buffer is as it was.
-pub fn show(rt: &impl Print, call: &[u8], label: &[u8], f: Filling, out: &[u8]) -> io::Result<()> {
-    lines::text(rt, call)?;
-    lines::text(rt, label)?;
-    match f {
-        Filling::Filled(n) => {
-            lines::buffer(rt, out)?;
-            lines::text(rt, b": filled ")?;
-            lines::number(rt, n as u64)?;
-            if n < 100 && n <= out.len() {
-                lines::text(rt, b" ")?;
-                lines::bytes(rt, &out[0..n])?;
-            }
-            lines::text(rt, b"\n")
+// What a call answers with room for so many bytes in a new buffer: the table of a small result, the length of a large one, or the refusal; and
+// whether the buffer is as it was.
+pub(crate) fn show<F: FnOnce(&mut [u8]) -> Result<usize, Refusal>>(
+    rt: &impl Print,
+    label: &str,
+    room: usize,
+    fill: F,
+) -> io::Result<()>
+    requires { F.IsAlwaysCallable fill }
+{
+    let mut out = [0xeeu8; 65536];
+    if room > out.len() {
+        return Ok(());
+    }
+    let filled = fill(&mut out[..room]);
+    print!(rt; "{label}")?;
+    match filled {
+        Ok(n) if n < 100 => {
+            println!(rt; ", {}: filled {n} {}", lines::buffer(&out), Hex(&out[..n]))
         }
-        Filling::Refused(r) => lines::refused(rt, out, r),
+        Ok(n) => println!(rt; ", {}: filled {n}", lines::buffer(&out)),
+        Err(r) => lines::refused(rt, &out, r),
     }
 }

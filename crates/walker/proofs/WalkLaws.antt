@@ -1,5 +1,7 @@
 -- Walking from record to record up to a place.
-use Prim.Native.Nat.{ℕ, ◌+◌, ◌-◌, ◌<◌}
+use Rattle.std.specs.Prelude.{Ok, Some, None}
+use Rattle.std.specs.declared.option.Option.{Option}
+use Prim.Native.Nat.{ℕ, ◌+◌, ◌<◌}
 use mathlib.Core.List.{List, [], ◌∷◌}
 use mathlib.Core.Path.{◌≡◌, refl, sym, ap, subst, ◌∙◌}
 use mathlib.Core.Bool.{true, false}
@@ -11,14 +13,11 @@ use Rattle.xdr.specs.Format.{encode}
 use Rattle.record.specs.File.{File, file}
 use Rattle.record.specs.Outline.{outline_of, fields_of}
 use Rattle.record.specs.declared.outline.RecordFields.{RecordFields}
-use Rattle.record.specs.declared.outline.Outline.{Outline}
-use Rattle.record.specs.declared.outline.Outline.TheVariants as O
 use Rattle.table.specs.Table.{is_good, records}
 use Rattle.table.proofs.TableLaws.{good_table}
 use Rattle.table.specs.Steps.Standing.{At}
 use Rattle.table.proofs.WalkLaws.{at_start_lem, standing, Headed, at_whole, at_short}
 use Rattle.walker.specs.Walk.{bad, step_among, step_at}
-use Rattle.walker.specs.declared.Step.TheVariants.{Record, End}
 
 pub table_bad : (t : List ℕ) (at : ℕ) → is_good t ≡ false → bad ≡ step_at t at
 unfolding step_at
@@ -45,10 +44,10 @@ module _ {t : List ℕ} {at place : ℕ} (c : Come t at place) where
 
   -- by the outline that was answered
 
-  pub come_end : {x : Outline} → place < at → x ≡ outline_of t place → x ≡ O.Short → bad ≡ step_at t at
+  pub come_end : {x : Option RecordFields} → place < at → x ≡ outline_of t place → x ≡ None → bad ≡ step_at t at
   come_end h e q = sym (c.left ∙ ap (λ (l : List File). step_among l place at) (at_short c.here e q) ∙ rw (ne_eqb place at (λ e. omega arith)) refl)
 
-  module _ {x : Outline} {g : RecordFields} (h : place < at) (e : x ≡ outline_of t place) (q : x ≡ O.Whole g) where
+  module _ {x : Option RecordFields} {g : RecordFields} (h : place < at) (e : x ≡ outline_of t place) (q : x ≡ Some g) where
     r : Headed t place c.rest g
     r = at_whole c.here e q
 
@@ -69,17 +68,17 @@ module _ {t : List ℕ} {at place : ℕ} (c : Come t at place) where
     pub come_grows : place < g.past
     come_grows = omega (arith, past_is)
 
-  module _ (same : place ≡ at) {x : Outline} (e : x ≡ outline_of t at) where
+  module _ (same : place ≡ at) {x : Option RecordFields} (e : x ≡ outline_of t at) where
     at_here : At t at c.rest
     at_here = subst (λ (p : ℕ). At t p c.rest) same c.here
 
     left_here : step_at t at ≡ step_among c.rest at at
     left_here = c.left ∙ ap (λ (p : ℕ). step_among c.rest p at) same
 
-    pub ended : x ≡ O.Short → End ≡ step_at t at
+    pub ended : x ≡ None → Ok None ≡ step_at t at
     ended q = sym (left_here ∙ ap (λ (l : List File). step_among l at at) (at_short at_here e q) ∙ rw (eq-eqb at at refl) refl)
 
-    pub found : {g : RecordFields} → x ≡ O.Whole g → Record g ≡ step_at t at
+    pub found : {g : RecordFields} → x ≡ Some g → Ok (Some g) ≡ step_at t at
     found q =
         let r = at_whole at_here e q in
-        ap Record r.fields ∙ sym (left_here ∙ ap (λ (l : List File). step_among l at at) r.is ∙ rw (eq-eqb at at refl) refl)
+        ap (λ (y : RecordFields). Ok (Some y)) r.fields ∙ sym (left_here ∙ ap (λ (l : List File). step_among l at at) r.is ∙ rw (eq-eqb at at refl) refl)

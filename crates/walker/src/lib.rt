@@ -5,57 +5,42 @@
 ghost use Rattle.std.specs.Prelude.{◌≡◌};
 ghost use Rattle.walker.specs.Walk.{step_at, next_place, given, stepped};
 
-use record::{Outline, RecordFields};
+use record::RecordFields;
 use xdr::Refusal;
 
-// The record at a place, by the places of its fields; or the end of the table; or a refusal.
-#[derive(Clone, Copy)]
-pub enum Step {
-    Record(RecordFields),
-    End,
-    Refused(Refusal),
-}
+// No good table, or a place that starts no record and isn't the end.
+const BAD: Refusal = Refusal {
+    number: 15,
+    place: 0,
+};
 
-// What stands at a place of a table: the whole table is checked, and a record is there only where the walk from the first one comes by.
-pub fn step_at(table: &[u8], at: usize) -> Step
+// What stands at a place of a table, a record by the places of its fields, or none at the end: the whole table is checked, and a record is
+// there only where the walk from the first one comes by.
+pub fn step_at(table: &[u8], at: usize) -> Result<Option<RecordFields>, Refusal>
     ensures { result ≡ step_at table.now at }
 {
     if !table::is_good(table) {
-        return Step::Refused(Refusal {
-            number: 15,
-            place: 0,
-        });
+        return Err(BAD);
     }
     let mut place = 4;
+    // A `while`, since a step is as long as the record.
     while place < at {
-        let Outline::Whole(f) = record::outline_at(table, place) else {
-            return Step::Refused(Refusal {
-                number: 15,
-                place: 0,
-            });
-        };
-        place = f.past;
+        place = record::outline_at(table, place).ok_or(BAD)?.past;
     }
     if place != at {
-        return Step::Refused(Refusal {
-            number: 15,
-            place: 0,
-        });
+        return Err(BAD);
     }
-    let Outline::Whole(f) = record::outline_at(table, at) else {
-        return Step::End;
-    };
-    Step::Record(f)
+    Ok(record::outline_at(table, at))
 }
 
 // The place after a step: past the record, or the same.
-pub fn next_place(step: Step, at: usize) -> usize
+pub fn next_place(step: Result<Option<RecordFields>, Refusal>, at: usize) -> usize
     ensures { result ≡ next_place step at }
 {
     match step {
-        Step::Record(f) => f.past,
-        Step::End => at,
-        Step::Refused(_) => at,
+        Ok(Some(f)) => f.past,
+        Ok(None) => at,
+        Err(_) => at,
     }
 }
 
@@ -74,13 +59,12 @@ impl<'a> Walker<'a> {
         Walker { table, at: 4 }
     }
 
-    // The record at the place, and the walker moves past it; or the end, or a refusal, and it stays.
-    pub fn step(&mut self) -> Step
+    // The record at the place, and the walker moves past it; or none at the end, or a refusal, and it stays.
+    pub fn step(&mut self) -> Result<Option<RecordFields>, Refusal>
         ensures { (result ≡ given self.old) × (self.new ≡ stepped self.old) }
     {
-        let at = self.at;
-        let found = step_at(self.table, at);
-        self.at = next_place(found, at);
+        let found = step_at(self.table, self.at);
+        self.at = next_place(found, self.at);
         found
     }
 }

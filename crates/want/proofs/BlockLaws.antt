@@ -27,7 +27,7 @@ module _ (t : List ℕ) (at : ℕ) {n : ℕ} {h : List ℕ} (e : n ≡ word_at t
 
 and_both : (a b : Bool) → (a && b) ≡ true → (a ≡ true) × (b ≡ true)
 and_both true b e = (refl, e)
-and_both false b e = let z : ◌≡◌ {A = ℕ} 0 1 = cc in absurd (omega arith)
+and_both false b e = cc
 
 -- the same Length and hash are the same block
 pub same_is : (b c : Block) → is_same b c ≡ true → b ≡ c

@@ -1,4 +1,6 @@
 -- How far the list has come: the blocks done, and those of the records left, make up the request list.
+use Rattle.std.specs.Prelude.{Some, None}
+use Rattle.std.specs.declared.option.Option.{Option}
 use Prim.Native.Nat.{ℕ, zero, suc, ◌+◌, ◌-◌, ◌*◌, ◌≤◌, ◌<◌}
 use mathlib.Core.List.{List, [], ◌∷◌, ◌++◌, map, append_assoc, append-nil}
 use mathlib.Core.Path.{◌≡◌, refl, sym, ap, subst, ◌∙◌}
@@ -11,8 +13,6 @@ use Rattle.record.specs.Block.{Block}
 use Rattle.record.specs.File.{File}
 use Rattle.record.specs.Outline.{outline_of}
 use Rattle.record.specs.declared.outline.RecordFields.{RecordFields}
-use Rattle.record.specs.declared.outline.Outline.{Outline}
-use Rattle.record.specs.declared.outline.Outline.TheVariants as O
 use Rattle.order.specs.Order.{part}
 use Rattle.table.specs.Table.{is_good, records}
 use Rattle.table.proofs.TableLaws.{good_table}
@@ -77,12 +77,12 @@ module _ {ts : List (List ℕ)} {ps : List ℕ} {file : ℕ} {done : List Wanted
   done_stand k s = (get_or d.ls k [], d.walk.here k s)
 
   -- nothing is left
-  pub done_all : {k : ℕ} {x : Outline} → k ≡ lowest_from ts ps 0 1 4 → x ≡ outline_of (table_at ts k) (place_at ps k) → x ≡ O.Short → done ≡ list_of ts
+  pub done_all : {k : ℕ} {x : Option RecordFields} → k ≡ lowest_from ts ps 0 1 4 → x ≡ outline_of (table_at ts k) (place_at ps k) → x ≡ None → done ≡ list_of ts
   done_all e y g =
       sym (append-nil done) ∙ ap (λ (l : List File). done ++ wanted_files (local_of ts) (peers_of ts) file l) (sym (turns_end d.walk e refl y g)) ∙ d.follows
 
   -- the turn of the record that is next
-  module _ (g : Five ts) {k : ℕ} {x : Outline} {f : RecordFields} (low : k ≡ lowest_from ts ps 0 1 4) (y : x ≡ outline_of (table_at ts k) (place_at ps k)) (is : x ≡ O.Whole f) where
+  module _ (g : Five ts) {k : ℕ} {x : Option RecordFields} {f : RecordFields} (low : k ≡ lowest_from ts ps 0 1 4) (y : x ≡ outline_of (table_at ts k) (place_at ps k)) (is : x ≡ Some f) where
     pub this : Turn ts ps d.ls k (table_at ts k) f
     this = turn d.walk low refl y is
 
@@ -150,7 +150,7 @@ module _ {ts : List (List ℕ)} {ps : List ℕ} {file : ℕ} {done : List Wanted
       peers_pass false q = peers_rise ps qs (listed_count f * 40) grows k this.small (positive k q) (omega (arith, turn_passes d.walk this qs after))
         where
           positive : (i : ℕ) → eqb i 0 ≡ false → 0 < i
-          positive zero r = let z : ◌≡◌ {A = ℕ} 0 1 = cc in absurd (omega arith)
+          positive zero r = cc
           positive (suc i) r = omega arith
 
       pub done_turn : Done ts qs (file + 1) (done ++ these)
@@ -181,7 +181,7 @@ begun_done ts g (suc file) ps b =
     let one : file + 1 ≡ suc file = omega arith in
     subst (λ (n : ℕ). Done ts ps n []) one (idle_turn g (begun_done ts g file b.0 b.1) b.2)
 
-pub begun_turn : {ts : List (List ℕ)} {ps : List ℕ} (file : ℕ) {best : ℕ} {x : Outline} {f : RecordFields} {past : List ℕ} → Begun ts file ps → Headed ts ps 5 best x past → x ≡ O.Whole f → sought_of best f ≡ 0 → Begun ts (file + 1) past
+pub begun_turn : {ts : List (List ℕ)} {ps : List ℕ} (file : ℕ) {best : ℕ} {x : Option RecordFields} {f : RecordFields} {past : List ℕ} → Begun ts file ps → Headed ts ps 5 best x past → x ≡ Some f → sought_of best f ≡ 0 → Begun ts (file + 1) past
 begun_turn {ts} {ps} file {best} {x} {f} {past} b h is z =
     let one : suc file ≡ file + 1 = omega arith in
     subst (λ (n : ℕ). Begun ts n past) one
@@ -199,12 +199,12 @@ all_room {ts} g (suc left) {ps} {file} {done} d h = go (outline_of (table_at ts 
     low : ℕ
     low = lowest_from ts ps 0 1 4
 
-    go : (x : Outline) → x ≡ outline_of (table_at ts low) (place_at ps low) → ((qs : List ℕ) (n : ℕ) (l : List Wanted) → Done ts qs n l → 327680 - total qs < left → length (list_of ts) * 40 ≤ peers_length ts)
+    go : (x : Option RecordFields) → x ≡ outline_of (table_at ts low) (place_at ps low) → ((qs : List ℕ) (n : ℕ) (l : List Wanted) → Done ts qs n l → 327680 - total qs < left → length (list_of ts) * 40 ≤ peers_length ts)
         → length (list_of ts) * 40 ≤ peers_length ts
-    go O.Short e next =
+    go None e next =
         let one : (k : ℕ) → k < 5 → place_at ps k ≤ length (table_at ts k) = λ k s. (d.walk.here k s).inside in
         omega (arith, ap length (done_all d refl e refl), d.room, one 1 (omega arith), one 2 (omega arith), one 3 (omega arith), one 4 (omega arith))
-    go (O.Whole f) e next = next _ _ _ (done_turn d g refl e refl refl) (omega (arith, h, done_less d g refl e refl {qs = places_after ts ps (part (table_at ts low) f.name f.stop)} refl))
+    go (Some f) e next = next _ _ _ (done_turn d g refl e refl refl) (omega (arith, h, done_less d g refl e refl {qs = places_after ts ps (part (table_at ts low) f.name f.stop)} refl))
 
 pub list_room : {ts : List (List ℕ)} → Five ts → length (list_of ts) * 40 ≤ peers_length ts
 list_room {ts} g = all_room g 327681 (done_starts ts g) (omega arith)
@@ -228,11 +228,11 @@ module _ {ts : List (List ℕ)} {ps : List ℕ} {n : ℕ} (g : Five ts) (c : Cou
   pub counted_small : n ≤ 327680
   counted_small = omega (arith, c.counted, c.so_far.room, total_small g c.so_far.walk)
 
-  module _ {best : ℕ} {x : Outline} {past : List ℕ} (h : Headed ts ps 5 best x past) where
-    pub counted_all : x ≡ O.Short → (n ≡ length (list_of ts)) × (n ≤ 327680)
+  module _ {best : ℕ} {x : Option RecordFields} {past : List ℕ} (h : Headed ts ps 5 best x past) where
+    pub counted_all : x ≡ None → (n ≡ length (list_of ts)) × (n ≤ 327680)
     counted_all e = (c.counted ∙ ap length (done_all c.so_far (headed_lowest h) h.fields_are e), counted_small)
 
-    module _ {f : RecordFields} (is : x ≡ O.Whole f) {local t : List ℕ} {first count m : ℕ} (z : local ≡ table_at ts 0) (y : t ≡ table_at ts best) (p : first ≡ f.first) (q : count ≡ sought_of best f)
+    module _ {f : RecordFields} (is : x ≡ Some f) {local t : List ℕ} {first count m : ℕ} (z : local ≡ table_at ts 0) (y : t ≡ table_at ts best) (p : first ≡ f.first) (q : count ≡ sought_of best f)
         (r : m ≡ wanted_count (records local) (blocks_from t first 0 count)) where
       counted_here : m ≡ length (these c.so_far g (headed_lowest h) h.fields_are is)
       counted_here =

@@ -1,4 +1,6 @@
 -- The entries of the list in the buffer: one, those of a record, and all.
+use Rattle.std.specs.Prelude.{Some, None}
+use Rattle.std.specs.declared.option.Option.{Option}
 use Prim.Native.Nat.{ℕ, suc, ◌+◌, ◌-◌, ◌*◌, ◌≤◌, ◌<◌}
 use mathlib.Core.List.{List, [], ◌∷◌, ◌++◌, append_assoc, append-nil, map}
 use mathlib.Core.Path.{◌≡◌, refl, sym, ap, subst, ◌∙◌}
@@ -15,8 +17,6 @@ use Rattle.record.specs.Block.{Block}
 use Rattle.record.specs.File.{File}
 use Rattle.record.specs.Outline.{word_at, block_place}
 use Rattle.record.specs.declared.outline.RecordFields.{RecordFields}
-use Rattle.record.specs.declared.outline.Outline.{Outline}
-use Rattle.record.specs.declared.outline.Outline.TheVariants as O
 use Rattle.table.specs.Table.{is_good, records}
 use Rattle.merge.specs.Merged.{merged_of}
 use Rattle.want.specs.Listing.{is_held, block_with}
@@ -255,13 +255,13 @@ module _ {ts : List (List ℕ)} {ps out₀ out : List ℕ} {file at : ℕ} (g : 
   pub filled_same : length out ≡ length out₀
   filled_same = (filled_length (wanted_files (local_of ts) (peers_of ts) file (merged_of w.so_far.ls)) w.so_far.follows).1
 
-  module _ {best : ℕ} {x : Outline} {past : List ℕ} (h : Headed ts ps 5 best x past) where
-    pub filled_all : x ≡ O.Short → (at ≡ length (list_bytes (list_of ts))) × (out ≡ filled out₀ (list_bytes (list_of ts)))
+  module _ {best : ℕ} {x : Option RecordFields} {past : List ℕ} (h : Headed ts ps 5 best x past) where
+    pub filled_all : x ≡ None → (at ≡ length (list_bytes (list_of ts))) × (out ≡ filled out₀ (list_bytes (list_of ts)))
     filled_all e =
         let all = done_all w.so_far (headed_lowest h) h.fields_are e in
         (sym w.fills.long ∙ ap (λ (l : List Wanted). length (list_bytes l)) all, w.fills.fills ∙ ap (λ (l : List Wanted). filled out₀ (list_bytes l)) all)
 
-    module _ {f : RecordFields} (is : x ≡ O.Whole f) {l : List Wanted} (q : l ≡ these w.so_far g (headed_lowest h) h.fields_are is) where
+    module _ {f : RecordFields} (is : x ≡ Some f) {l : List Wanted} (q : l ≡ these w.so_far g (headed_lowest h) h.fields_are is) where
       begins : w.done ++ (l ++ later w.so_far g (headed_lowest h) h.fields_are is) ≡ list_of ts
       begins =
           ap (λ (m : List Wanted). w.done ++ (m ++ later w.so_far g (headed_lowest h) h.fields_are is)) q

@@ -1,4 +1,6 @@
 -- Which of several tables has the record that comes first, where records of each are left.
+use Rattle.std.specs.Prelude.{Some}
+use Rattle.std.specs.declared.option.Option.{Option}
 use Prim.Native.Nat.{ℕ, zero, suc, ◌+◌, ◌<◌}
 use mathlib.Core.List.{List, [], ◌∷◌}
 use mathlib.Core.Path.{◌≡◌, refl, sym, subst, ◌∙◌}
@@ -11,17 +13,17 @@ use Rattle.record.specs.File.{File}
 use Rattle.record.specs.Outline.{fields_of}
 use Rattle.table.specs.Newest.{compare_files, compare_at}
 use Rattle.table.specs.declared.side.Side.{Side}
-use Rattle.order.specs.declared.compare.Order.{Order}
-use Rattle.order.specs.declared.compare.Order.TheVariants.{Less, Equal, Greater}
+use Rattle.std.specs.declared.cmp.Ordering.{Ordering}
+use Rattle.std.specs.declared.cmp.Ordering.TheVariants.{Less, Equal, Greater}
 use Rattle.order.proofs.OrderLaws.{Below, equal_same, below_trans, below_irrefl, below_asym}
 use Rattle.record.proofs.RisingLaws.{Above}
 use Rattle.table.proofs.NewestLaws.{at_least_itself, at_least_reversed, at_least_trans}
 use Rattle.table.specs.Steps.Standing.{At}
 use Rattle.table.proofs.WalkLaws.{compared_there}
 use Rattle.table.proofs.SideLaws.{shows_at, Told, told_none, told_left, told_right, told_both, told}
+use Rattle.merge.specs.declared.next.Pick.{Pick}
 use Rattle.merge.specs.Highest.{AtLeast}
 use Rattle.merge.specs.Steps.Next.{higher_step, higher_of, next_by, next_of}
-use Rattle.merge.specs.declared.next.Next.{Next}
 use Rattle.want.specs.Steps.Places.{is_first, table_at, place_at, lower_of, lowest_from}
 use Rattle.want.proofs.PlaceLaws.{lower_small}
 use Rattle.want.proofs.HeadLaws.{Leads}
@@ -52,7 +54,7 @@ abbrev FirstBy : Bool → List File → List File → Type 0
 FirstBy true fs gs = First fs gs
 FirstBy false fs gs = First gs fs × (First fs gs → ⊥)
 
-abbrev Firsts : List File → List File → Next → Type 0
+abbrev Firsts : List File → List File → Option Pick → Type 0
 Firsts fs gs n = FirstBy (is_first n) fs gs
 
 above_leads : (f : File) (gs : List File) → Above f.name gs → Leads f gs
@@ -70,13 +72,13 @@ not_higher : (f g : File) (gs : List File) → f.name ≡ g.name → compare_fil
 not_higher f g gs e h (inl p) = below_irrefl g.name (subst (λ (n : List ℕ). Below n g.name) e p)
 not_higher f g gs e h (inr p) = p.1 h
 
-first_told : {a b : List ℕ} {i j : ℕ} {fs gs : List File} {t : Side} → Told i j fs gs t → At a i fs → At b j gs → Firsts fs gs (next_by (higher_of a i b j) i j t)
+first_told : {a b : List ℕ} {i j : ℕ} {fs gs : List File} {t : Option Side} → Told i j fs gs t → At a i fs → At b j gs → Firsts fs gs (next_by (higher_of a i b j) i j t)
 first_told told_none u w = refl
 first_told (told_left f fs gs h) u w = above_leads f gs h
 first_told (told_right g fs gs h) u w = (above_leads g fs h, not_above g fs gs h)
 first_told {a} {b} {i} {j} (told_both f g fs gs e) u w = go (compare_at a (fields_of i f) b (fields_of j g)) (sym (compared_there u w))
   where
-    go : (o : Order) → compare_files f g ≡ o → Firsts (f ∷ fs) (g ∷ gs) (higher_step o i (fields_of i f).past j (fields_of j g).past)
+    go : (o : Ordering) → compare_files f g ≡ o → Firsts (f ∷ fs) (g ∷ gs) (Some (higher_step o i (fields_of i f).past j (fields_of j g).past))
     go Less h = let same = equal_same f.name g.name e in (inr (sym same, at_least_reversed f g h), not_higher f g gs same h)
     go Equal h = inr (equal_same f.name g.name e, λ k. let z : ◌≡◌ {A = ℕ} 0 1 = cc (sym h ∙ k) in omega arith)
     go Greater h = inr (equal_same f.name g.name e, λ k. let z : ◌≡◌ {A = ℕ} 0 1 = cc (sym h ∙ k) in omega arith)

@@ -1,9 +1,11 @@
 -- Making an index: what the loops over records and over blocks keep; and what the search tells of a table with an index.
+use Rattle.std.specs.Prelude.{Some, None}
+use Rattle.std.specs.declared.option.Option.{Option}
 use Prim.Native.Nat.{ℕ, suc, ◌+◌, ◌-◌, ◌*◌, ◌≤◌, ◌<◌}
 use mathlib.Core.List.{List, [], ◌∷◌}
 use mathlib.Core.Path.{◌≡◌, refl, sym, ap, subst, ◌∙◌}
 use mathlib.Core.Logic.{◌⊎◌, inl, inr}
-use mathlib.Core.Bool.{Bool, true, false, cond, ◌||◌}
+use mathlib.Core.Bool.{Bool, true, false, ◌||◌}
 use native.Mathlib.Omega.{arith}
 use native.Mathlib.Decide.{dec_lt}
 use lib.ListN.{length, get_or, set, length-set, replicate, length-replicate, get_or-replicate, get_or-eq_default}
@@ -12,8 +14,6 @@ use Rattle.record.specs.Block.{Block}
 use Rattle.record.specs.File.{File}
 use Rattle.record.specs.Outline.{outline_of, fields_of, block_place}
 use Rattle.record.specs.declared.outline.RecordFields.{RecordFields}
-use Rattle.record.specs.declared.outline.Outline.{Outline}
-use Rattle.record.specs.declared.outline.Outline.TheVariants as O
 use Rattle.table.specs.Table.{is_good, records}
 use Rattle.table.proofs.TableLaws.{good_table}
 use Rattle.table.specs.Steps.Standing.{At}
@@ -21,7 +21,7 @@ use Rattle.table.proofs.WalkLaws.{at_start_lem, standing}
 use Rattle.want.specs.Listing.{is_same, listed, has_block, is_held}
 use Rattle.want.specs.Steps.Blocks.{block_here, blocks_from, listed_count}
 use Rattle.want.proofs.ListingLaws.{Heads, heads, none_here, listed_blocks, listed_within}
-use Rattle.want.specs.Steps.Index.{slot_of, is_present, is_placed, placed, Empty, Within, Indexed, Serves}
+use Rattle.want.specs.Steps.Index.{slot_of, is_present, is_placed, placed, Empty, Within, Indexed}
 use Rattle.want.specs.declared.index.Slot.{Slot}
 use Rattle.want.specs.declared.index.Slot.TheVariants.{Free, Present, Full}
 use Rattle.want.proofs.BlockLaws.{same_is, same_self}
@@ -105,7 +105,7 @@ module _ {t index : List ℕ} {p : ℕ} {rest less : Block → Bool} (w : Lackin
       go : (x : Slot) → slot_of t index (block_here t p) ≡ x → is_placed x ≡ true → Lacking t (placed index p x) less
       go (Free m) f g = lack_free m f
       go Present f g = lack_present f
-      go Full f g = let z : ◌≡◌ {A = ℕ} 0 1 = cc in absurd (omega arith)
+      go Full f g = cc
 
 -- before a record
 pub record Indexing (t index : List ℕ) (at : ℕ) : Type 0 where
@@ -150,7 +150,7 @@ index_starts t index p g e =
 
 module _ {t index : List ℕ} {at : ℕ} (w : Indexing t index at) where
   -- no record is left
-  pub index_ends : {x : Outline} → x ≡ outline_of t at → x ≡ O.Short → Indexed t index
+  pub index_ends : {x : Option RecordFields} → x ≡ outline_of t at → x ≡ None → Indexed t index
   index_ends e g = record { long = w.so_far.long; within = w.so_far.within; sound = w.so_far.sound; whole = λ b h. go b (w.so_far.whole b h) }
     where
       none : w.left ≡ []
@@ -161,7 +161,7 @@ module _ {t index : List ℕ} {at : ℕ} (w : Indexing t index at) where
       go b (inl r) = let z : false ≡ true = sym (ap (λ (l : List File). is_held l b) none) ∙ r in let y : ◌≡◌ {A = ℕ} 0 1 = cc in absurd (omega arith)
 
   -- the blocks of the next one
-  pub index_opens : {x : Outline} {f : RecordFields} {count : ℕ} → x ≡ outline_of t at → x ≡ O.Whole f → count ≡ listed_count f → Adding t index at f count f.first 0
+  pub index_opens : {x : Option RecordFields} {f : RecordFields} {count : ℕ} → x ≡ outline_of t at → x ≡ Some f → count ≡ listed_count f → Adding t index at f count f.first 0
   index_opens {x} {f} {count} e g k =
       record {
         head = h.head;
@@ -228,7 +228,7 @@ module _ {t index : List ℕ} {at : ℕ} {f : RecordFields} {count first j : ℕ
 
       or_front : (s a c : Bool) → s ≡ true → ((s || a) || c) ≡ true
       or_front true a c r = refl
-      or_front false a c r = let z : ◌≡◌ {A = ℕ} 0 1 = cc in absurd (omega arith)
+      or_front false a c r = cc
 
       or_splits : (s a c : Bool) → ((s || a) || c) ≡ true → (s ≡ true) ⊎ ((a || c) ≡ true)
       or_splits true a c r = inl refl
@@ -281,8 +281,3 @@ zeros_free n i = go (dec_lt i n)
 
 pub zeros_empty : Empty (replicate 8192 0)
 zeros_empty = record { long = length-replicate {A = ℕ} 8192 0; free = zeros_free 8192 }
-
--- what serves, by whether the index was built
-pub serves_by : (t slots : List ℕ) (built : Bool) {index : List ℕ} → index ≡ cond built slots [] → (built ≡ true → Indexed t slots) → Serves t index
-serves_by t slots true e h z = subst (Indexed t) (sym e) (h refl)
-serves_by t slots false e h z = absurd (omega (arith, z, ap length e))

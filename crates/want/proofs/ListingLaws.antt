@@ -1,4 +1,6 @@
 -- The record at a place of a table, and the blocks that it lists.
+use Rattle.std.specs.Prelude.{Some, None}
+use Rattle.std.specs.declared.option.Option.{Option}
 use Prim.Native.Nat.{ℕ, ◌+◌, ◌*◌, ◌≤◌}
 use mathlib.Core.List.{List, [], ◌∷◌}
 use mathlib.Core.Path.{◌≡◌, refl, sym, ap, ◌∙◌}
@@ -11,8 +13,6 @@ use Rattle.record.specs.Block.{Block, block}
 use Rattle.record.specs.File.{File}
 use Rattle.record.specs.Outline.{outline_of, fields_of, block_place}
 use Rattle.record.specs.declared.outline.RecordFields.{RecordFields}
-use Rattle.record.specs.declared.outline.Outline.{Outline}
-use Rattle.record.specs.declared.outline.Outline.TheVariants as O
 use Rattle.record.proofs.BlockLaws.{nth_block}
 use Rattle.record.proofs.FileLaws.{encoding_parts}
 use Rattle.table.specs.Steps.Standing.{bytes_of, At}
@@ -43,15 +43,15 @@ pub record Heads (t : List ℕ) (at : ℕ) (l : List File) (f : RecordFields) : 
   pub here : At t at (head ∷ tail)
 
 module _ {t : List ℕ} {at : ℕ} where
-  pub heads : (l : List File) {x : Outline} {f : RecordFields} → At t at l → x ≡ outline_of t at → x ≡ O.Whole f → Heads t at l f
-  heads [] {x} {f} w e g = let same : O.Short ≡ O.Whole f = sym (at_end w) ∙ sym e ∙ g in let z : ◌≡◌ {A = ℕ} 0 1 = cc in absurd (omega arith)
+  pub heads : (l : List File) {x : Option RecordFields} {f : RecordFields} → At t at l → x ≡ outline_of t at → x ≡ Some f → Heads t at l f
+  heads [] {x} {f} w e g = let same : None ≡ Some f = sym (at_end w) ∙ sym e ∙ g in cc
   heads (h ∷ hs) {x} {f} w e g =
-      let same : O.Whole (fields_of at h) ≡ O.Whole f = sym (standing w).outline_is ∙ sym e ∙ g in
+      let same : Some (fields_of at h) ≡ Some f = sym (standing w).outline_is ∙ sym e ∙ g in
       record { head = h; tail = hs; is = refl; fields_are = cc; here = w }
 
-  pub none_here : (l : List File) {x : Outline} → At t at l → x ≡ outline_of t at → x ≡ O.Short → l ≡ []
+  pub none_here : (l : List File) {x : Option RecordFields} → At t at l → x ≡ outline_of t at → x ≡ None → l ≡ []
   none_here [] {x} w e g = refl
-  none_here (h ∷ hs) {x} w e g = let same : O.Whole (fields_of at h) ≡ O.Short = sym (standing w).outline_is ∙ sym e ∙ g in let z : ◌≡◌ {A = ℕ} 0 1 = cc in absurd (omega arith)
+  none_here (h ∷ hs) {x} w e g = let same : Some (fields_of at h) ≡ None = sym (standing w).outline_is ∙ sym e ∙ g in cc
 
   module _ {f : File} {fs : List File} (w : At t at (f ∷ fs)) where
     -- the blocks that it lists

@@ -1,4 +1,6 @@
 -- The walk to name number n of five tables: the table that has its record is the first that does, and the place is where the record stands there.
+use Rattle.std.specs.Prelude.{Some, None}
+use Rattle.std.specs.declared.option.Option.{Option}
 use Prim.Native.Nat.{ℕ, zero, suc, ◌+◌, ◌<◌}
 use mathlib.Core.List.{List, [], ◌∷◌, map}
 use mathlib.Core.Path.{◌≡◌, refl, sym, ap, subst, ◌∙◌}
@@ -11,11 +13,9 @@ use Rattle.xdr.specs.Format.{encode}
 use Rattle.record.specs.File.{File, file}
 use Rattle.record.specs.Outline.{fields_of}
 use Rattle.record.specs.declared.outline.RecordFields.{RecordFields}
-use Rattle.record.specs.declared.outline.Outline.{Outline}
-use Rattle.record.specs.declared.outline.Outline.TheVariants as O
 use Rattle.order.specs.Order.{is_equal, compare_lists}
-use Rattle.order.specs.declared.compare.Order.{Order}
-use Rattle.order.specs.declared.compare.Order.TheVariants.{Less, Equal, Greater}
+use Rattle.std.specs.declared.cmp.Ordering.{Ordering}
+use Rattle.std.specs.declared.cmp.Ordering.TheVariants.{Less, Equal, Greater}
 use Rattle.order.proofs.OrderLaws.{Below, same_equal}
 use Rattle.record.proofs.RisingLaws.{Above, Rising}
 use Rattle.table.specs.Newest.{compare_files}
@@ -29,9 +29,8 @@ use Rattle.merge.proofs.HighestLaws.{◌∈◌}
 use Rattle.want.specs.Details.{file_numbered, is_same_file, has_file, table_with, place_of, details_at, details_in}
 use Rattle.want.specs.Steps.Places.{table_at, place_at, past_name, places_after, starts, Five}
 use Rattle.want.specs.Steps.Head.{Headed}
-use Rattle.want.specs.Steps.Entry.{details_by, details_from, Numbered}
+use Rattle.want.specs.Steps.Entry.{details_by, Numbered}
 use Rattle.want.specs.declared.entry.Details.{Details}
-use Rattle.want.specs.declared.entry.Details.TheVariants as D
 use Rattle.want.proofs.ThereLaws.{past_none}
 use Rattle.want.proofs.HeadLaws.{Leads, without, above_test, same_test, all_left, tail_left, length_map, left_of, head_in, left_above, left_in}
 use Rattle.want.proofs.FirstLaws.{First, Lead, lowest_leads}
@@ -63,7 +62,7 @@ has_none w tail [] p r q = refl
 has_none w tail (g ∷ gs) (inl p) r q = has_above w (g ∷ gs) p r
 has_none w tail (g ∷ gs) (inr p) r q = go (compare_files g w) refl
   where
-    go : (o : Order) → compare_files g w ≡ o → ((is_equal (compare_lists g.name w.name) && is_equal o) || has_file gs w) ≡ false
+    go : (o : Ordering) → compare_files g w ≡ o → ((is_equal (compare_lists g.name w.name) && is_equal o) || has_file gs w) ≡ false
     go Less e = rw (same_test w.name g.name p.0) (has_above w gs (subst (λ (n : List ℕ). Above n gs) (sym p.0) r.0) r.1)
     go Equal e = absurd (q (inr (sym p.0, λ k. let z : ◌≡◌ {A = ℕ} 0 1 = cc (sym e ∙ k) in omega arith)))
     go Greater e = absurd (q (inr (sym p.0, λ k. let z : ◌≡◌ {A = ℕ} 0 1 = cc (sym e ∙ k) in omega arith)))
@@ -102,7 +101,7 @@ details_in_lem ls n f {k} e p = ap (λ (i : ℕ). details_at i (place_of 4 (get_
 pub record Ahead (ts : List (List ℕ)) (ps : List ℕ) (file left : ℕ) : Type 0 where
   pub ls : List (List File)
   pub walk : Walk ts ps ls
-  pub number : (told : File → Details) → file_numbered D.Nothing told file (merged_of (map records ts)) ≡ file_numbered D.Nothing told left (merged_of ls)
+  pub number : (told : File → Option Details) → file_numbered None told file (merged_of (map records ts)) ≡ file_numbered None told left (merged_of ls)
   pub has : (f : File) → f ∈ joined ls → (k : ℕ) → k < 5 → has_file (records (table_at ts k)) f ≡ has_file (get_or ls k []) f
   pub stands : (f : File) → f ∈ joined ls → (k : ℕ) → k < 5 → place_of 4 (records (table_at ts k)) f.name ≡ place_of (place_at ps k) (get_or ls k []) f.name
 
@@ -116,18 +115,18 @@ ahead_starts ts file g =
       stands = λ f m k s. ap (λ (l : List File). place_of 4 l f.name) (sym (records_of ts k)) ∙ ap (λ (p : ℕ). place_of p (get_or (map records ts) k []) f.name) (sym (at_four k s));
     }
 
-none_numbered : (told : File → Details) (n : ℕ) → file_numbered D.Nothing told n [] ≡ D.Nothing
+none_numbered : (told : File → Option Details) (n : ℕ) → file_numbered None told n [] ≡ None
 none_numbered told n = refl
 
-module _ {ts : List (List ℕ)} {ps : List ℕ} {file left : ℕ} (a : Ahead ts ps file left) {k : ℕ} {x : Outline} {past : List ℕ} (h : Headed ts ps 5 k x past) where
+module _ {ts : List (List ℕ)} {ps : List ℕ} {file left : ℕ} (a : Ahead ts ps file left) {k : ℕ} {x : Option RecordFields} {past : List ℕ} (h : Headed ts ps 5 k x past) where
   -- no record is left
-  pub ahead_none : x ≡ O.Short → {m : ℕ} {y : Outline} → m < 5 → y ≡ O.Short → Numbered ts file m y
-  ahead_none e {m} s q = record { small = s; told = λ n. ap (details_from (table_at ts m) m n) q ∙ sym (none (details_in (map records ts) n)) }
+  pub ahead_none : x ≡ None → Numbered ts file None
+  ahead_none e = record { small = λ m f q. cc; told = λ n. sym (none (details_in (map records ts) n)) }
     where
-      none : (told : File → Details) → file_numbered D.Nothing told file (merged_of (map records ts)) ≡ D.Nothing
-      none told = a.number told ∙ ap (file_numbered D.Nothing told left) (turns_end a.walk (headed_lowest h) refl h.fields_are e) ∙ none_numbered told left
+      none : (told : File → Option Details) → file_numbered None told file (merged_of (map records ts)) ≡ None
+      none told = a.number told ∙ ap (file_numbered None told left) (turns_end a.walk (headed_lowest h) refl h.fields_are e) ∙ none_numbered told left
 
-  module _ {f : RecordFields} (is : x ≡ O.Whole f) where
+  module _ {f : RecordFields} (is : x ≡ Some f) where
     this : Turn ts ps a.ls k (table_at ts k) f
     this = turn a.walk (headed_lowest h) refl h.fields_are is
 
@@ -140,7 +139,7 @@ module _ {ts : List (List ℕ)} {ps : List ℕ} {file left : ℕ} (a : Ahead ts 
         record {
           ls = map (without w) a.ls;
           walk = turn_next a.walk this past after;
-          number = λ told. a.number told ∙ ap (λ (i : ℕ). file_numbered D.Nothing told i (merged_of a.ls)) e ∙ ap (file_numbered D.Nothing told (suc n)) (turn_merges a.walk this);
+          number = λ told. a.number told ∙ ap (λ (i : ℕ). file_numbered None told i (merged_of a.ls)) e ∙ ap (file_numbered None told (suc n)) (turn_merges a.walk this);
           has = λ g i m s.
               a.has g (left_in this.heading g i) m s
               ∙ has_left w (get_or a.ls m []) g (left_above this.heading g i) (leads m s)
@@ -191,16 +190,13 @@ module _ {ts : List (List ℕ)} {ps : List ℕ} {file left : ℕ} (a : Ahead ts 
     here_told : length ts ≡ 5 → (n : ℕ) → details_by (table_at ts k) k n f ≡ details_in (map records ts) n this.head
     here_told many n = ap (details_by (table_at ts k) k n) this.fields_are ∙ details_by_lem this.here k n ∙ sym (details_in_lem (map records ts) n this.head (table_is many) place_is)
 
-    is_first_lem : left ≡ 0 → (told : File → Details) → file_numbered D.Nothing told file (merged_of (map records ts)) ≡ told this.head
-    is_first_lem e told = a.number told ∙ ap (λ (i : ℕ). file_numbered D.Nothing told i (merged_of a.ls)) e ∙ ap (file_numbered D.Nothing told 0) (turn_merges a.walk this)
+    is_first_lem : left ≡ 0 → (told : File → Option Details) → file_numbered None told file (merged_of (map records ts)) ≡ told this.head
+    is_first_lem e told = a.number told ∙ ap (λ (i : ℕ). file_numbered None told i (merged_of a.ls)) e ∙ ap (file_numbered None told 0) (turn_merges a.walk this)
 
-    first_numbered : length ts ≡ 5 → left ≡ 0 → Numbered ts file k x
-    first_numbered many e = record { small = h.small; told = λ n. ap (details_from (table_at ts k) k n) is ∙ here_told many n ∙ sym (is_first_lem e (details_in (map records ts) n)) }
-
-  -- the name is next
-  pub ahead_here : Five ts → left ≡ 0 → Numbered ts file k x
-  ahead_here g e = go x refl
-    where
-      go : (y : Outline) → x ≡ y → Numbered ts file k x
-      go O.Short q = ahead_none q h.small q
-      go (O.Whole f) q = first_numbered q g.many e
+    -- the name is next
+    pub ahead_here : Five ts → left ≡ 0 → Numbered ts file (Some (k, f))
+    ahead_here g e = record { small = λ m u q. omega (arith, ap table_in q, h.small); told = λ n. here_told g.many n ∙ sym (is_first_lem e (details_in (map records ts) n)) }
+      where
+        table_in : Option (ℕ × RecordFields) → ℕ
+        table_in None = 0
+        table_in (Some p) = p.0

@@ -1,4 +1,6 @@
 -- The runs of the peers, with a mark in each: who lists a block, and that this is who lists it by the records at the places.
+use Rattle.std.specs.Prelude.{Some, None}
+use Rattle.std.specs.declared.option.Option.{Option}
 use Prim.Native.Nat.{ℕ, zero, suc, ◌+◌, ◌≤◌, ◌<◌}
 use mathlib.Core.List.{List, [], ◌∷◌, map}
 use mathlib.Core.Path.{◌≡◌, refl, sym, ap, subst, ◌∙◌}
@@ -12,15 +14,13 @@ use lib.Dec.{eqb}
 use Rattle.record.specs.Block.{Block}
 use Rattle.record.specs.Outline.{blocks_size, outline_of}
 use Rattle.record.specs.declared.outline.RecordFields.{RecordFields}
-use Rattle.record.specs.declared.outline.Outline.{Outline}
-use Rattle.record.specs.declared.outline.Outline.TheVariants as O
 use Rattle.order.specs.Order.{is_equal, compare_lists, part}
 use Rattle.table.specs.Table.{records}
 use Rattle.want.specs.Listing.{has_there}
 use Rattle.want.specs.Wanted.{wanted_blocks}
 use Rattle.want.specs.Steps.Blocks.{blocks_from, listed_count}
 use Rattle.want.specs.Steps.Places.{table_at, place_at, past_by, past_name, places_after, lists_by, lists_at, first_of, peer_at}
-use Rattle.want.specs.Steps.Runs.{has_run, is_ahead, Marked, mark_of, no_run, run_at, run_by, run_from, runs_from, peer_in, Along, InTables, wanted_run}
+use Rattle.want.specs.Steps.Runs.{has_run, is_ahead, Marked, mark_of, mark_at, no_run, run_at, run_by, run_from, runs_from, peer_in, Along, InTables, wanted_run}
 use Rattle.want.specs.declared.run.Run.{Run}
 use Rattle.want.specs.declared.run.Mark.{Mark}
 use Rattle.want.proofs.ThereLaws.{outline_inside, outline_rises}
@@ -31,48 +31,43 @@ use Rattle.want.proofs.CountLaws.{same_peers}
 
 -- marks at the front of all runs
 
-abbrev zeros : List ℕ
-zeros = 0 ∷ 0 ∷ 0 ∷ 0 ∷ 0 ∷ []
+abbrev fronts : List Mark
+fronts = mark_of 0 0 ∷ mark_of 0 0 ∷ mark_of 0 0 ∷ mark_of 0 0 ∷ mark_of 0 0 ∷ []
 
-pub along_starts : (ts : List (List ℕ)) (rs : List Run) → InTables ts rs → Along ts rs zeros zeros 0
-along_starts ts rs h = record { many = refl; as_many = refl; marked = λ k s. subst (λ (n : ℕ). Marked (table_at ts k) (run_at rs k) (mark_of n n) 0) (sym (zero_at k s)) (marked_first 0 (h k s)) }
+pub along_starts : (ts : List (List ℕ)) (rs : List Run) → InTables ts rs → Along ts rs fronts 0
+along_starts ts rs h = record { many = refl; marked = λ k s. subst (λ (m : Mark). Marked (table_at ts k) (run_at rs k) m 0) (sym (front_at k s)) (marked_first 0 (h k s)) }
   where
-    zero_at : (k : ℕ) → k < 5 → place_at zeros k ≡ 0
-    zero_at = by_five (λ k. place_at zeros k ≡ 0) refl refl refl refl refl
+    front_at : (k : ℕ) → k < 5 → mark_at fronts k ≡ mark_of 0 0
+    front_at = by_five (λ k. mark_at fronts k ≡ mark_of 0 0) refl refl refl refl refl
 
 -- a higher offset
-pub along_later : {ts : List (List ℕ)} {rs : List Run} {js froms : List ℕ} {offset later : ℕ} → Along ts rs js froms offset → offset ≤ later → Along ts rs js froms later
-along_later w h = record { many = w.many; as_many = w.as_many; marked = λ k s. marked_later (w.marked k s) h }
+pub along_later : {ts : List (List ℕ)} {rs : List Run} {ms : List Mark} {offset later : ℕ} → Along ts rs ms offset → offset ≤ later → Along ts rs ms later
+along_later w h = record { many = w.many; marked = λ k s. marked_later (w.marked k s) h }
 
 -- one mark goes along
-pub along_set : {ts : List (List ℕ)} {rs : List Run} {js froms : List ℕ} {offset : ℕ} → Along ts rs js froms offset → (k j from : ℕ) → k < 5 → Marked (table_at ts k) (run_at rs k) (mark_of j from) offset
-    → Along ts rs (set js k j) (set froms k from) offset
-along_set {ts} {rs} {js} {froms} {offset} w k j from h m =
-    record { many = length-set js k j ∙ w.many; as_many = length-set froms k from ∙ w.as_many; marked = λ i s. go i s (dec_lt i k) (dec_lt k i) }
+pub along_set : {ts : List (List ℕ)} {rs : List Run} {ms : List Mark} {offset : ℕ} → Along ts rs ms offset → (k : ℕ) (n : Mark) → k < 5 → Marked (table_at ts k) (run_at rs k) n offset
+    → Along ts rs (set ms k n) offset
+along_set {ts} {rs} {ms} {offset} w k n h m = record { many = length-set ms k n ∙ w.many; marked = λ i s. go i s (dec_lt i k) (dec_lt k i) }
   where
-    other : (i : ℕ) → i < 5 → (i ≡ k → ⊥) → Marked (table_at ts i) (run_at rs i) (mark_of (place_at (set js k j) i) (place_at (set froms k from) i)) offset
-    other i s e =
-        let a : mark_of (place_at js i) (place_at froms i) ≡ mark_of (place_at (set js k j) i) (place_at (set froms k from) i) =
-        rw (get_or-set_other js k i j 0 e, get_or-set_other froms k i from 0 e) refl in
-        subst (λ (x : Mark). Marked (table_at ts i) (run_at rs i) x offset) a (w.marked i s)
+    other : (i : ℕ) → i < 5 → (i ≡ k → ⊥) → Marked (table_at ts i) (run_at rs i) (mark_at (set ms k n) i) offset
+    other i s e = subst (λ (x : Mark). Marked (table_at ts i) (run_at rs i) x offset) (sym (get_or-set_other ms k i n (mark_of 0 0) e)) (w.marked i s)
 
-    go : (i : ℕ) → i < 5 → Dec (i < k) → Dec (k < i) → Marked (table_at ts i) (run_at rs i) (mark_of (place_at (set js k j) i) (place_at (set froms k from) i)) offset
+    go : (i : ℕ) → i < 5 → Dec (i < k) → Dec (k < i) → Marked (table_at ts i) (run_at rs i) (mark_at (set ms k n) i) offset
     go i s (yes l) d = other i s (λ e. omega arith)
     go i s (no l) (yes g) = other i s (λ e. omega arith)
     go i s (no l) (no g) =
-        let e : i ≡ k = omega arith in
-        let a : mark_of j from ≡ mark_of (place_at (set js k j) i) (place_at (set froms k from) i) =
-        rw (e, get_or-set_same js k j 0 (omega (arith, w.many)), get_or-set_same froms k from 0 (omega (arith, w.as_many))) refl in
-        subst (λ (x : Mark). Marked (table_at ts i) (run_at rs i) x offset) a (subst (λ (x : ℕ). Marked (table_at ts x) (run_at rs x) (mark_of j from) offset) (sym e) m)
+        let e : k ≡ i = omega arith in
+        subst (λ (j : ℕ). Marked (table_at ts j) (run_at rs j) (mark_at (set ms k n) j) offset) e
+        (subst (λ (x : Mark). Marked (table_at ts k) (run_at rs k) x offset) (sym (get_or-set_same ms k n (mark_of 0 0) (omega (arith, w.many)))) m)
 
 -- the turn of peer k, whose table is lent as t
-module _ {ts : List (List ℕ)} {rs : List Run} {js froms : List ℕ} {offset k : ℕ} {t : List ℕ} (w : Along ts rs js froms offset) (h : k < 5) (e : t ≡ table_at ts k) where
-  pub mark_here : Marked t (run_at rs k) (mark_of (place_at js k) (place_at froms k)) offset
-  mark_here = subst (λ (l : List ℕ). Marked l (run_at rs k) (mark_of (place_at js k) (place_at froms k)) offset) (sym e) (w.marked k h)
+module _ {ts : List (List ℕ)} {rs : List Run} {ms : List Mark} {offset k : ℕ} {t : List ℕ} (w : Along ts rs ms offset) (h : k < 5) (e : t ≡ table_at ts k) where
+  pub mark_here : Marked t (run_at rs k) (mark_at ms k) offset
+  mark_here = subst (λ (l : List ℕ). Marked l (run_at rs k) (mark_at ms k) offset) (sym e) (w.marked k h)
 
   module _ {m : Mark} (g : Marked t (run_at rs k) m offset) where
-    pub along_turn : Along ts rs (set js k m.j) (set froms k m.from) offset
-    along_turn = along_set w k m.j m.from h (subst (λ (l : List ℕ). Marked l (run_at rs k) (mark_of m.j m.from) offset) e (record { within = record { whole = g.within.whole; few = g.within.few; small = g.within.small }; told = g.told }))
+    pub along_turn : Along ts rs (set ms k m) offset
+    along_turn = along_set w k m h (subst (λ (l : List ℕ). Marked l (run_at rs k) m offset) e g)
 
     pub told_here : (b : Block) {r v : Bool} → r ≡ is_ahead t (run_at rs k) m offset b → r ≡ v → has_run (table_at ts k) (run_at rs k) offset b ≡ v
     told_here b q f = ap (λ (l : List ℕ). has_run l (run_at rs k) offset b) (sym e) ∙ g.told offset b (omega arith) ∙ sym q ∙ f
@@ -84,7 +79,7 @@ module _ (t : List ℕ) (at past : ℕ) where
   unfolding run_from
   run_none e = rw (eq-eqb at past e) refl
 
-  pub run_by_lem : (at ≡ past → ⊥) → {x y : Outline} → x ≡ outline_of t at → x ≡ y → run_by y ≡ run_from t at past
+  pub run_by_lem : (at ≡ past → ⊥) → {x y : Option RecordFields} → x ≡ outline_of t at → x ≡ y → run_by y ≡ run_from t at past
   unfolding run_from
   run_by_lem n e g = rw (ne_eqb at past n) (ap run_by (sym g ∙ e))
 
@@ -102,10 +97,10 @@ run_inside : (t : List ℕ) (at past : ℕ) → (run_from t at past).first + blo
 unfolding run_from
 run_inside t at past = go (eqb at past) (outline_of t at) refl
   where
-    go : (b : Bool) (x : Outline) → x ≡ outline_of t at → (cond b no_run (run_by x)).first + blocks_size (cond b no_run (run_by x)).count ≤ length t
+    go : (b : Bool) (x : Option RecordFields) → x ≡ outline_of t at → (cond b no_run (run_by x)).first + blocks_size (cond b no_run (run_by x)).count ≤ length t
     go true x e = omega arith
-    go false O.Short e = omega arith
-    go false (O.Whole f) e = outline_inside t at f e refl
+    go false None e = omega arith
+    go false (Some f) e = outline_inside t at f e refl
 
 pub runs_inside : (ts : List (List ℕ)) (ps past : List ℕ) {rs : List Run} → rs ≡ runs_from ts ps past → InTables ts rs
 runs_inside ts ps past e =
@@ -127,13 +122,13 @@ unfolding run_from past_name lists_at
 run_lists name t at offset b = go (outline_of t at) refl
   where
     by_name_lem : (f : RecordFields) → at < f.past → (v : Bool)
-        → has_run t (cond (eqb at (cond v f.past at)) no_run (run_by (O.Whole f))) offset b ≡ cond v (has_there 0 (blocks_from t f.first 0 (listed_count f)) offset b) false
+        → has_run t (cond (eqb at (cond v f.past at)) no_run (run_by (Some f))) offset b ≡ cond v (has_there 0 (blocks_from t f.first 0 (listed_count f)) offset b) false
     by_name_lem f h true = rw (ne_eqb at f.past (λ e. omega arith)) refl
     by_name_lem f h false = rw (eq-eqb at at refl) refl
 
-    go : (x : Outline) → outline_of t at ≡ x → has_run t (cond (eqb at (past_by name t at x)) no_run (run_by x)) offset b ≡ lists_by t name offset b x
-    go O.Short e = rw (eq-eqb at at refl) refl
-    go (O.Whole f) e = by_name_lem f (outline_rises t at f e) (is_equal (compare_lists (part t f.name f.stop) name))
+    go : (x : Option RecordFields) → outline_of t at ≡ x → has_run t (cond (eqb at (past_by name t at x)) no_run (run_by x)) offset b ≡ lists_by t name offset b x
+    go None e = rw (eq-eqb at at refl) refl
+    go (Some f) e = by_name_lem f (outline_rises t at f e) (is_equal (compare_lists (part t f.name f.stop) name))
 
 first_same : (is js : ℕ → Bool) (k left : ℕ) → ((i : ℕ) → k ≤ i → i < k + left → is i ≡ js i) → first_of is k left ≡ first_of js k left
 first_same is js k zero h = first_none is k ∙ sym (first_none js k)

@@ -1,6 +1,6 @@
 -- What the request list holds: an entry for each block of a highest record that is valid and undeleted and that no such local record lists, and
 -- nothing else; by name, then by block; and for each the lowest peer that lists it there, which there always is.
-use Prim.Native.Nat.{ℕ, zero, suc, ◌+◌, ◌-◌, ◌<◌}
+use Prim.Native.Nat.{ℕ, zero, suc, ◌+◌, ◌<◌}
 use mathlib.Core.List.Memᴰ
 use mathlib.Core.List.{List, [], ◌∷◌, ◌++◌, Memᴰ}
 use mathlib.Core.Path.{◌≡◌, refl, sym, ap, subst, ◌∙◌}

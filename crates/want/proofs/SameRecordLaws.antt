@@ -13,8 +13,8 @@ use Rattle.record.specs.Outline.{fields_of}
 use Rattle.record.specs.declared.outline.RecordFields.{RecordFields}
 use Rattle.record.proofs.FileLaws.{encoding_rest}
 use Rattle.order.specs.Order.{is_equal, compare_lists, part}
-use Rattle.order.specs.declared.compare.Order.{Order}
-use Rattle.order.specs.declared.compare.Order.TheVariants.{Equal}
+use Rattle.std.specs.declared.cmp.Ordering.{Ordering}
+use Rattle.std.specs.declared.cmp.Ordering.TheVariants.{Equal}
 use Rattle.order.proofs.OrderLaws.{same_equal}
 use Rattle.order.proofs.SameLaws.{is_same_lem}
 use Rattle.table.specs.Newest.{key_of, key_at, compare_at}
@@ -23,7 +23,7 @@ use Rattle.want.specs.Steps.Head.{Stood, AlikeFields}
 use Rattle.want.proofs.FieldLaws.{within}
 
 pub never : {P : Type 0} → false ≡ true → P
-never e = let z : ◌≡◌ {A = ℕ} 0 1 = cc in absurd (omega arith)
+never e = cc
 
 -- the bytes of the numbers of a record
 abbrev numbers_of : (flags modified version blocks : ℕ) → List ℕ
@@ -71,5 +71,5 @@ module _ {a : List ℕ} {f : RecordFields} {b : List ℕ} {g : RecordFields} (p 
   same_empty e = equal_keys (no_blocks p e ∙ sym (no_blocks q (sym w.blocks_same ∙ e)))
 
   -- by the answers that were given
-  pub told_same : {x y : List ℕ} {o : Order} {r : Bool} → x ≡ part a f.first f.past → y ≡ part b g.first g.past → o ≡ compare_lists x y → r ≡ is_equal o → r ≡ true → compare_at a f b g ≡ Equal
+  pub told_same : {x y : List ℕ} {o : Ordering} {r : Bool} → x ≡ part a f.first f.past → y ≡ part b g.first g.past → o ≡ compare_lists x y → r ≡ is_equal o → r ≡ true → compare_at a f b g ≡ Equal
   told_same {x} {y} s t c d e = equal_keys (sym s ∙ is_same_lem x y (ap is_equal (sym c) ∙ sym d ∙ e) ∙ t)

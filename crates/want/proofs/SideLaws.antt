@@ -1,4 +1,6 @@
 -- Walking the five tables side by side: what is left of each, and what a turn passes.
+use Rattle.std.specs.Prelude.{Some, None}
+use Rattle.std.specs.declared.option.Option.{Option}
 use Prim.Native.Nat.{ℕ, zero, suc, ◌+◌, ◌*◌, ◌≤◌, ◌<◌}
 use mathlib.Core.List.Memᴰ
 use mathlib.Core.List.{List, [], ◌∷◌, map}
@@ -13,8 +15,6 @@ use Rattle.record.specs.Block.{Block}
 use Rattle.record.specs.File.{File}
 use Rattle.record.specs.Outline.{outline_of, fields_of}
 use Rattle.record.specs.declared.outline.RecordFields.{RecordFields}
-use Rattle.record.specs.declared.outline.Outline.{Outline}
-use Rattle.record.specs.declared.outline.Outline.TheVariants as O
 use Rattle.order.specs.Order.{is_equal, compare_lists, part}
 use Rattle.table.specs.Table.{records}
 use Rattle.order.proofs.OrderLaws.{Below, below_trans}
@@ -185,11 +185,11 @@ module _ {ts : List (List ℕ)} {ps : List ℕ} {ls : List (List File)} (w : Wal
   lead : {k : ℕ} → k ≡ lowest_from ts ps 0 1 4 → Lead ts ps ls w.here k
   lead e = subst (Lead ts ps ls w.here) (sym e) (lowest_leads ts ps ls w.here)
 
-  module _ {k : ℕ} {t : List ℕ} {x : Outline} (e : k ≡ lowest_from ts ps 0 1 4) (z : t ≡ table_at ts k) (y : x ≡ outline_of t (place_at ps k)) where
+  module _ {k : ℕ} {t : List ℕ} {x : Option RecordFields} (e : k ≡ lowest_from ts ps 0 1 4) (z : t ≡ table_at ts k) (y : x ≡ outline_of t (place_at ps k)) where
     stands : At t (place_at ps k) (get_or ls k [])
     stands = subst (λ (l : List ℕ). At l (place_at ps k) (get_or ls k [])) (sym z) (w.here k (lead e).small)
 
-    pub turn : {f : RecordFields} → x ≡ O.Whole f → Turn ts ps ls k t f
+    pub turn : {f : RecordFields} → x ≡ Some f → Turn ts ps ls k t f
     turn {f} g =
         let h = heads (get_or ls k []) stands y g in
         record {
@@ -212,7 +212,7 @@ module _ {ts : List (List ℕ)} {ps : List ℕ} {ls : List (List File)} (w : Wal
         }
 
     -- nothing is left
-    pub turns_end : x ≡ O.Short → merged_of ls ≡ []
+    pub turns_end : x ≡ None → merged_of ls ≡ []
     turns_end g = go (merged_of ls) (λ f m. (merged_highest ls).from f m)
       where
         none : (m : ℕ) → m < 5 → get_or ls m [] ≡ []
@@ -276,8 +276,8 @@ module _ {ts : List (List ℕ)} {ps : List ℕ} {ls : List (List File)} (w : Wal
     -- whom to ask
 
     head_of : (l : List (List ℕ)) (m : ℕ) (q : List ℕ) (qs : List (List ℕ)) → drop m l ≡ q ∷ qs → get_or l m [] ≡ q
-    head_of [] zero q qs e = let z : ◌≡◌ {A = ℕ} 0 1 = cc in absurd (omega arith)
-    head_of [] (suc m) q qs e = let z : ◌≡◌ {A = ℕ} 0 1 = cc in absurd (omega arith)
+    head_of [] zero q qs e = cc
+    head_of [] (suc m) q qs e = cc
     head_of (x ∷ l) zero q qs e = cc
     head_of (x ∷ l) (suc m) q qs e = head_of l m q qs e
 

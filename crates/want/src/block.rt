@@ -11,10 +11,7 @@ use record::RecordFields;
 fn is_current(flags: u32) -> bool
     ensures { result ≡ is_current flags }
 {
-    if record::is_invalid(flags) {
-        return false;
-    }
-    !record::is_deleted(flags)
+    !record::is_invalid(flags) && !record::is_deleted(flags)
 }
 
 // How many blocks a record lists: none where it is invalid or deleted.
@@ -57,10 +54,7 @@ pub(crate) fn same_block(s: &[u8], p: usize, size: u32, hash: &[u8]) -> bool
     requires { p + 40 ≤ length s.now }
     ensures { result ≡ is_same (block_here s.now p) (block_with size hash.now) }
 {
-    if !order::same_hash(hash_at(s, p), hash) {
-        return false;
-    }
-    size_at(s, p) == size
+    order::same_hash(hash_at(s, p), hash) && size_at(s, p) == size
 }
 
 // Whether both are 32 bytes long and end alike.
@@ -68,10 +62,7 @@ fn ends_alike(a: &[u8], b: &[u8]) -> bool
     requires { length a.now ≡ 32 }
     ensures { result ≡ (eqb (length b.now) 32 && eqb (get_or a.now 31 0) (get_or b.now 31 0)) }
 {
-    if b.len() != 32 {
-        return false;
-    }
-    a[31] == b[31]
+    b.len() == 32 && a[31] == b[31]
 }
 
 // The same as same_block, for the search: most hashes differ in the last byte, and that test is small enough to stand in its loop.
@@ -79,8 +70,5 @@ pub(crate) fn is_block(s: &[u8], p: usize, size: u32, hash: &[u8]) -> bool
     requires { p + 40 ≤ length s.now }
     ensures { result ≡ is_same (block_here s.now p) (block_with size hash.now) }
 {
-    if !ends_alike(hash_at(s, p), hash) {
-        return false;
-    }
-    same_block(s, p, size, hash)
+    ends_alike(hash_at(s, p), hash) && same_block(s, p, size, hash)
 }

@@ -4,28 +4,27 @@ ghost use Rattle.xdr.specs.Number.{big_endian};
 ghost use Rattle.record.specs.Outline.{word_at, outline_of};
 ghost use Rattle.want.specs.Steps.Head.{name_at, fields_at, Stands};
 
-use record::{Outline, RecordFields};
-use xdr::{Hyper, Word};
+use record::RecordFields;
 
-// The word at a place.
+// The word at a place. All its bytes are there, so the 0 is never answered.
 pub(crate) fn word_at(s: &[u8], p: usize) -> u32
     requires { p + 4 ≤ length s.now }
     ensures { result ≡ word_at s.now p }
 {
     let end = p + 4;
-    let Word::Taken(n, _) = xdr::read_word(&s[p..end], 0) else {
+    let Ok((n, _)) = xdr::read_word(&s[p..end], 0) else {
         return 0;
     };
     n
 }
 
-// Eight bytes as a number.
+// Eight bytes as a number: as the word.
 fn eight_at(s: &[u8], p: usize) -> u64
     requires { p + 8 ≤ length s.now }
     ensures { result ≡ big_endian 8 (drop p s.now) }
 {
     let end = p + 8;
-    let Hyper::Taken(n, _) = xdr::read_hyper(&s[p..end], 0) else {
+    let Ok((n, _)) = xdr::read_hyper(&s[p..end], 0) else {
         return 0;
     };
     n
@@ -65,12 +64,12 @@ pub(crate) fn fields_at(t: &[u8], at: usize) -> RecordFields
 }
 
 // The record at a place, or none where the table ends.
-pub(crate) fn record_at(t: &[u8], at: usize) -> Outline
+pub(crate) fn record_at(t: &[u8], at: usize) -> Option<RecordFields>
     requires { Stands t.now at }
     ensures { result ≡ outline_of t.now at }
 {
     if t.len() <= at {
-        return Outline::Short;
+        return None;
     }
-    Outline::Whole(fields_at(t, at))
+    Some(fields_at(t, at))
 }

@@ -1,14 +1,14 @@
 // The next name over five tables: which of them has its highest record, and where each goes on after it.
 ghost use Rattle.std.specs.Prelude.{map, ◌≡◌, true, ◌≤◌, length};
 ghost use Rattle.record.specs.Outline.{outline_of};
-ghost use Rattle.order.specs.declared.compare.Order.TheVariants.{Equal};
+ghost use Rattle.std.specs.declared.cmp.Ordering.TheVariants.{Equal};
 ghost use Rattle.order.specs.Order.{part};
 ghost use Rattle.table.specs.Newest.{compare_at};
 ghost use Rattle.want.specs.Steps.Head.{fields_at, Stands, Stood, Kept, AlikeFields, rank_in, rank_by, rank_of, past_of, AllStand, Headed};
 
 use crate::fields::{fields_at, name_at, record_at};
-use order::Order;
-use record::{Outline, RecordFields};
+use record::RecordFields;
+use std::cmp::Ordering;
 
 // Where the record that is next so far stands to another: before it by name, or there is no other; of the same name, and not lower; of the same name, and the other is
 // the higher; after it.
@@ -24,7 +24,7 @@ pub enum Rank {
 #[derive(Clone, Copy)]
 pub struct Head {
     pub best: usize,
-    pub fields: Outline,
+    pub fields: Option<RecordFields>,
     pub past: [usize; 5],
 }
 
@@ -40,16 +40,7 @@ fn between(s: &[u8], from: usize, to: usize) -> &[u8]
 fn is_alike(f: RecordFields, g: RecordFields) -> bool
     ensures { result ≡ true → AlikeFields f g }
 {
-    if f.modified != g.modified {
-        return false;
-    }
-    if f.version != g.version {
-        return false;
-    }
-    if f.blocks != g.blocks {
-        return false;
-    }
-    f.flags == g.flags
+    f.modified == g.modified && f.version == g.version && f.blocks == g.blocks && f.flags == g.flags
 }
 
 // Whether two records are the same, byte for byte from Flags on: no only means that it is not known.
@@ -64,7 +55,7 @@ fn is_same(a: &[u8], f: RecordFields, b: &[u8], g: RecordFields) -> bool
     if f.blocks == 0 {
         return true;
     }
-    order::compare_long(between(a, f.first, f.past), between(b, g.first, g.past)).is_equal()
+    order::compare_long(between(a, f.first, f.past), between(b, g.first, g.past)).is_eq()
 }
 
 // Two records of one name, each in its own bytes.
@@ -77,9 +68,8 @@ fn by_records(a: &[u8], f: RecordFields, b: &[u8], g: RecordFields) -> Rank
         return Rank::Same;
     }
     match table::compare_records(a, f, b, g) {
-        Order::Less => Rank::Newer,
-        Order::Equal => Rank::Same,
-        Order::Greater => Rank::Same,
+        Ordering::Less => Rank::Newer,
+        Ordering::Equal | Ordering::Greater => Rank::Same,
     }
 }
 
@@ -90,14 +80,14 @@ fn ranked(a: &[u8], f: RecordFields, b: &[u8], at: usize) -> Rank
     ensures { result ≡ rank_by a.now f b.now (fields_at b.now at) }
 {
     match order::compare_names(between(a, f.name, f.stop), name_at(b, at)) {
-        Order::Less => Rank::Before,
-        Order::Greater => Rank::After,
-        Order::Equal => by_records(a, f, b, fields_at(b, at)),
+        Ordering::Less => Rank::Before,
+        Ordering::Greater => Rank::After,
+        Ordering::Equal => by_records(a, f, b, fields_at(b, at)),
     }
 }
 
 // The same where one of them may be none.
-fn standing(a: &[u8], f: Outline, b: &[u8], at: usize) -> Rank
+fn standing(a: &[u8], f: Option<RecordFields>, b: &[u8], at: usize) -> Rank
     requires kept { Kept a.now f }
     requires stands { Stands b.now at }
     ensures { result ≡ rank_of a.now f b.now (outline_of b.now at) }
@@ -105,19 +95,19 @@ fn standing(a: &[u8], f: Outline, b: &[u8], at: usize) -> Rank
     if b.len() <= at {
         return Rank::Before;
     }
-    let Outline::Whole(x) = f else {
+    let Some(x) = f else {
         return Rank::After;
     };
     ranked(a, x, b, at)
 }
 
 // Where a table goes on after its record, or where it is.
-pub(crate) fn past_of(f: Outline, at: usize) -> usize
+pub(crate) fn past_of(f: Option<RecordFields>, at: usize) -> usize
     ensures { result ≡ past_of f at }
 {
     match f {
-        Outline::Whole(x) => x.past,
-        Outline::Short => at,
+        Some(x) => x.past,
+        None => at,
     }
 }
 
@@ -130,8 +120,7 @@ pub(crate) fn next_head(tables: [&[u8]; 5], places: [usize; 5]) -> Head
     let mut fields = record_at(tables[0], places[0]);
     let mut past = places;
     past[0] = past_of(fields, places[0]);
-    let mut k = 1;
-    while k < 5 {
+    for k in 1..5 {
         let t = tables[k];
         let at = places[k];
         match standing(tables[best], fields, t, at) {
@@ -151,7 +140,6 @@ pub(crate) fn next_head(tables: [&[u8]; 5], places: [usize; 5]) -> Head
                 past[k] = past_of(fields, at);
             }
         }
-        k += 1;
     }
     Head { best, fields, past }
 }

@@ -1,5 +1,5 @@
 // An index of the blocks that a table lists: slots with the places of blocks, and 0 where a slot is free.
-ghost use Rattle.std.specs.Prelude.{◌≡◌, true, cond, [], ◌+◌, ◌≤◌, ◌<◌, length};
+ghost use Rattle.std.specs.Prelude.{◌≡◌, true, ◌+◌, ◌≤◌, ◌<◌, length};
 ghost use Rattle.table.specs.Table.{is_good, records};
 ghost use Rattle.want.specs.Listing.{is_same, is_held};
 ghost use Rattle.want.specs.Steps.Blocks.{block_here};
@@ -7,9 +7,8 @@ ghost use Rattle.want.specs.Steps.Index.{mixed as mixed_of, key_of, next_slot, s
 
 use crate::block::{hash_at, listed, place, same_block, size_at};
 use crate::search::is_held;
-use record::Outline;
 
-// How a search for a block ends: at a free slot, at a slot with a block that is the same, or after as many slots as are looked at.
+// How a search for a block ends: at a free slot, at a slot with a block that is the same, or after as many slots as are looked at. `insert` tells all three apart.
 #[derive(Clone, Copy)]
 pub enum Slot {
     Free(usize),
@@ -71,8 +70,7 @@ fn probe(local: &[u8], index: &[u16], t: &[u8], p: usize) -> Slot
     ensures { result ≡ slot_of local.now index.now (block_here t.now p) }
 {
     let mut i = key(hash_at(t, p));
-    let mut left: usize = 64;
-    while 0 < left {
+    for _ in 0..64usize {
         let e = wide(index[i]);
         if e == 0 {
             return Slot::Free(i);
@@ -81,7 +79,6 @@ fn probe(local: &[u8], index: &[u16], t: &[u8], p: usize) -> Slot
             return Slot::Present;
         }
         i = next_slot(i);
-        left -= 1;
     }
     Slot::Full
 }
@@ -103,28 +100,36 @@ fn insert(t: &[u8], p: usize, index: &mut [u16]) -> bool
     }
 }
 
-// Makes an index of a good table, in free slots; no where the hashes crowd so that a block finds none.
-pub(crate) fn build(t: &[u8], index: &mut [u16]) -> bool
+// Puts the blocks of a good table into free slots; no where the hashes crowd so that a block finds none.
+fn build(t: &[u8], index: &mut [u16]) -> bool
     requires t_value { is_good t.now ≡ true }
     requires empty { Empty index.old }
     ensures { result ≡ true → Indexed t.now index.new }
 {
     let mut at = 4;
-    loop {
-        let Outline::Whole(f) = record::outline_at(t, at) else {
-            return true;
-        };
+    while let Some(f) = record::outline_at(t, at) {
         let count = listed(f);
         let first = f.first;
-        let mut j = 0;
-        while j < count {
+        for j in 0..count {
             if !insert(t, place(first, j), index) {
                 return false;
             }
-            j += 1;
         }
         at = f.past;
     }
+    true
+}
+
+// An index of a good table, in slots that are free; no slots where the hashes crowd.
+pub(crate) fn index_of<'a>(t: &[u8], slots: &'a mut [u16]) -> &'a [u16]
+    requires t_value { is_good t.now ≡ true }
+    requires empty { Empty slots.old }
+    ensures { Serves t.now result.now }
+{
+    if build(t, slots) {
+        return slots;
+    }
+    &slots[0..0]
 }
 
 // Whether a table lists the block at a place of other bytes, by its index.
@@ -133,11 +138,7 @@ fn is_indexed(local: &[u8], index: &[u16], t: &[u8], p: usize) -> bool
     requires p_in_bounds { p + 40 ≤ length t.now }
     ensures { result ≡ is_held (records local.now) (block_here t.now p) }
 {
-    match probe(local, index, t, p) {
-        Slot::Free(_) => false,
-        Slot::Present => true,
-        Slot::Full => false,
-    }
+    matches!(probe(local, index, t, p), Slot::Present)
 }
 
 // Whether a good table lists the block at a place of other bytes: by its index where there is one, and else by a search through its records.
@@ -151,14 +152,4 @@ pub(crate) fn holds(local: &[u8], index: &[u16], t: &[u8], p: usize) -> bool
         return is_held(local, size_at(t, p), hash_at(t, p));
     }
     is_indexed(local, index, t, p)
-}
-
-// An index to serve by: its slots where it was built, and none where it was not.
-pub(crate) fn served(slots: &[u16], built: bool) -> &[u16]
-    ensures { result.now ≡ cond built slots.now [] }
-{
-    if built {
-        return slots;
-    }
-    &slots[0..0]
 }

@@ -1,5 +1,5 @@
 // The request list: the blocks of the highest records that are not held, and whom to ask for each.
-ghost use Rattle.std.specs.Prelude.{◌≡◌, true, cond, [], ◌∷◌, map, ◌+◌, ◌≤◌, ◌<◌, length, leb};
+ghost use Rattle.std.specs.Prelude.{◌≡◌, true, cond, [], ◌∷◌, map, ◌+◌, ◌≤◌, ◌<◌, length, leb, Some, None};
 ghost use Rattle.xdr.specs.Buffer.{over, filled};
 ghost use Rattle.xdr.specs.Filling.{Fills};
 ghost use Rattle.record.specs.Outline.{blocks_size};
@@ -13,11 +13,11 @@ ghost use Rattle.want.specs.Steps.Runs.{Along, InTables, wanted_here, wanted_run
 
 use crate::block::{hash_at, place, size_at};
 use crate::head::next_head;
-use crate::index::{build, holds, served};
+use crate::index::{holds, index_of};
 use crate::peers::{ask, runs_at};
-use crate::run::Run;
+use crate::run::{Mark, Run};
 use crate::turn::{Turn, turn_of};
-use xdr::Filling;
+use xdr::Refusal;
 
 // A block to ask for: its file's number and its own, its offset and Length, and the peer.
 #[derive(Clone, Copy)]
@@ -29,12 +29,11 @@ pub struct Wanted {
     pub peer: u32,
 }
 
-// Where a walk of the tables begins: a place in each, how many names come before, and whether no record is left.
+// Where a walk of the tables begins: a place in each, and how many names come before.
 #[derive(Clone, Copy)]
 pub struct Start {
     pub places: [usize; 5],
     pub file: u32,
-    pub ended: bool,
 }
 
 // 1 where the block at a place is not held, and 0 where it is.
@@ -58,38 +57,26 @@ fn count_blocks(local: &[u8], index: &[u16], t: &[u8], first: usize, blocks: u32
     ensures { result ≡ wanted_count (records local.now) (blocks_from t.now first 0 blocks) }
 {
     let mut n = 0;
-    let mut j = 0;
-    while j < blocks {
+    for j in 0..blocks {
         n += count_block(local, index, t, place(first, j));
-        j += 1;
     }
     n
 }
 
-// The first record with blocks that may be missing, by where the tables then are and how many names come before it; or that there is none.
-fn seek(tables: [&[u8]; 5]) -> Start
+// The first record with blocks that may be missing, by where the tables then are and how many names come before it; none where no record has any.
+fn seek(tables: [&[u8]; 5]) -> Option<Start>
     requires { Five (map (λ x. x.now) tables) }
-    ensures { Begun (map (λ x. x.now) tables.entry) result.file result.places × (result.ended ≡ true → list_of (map (λ x. x.now) tables.entry) ≡ []) }
+    ensures some { (s : Start) → result ≡ Some s → Begun (map (λ x. x.now) tables.entry) s.file s.places }
+    ensures none { result ≡ None → list_of (map (λ x. x.now) tables.entry) ≡ [] }
 {
     let mut places = [4; 5];
     let mut file = 0;
+    // A turn goes by the head's fields and by its places, so the head is made in the loop.
     loop {
         let head = next_head(tables, places);
-        let fields = head.fields;
-        let turn = turn_of(head.best, fields);
-        if turn.ended {
-            return Start {
-                places,
-                file,
-                ended: true,
-            };
-        }
+        let turn = turn_of(head.best, head.fields)?;
         if turn.count != 0 {
-            return Start {
-                places,
-                file,
-                ended: false,
-            };
+            return Some(Start { places, file });
         }
         places = head.past;
         file += 1;
@@ -105,14 +92,13 @@ fn count(tables: [&[u8]; 5], index: &[u16], start: Start) -> usize
 {
     let mut places = start.places;
     let mut n = 0;
+    // A turn goes by the head's fields and by its places, so the head is made in the loop.
     loop {
         let head = next_head(tables, places);
         let best = head.best;
-        let fields = head.fields;
-        let turn = turn_of(best, fields);
-        if turn.ended {
+        let Some(turn) = turn_of(best, head.fields) else {
             return n;
-        }
+        };
         n += count_blocks(tables[0], index, tables[best], turn.first, turn.count);
         places = head.past;
     }
@@ -135,8 +121,7 @@ fn fill_block(
     tables: [&[u8]; 5],
     index: &[u16],
     runs: [Run; 5],
-    js: &mut [u32],
-    froms: &mut [u64],
+    marks: &mut [Mark],
     t: &[u8],
     p: usize,
     file: u32,
@@ -147,19 +132,20 @@ fn fill_block(
 ) -> usize
     requires tables_value { is_good (table_at (map (λ x. x.now) tables) 0) ≡ true }
     requires serves { Serves (table_at (map (λ x. x.now) tables) 0) index.now }
-    requires along { Along (map (λ x. x.now) tables) runs js.old froms.old offset }
+    requires along { Along (map (λ x. x.now) tables) runs marks.old offset }
     requires p_in_bounds { p + 40 ≤ length t.now }
     requires p_in_bounds_2 { at + length (list_bytes (wanted_here (map (λ x. x.now) tables) runs file block offset (block_here t.now p))) ≤ length out.old }
     ensures value { result ≡ length (list_bytes (wanted_here (map (λ x. x.now) tables.entry) runs file block offset (block_here t.now p))) }
     ensures out_after { out.new ≡ over out.old at
         (list_bytes (wanted_here (map (λ x. x.now) tables.entry) runs file block offset (block_here t.now p))) }
-    ensures along_2 { Along (map (λ x. x.now) tables.entry) runs js.new froms.new offset }
+    ensures along_2 { Along (map (λ x. x.now) tables.entry) runs marks.new offset }
 {
     if holds(tables[0], index, t, p) {
         return 0;
     }
     let size = size_at(t, p);
-    let peer = ask(tables, runs, js, froms, offset, size, hash_at(t, p));
+    // In the list, 0 is no peer.
+    let peer = ask(tables, runs, marks, offset, size, hash_at(t, p)).unwrap_or(0);
     put_wanted(
         out,
         at,
@@ -195,18 +181,15 @@ fn fill_blocks(
     ensures out_after { out.new ≡ over out.old at
         (list_bytes (wanted_run (map (λ x. x.now) tables.entry) runs file 0 0 t.now first count)) }
 {
-    let mut js = [0; 5];
-    let mut froms = [0; 5];
+    let mut marks = [Mark { j: 0, from: 0 }; 5];
     let mut next = at;
     let mut offset: u64 = 0;
-    let mut j = 0;
-    while j < count {
+    for j in 0..count {
         let p = place(first, j);
         next += fill_block(
-            tables, index, runs, &mut js, &mut froms, t, p, file, j, offset, out, next,
+            tables, index, runs, &mut marks, t, p, file, j, offset, out, next,
         );
         offset += size_at(t, p) as u64;
-        j += 1;
     }
     next
 }
@@ -252,15 +235,14 @@ fn fill(tables: [&[u8]; 5], index: &[u16], start: Start, out: &mut [u8]) -> usiz
     let mut places = start.places;
     let mut file = start.file;
     let mut at = 0;
+    // A turn goes by the head's fields and by its places, so the head is made in the loop.
     loop {
         let head = next_head(tables, places);
         let best = head.best;
         let past = head.past;
-        let fields = head.fields;
-        let turn = turn_of(best, fields);
-        if turn.ended {
+        let Some(turn) = turn_of(best, head.fields) else {
             return at;
-        }
+        };
         at = fill_record(tables, index, places, past, best, turn, file, out, at);
         places = past;
         file += 1;
@@ -282,29 +264,18 @@ fn fits(tables: [&[u8]; 5], index: &[u16], start: Start, room: usize) -> bool
     requires begun { Begun (map (λ x. x.now) tables) start.file start.places }
     ensures { result ≡ leb (length (list_bytes (list_of (map (λ x. x.now) tables.entry)))) room }
 {
-    if most(tables) <= room {
-        return true;
-    }
-    count(tables, index, start) * 24 <= room
+    most(tables) <= room || count(tables, index, start) * 24 <= room
 }
 
 // Whether five tables are good.
 pub fn all_good(a: &[u8], b: &[u8], c: &[u8], d: &[u8], e: &[u8]) -> bool
     ensures { result ≡ all_good (a.now ∷ b.now ∷ c.now ∷ d.now ∷ e.now ∷ []) }
 {
-    if !table::is_good(a) {
-        return false;
-    }
-    if !table::is_good(b) {
-        return false;
-    }
-    if !table::is_good(c) {
-        return false;
-    }
-    if !table::is_good(d) {
-        return false;
-    }
-    table::is_good(e)
+    table::is_good(a)
+        && table::is_good(b)
+        && table::is_good(c)
+        && table::is_good(d)
+        && table::is_good(e)
 }
 
 // The request list of a local table and four peers' tables, 24 bytes a block, in the first bytes of the buffer.
@@ -315,7 +286,7 @@ pub fn request_list<'a>(
     peer3: &'a [u8],
     peer4: &'a [u8],
     out: &mut [u8],
-) -> Filling
+) -> Result<usize, Refusal>
     ensures { Fills
         (request_outcome local.now (peer1.now ∷ peer2.now ∷ peer3.now ∷ peer4.now ∷ []))
         out.old result out.new }
@@ -324,15 +295,13 @@ pub fn request_list<'a>(
         return xdr::refused(15);
     }
     let tables = [local, peer1, peer2, peer3, peer4];
-    let start = seek(tables);
-    if start.ended {
-        return Filling::Filled(0);
-    }
+    let Some(start) = seek(tables) else {
+        return Ok(0);
+    };
     let mut slots = [0; 8192];
-    let built = build(local, &mut slots);
-    let index = served(&slots, built);
+    let index = index_of(local, &mut slots);
     if !fits(tables, index, start, out.len()) {
         return xdr::refused(14);
     }
-    Filling::Filled(fill(tables, index, start, out))
+    Ok(fill(tables, index, start, out))
 }

@@ -5,56 +5,49 @@ ghost use Rattle.want.specs.Steps.Head.{Stands, name_in, order_in, AllStand, Pas
 
 use crate::fields::{name_at, record_at};
 use crate::head::past_of;
-use order::Order;
-
-// Where each table goes on after the next name, and whether no record is left.
-#[derive(Clone, Copy)]
-pub struct Passing {
-    pub past: [usize; 5],
-    pub ended: bool,
-}
+use std::cmp::Ordering;
 
 // How the names of the records at a place of each of two tables compare: no record comes last. `order::compare_names` would be no faster here, and with one caller it is
 // inlined there, where records are listed.
-fn compare_at(a: &[u8], i: usize, b: &[u8], j: usize) -> Order
+fn compare_at(a: &[u8], i: usize, b: &[u8], j: usize) -> Ordering
     requires stands { Stands a.now i }
     requires stands_2 { Stands b.now j }
     ensures { result ≡ order_in (name_in a.now (outline_of a.now i)) (name_in b.now (outline_of b.now j)) }
 {
     if b.len() <= j {
-        return Order::Less;
+        return Ordering::Less;
     }
     if a.len() <= i {
-        return Order::Greater;
+        return Ordering::Greater;
     }
     order::compare_bytes(name_at(a, i), name_at(b, j))
 }
 
-// The next name, from a place in each table.
-pub(crate) fn next_places(tables: [&[u8]; 5], places: [usize; 5]) -> Passing
+// Where each table goes on after the next name, from a place in each; none where no record is left.
+pub(crate) fn next_places(tables: [&[u8]; 5], places: [usize; 5]) -> Option<[usize; 5]>
     requires { AllStand (map (λ x. x.now) tables) places }
-    ensures { Passes (map (λ x. x.now) tables.entry) places result.past result.ended }
+    ensures { Passes (map (λ x. x.now) tables.entry) places result }
 {
     let mut best = 0;
     let mut past = places;
     past[0] = past_of(record_at(tables[0], places[0]), places[0]);
-    let mut k = 1;
-    while k < 5 {
+    for k in 1..5 {
         let t = tables[k];
         let at = places[k];
         match compare_at(tables[best], places[best], t, at) {
-            Order::Less => {}
-            Order::Equal => {
+            Ordering::Less => {}
+            Ordering::Equal => {
                 past[k] = past_of(record_at(t, at), at);
             }
-            Order::Greater => {
+            Ordering::Greater => {
                 best = k;
                 past = places;
                 past[k] = past_of(record_at(t, at), at);
             }
         }
-        k += 1;
     }
-    let ended = tables[best].len() <= places[best];
-    Passing { past, ended }
+    if tables[best].len() <= places[best] {
+        return None;
+    }
+    Some(past)
 }

@@ -1,11 +1,11 @@
 // Which peer lists a block of a record, with a mark in the record of each peer that goes along.
 ghost use Rattle.std.specs.Prelude.{◌≡◌, map};
+ghost use Rattle.std.specs.Option.{unwrap_or};
 ghost use Rattle.want.specs.Listing.{block_with};
 ghost use Rattle.want.specs.Steps.Runs.{run_from, runs_from, peer_in, Along};
 
 use crate::block::listed;
 use crate::run::{Mark, Run, forward, has_there};
-use record::Outline;
 
 // The blocks that the record at a place lists, where the table goes on past it.
 fn run_at(t: &[u8], at: usize, past: usize) -> Run
@@ -14,7 +14,7 @@ fn run_at(t: &[u8], at: usize, past: usize) -> Run
     if at == past {
         return Run { first: 0, count: 0 };
     }
-    let Outline::Whole(f) = record::outline_at(t, at) else {
+    let Some(f) = record::outline_at(t, at) else {
         return Run { first: 0, count: 0 };
     };
     let count = listed(f);
@@ -36,34 +36,26 @@ pub(crate) fn runs_at(tables: [&[u8]; 5], places: [usize; 5], past: [usize; 5]) 
     [none, a, b, c, d]
 }
 
-// The lowest peer that lists a block at an offset, or 0; the marks go along.
+// The lowest peer that lists a block at an offset, where one does; the marks go along.
 pub(crate) fn ask(
     tables: [&[u8]; 5],
     runs: [Run; 5],
-    js: &mut [u32],
-    froms: &mut [u64],
+    marks: &mut [Mark],
     offset: u64,
     size: u32,
     hash: &[u8],
-) -> u32
-    requires { Along (map (λ x. x.now) tables) runs js.old froms.old offset }
-    ensures value { result ≡ peer_in (map (λ x. x.now) tables.entry) runs offset (block_with size hash.now) }
-    ensures along { Along (map (λ x. x.now) tables.entry) runs js.new froms.new offset }
+) -> Option<u32>
+    requires { Along (map (λ x. x.now) tables) runs marks.old offset }
+    ensures value { unwrap_or result 0 ≡ peer_in (map (λ x. x.now) tables.entry) runs offset (block_with size hash.now) }
+    ensures along { Along (map (λ x. x.now) tables.entry) runs marks.new offset }
 {
-    let mut k = 1;
-    while k < 5 {
+    for k in 1..5 {
         let run = runs[k];
-        let mark = Mark {
-            j: js[k],
-            from: froms[k],
-        };
-        let next = forward(tables[k], run, mark, offset);
-        js[k] = next.j;
-        froms[k] = next.from;
-        if has_there(tables[k], run, next, offset, size, hash) {
-            return k as u32;
+        let mark = forward(tables[k], run, marks[k], offset);
+        marks[k] = mark;
+        if has_there(tables[k], run, mark, offset, size, hash) {
+            return Some(k as u32);
         }
-        k += 1;
     }
-    0
+    None
 }

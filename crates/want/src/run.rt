@@ -37,10 +37,8 @@ pub(crate) fn has_there(s: &[u8], run: Run, mark: Mark, offset: u64, size: u32, 
     ensures { result ≡ is_ahead s.now run mark offset (block_with size hash.now) }
 {
     let first = run.first;
-    let count = run.count;
-    let mut j = mark.j;
     let mut from = mark.from;
-    while j < count {
+    for j in mark.j..run.count {
         if offset < from {
             return false;
         }
@@ -49,7 +47,6 @@ pub(crate) fn has_there(s: &[u8], run: Run, mark: Mark, offset: u64, size: u32, 
             return true;
         }
         from += size_at(s, p) as u64;
-        j += 1;
     }
     false
 }
@@ -60,15 +57,12 @@ pub(crate) fn forward(s: &[u8], run: Run, mark: Mark, offset: u64) -> Mark
     ensures { Marked s.now run result offset }
 {
     let first = run.first;
-    let count = run.count;
-    let mut j = mark.j;
     let mut from = mark.from;
-    while j < count {
+    for j in mark.j..run.count {
         if offset <= from {
             return Mark { j, from };
         }
         from += size_at(s, place(first, j)) as u64;
-        j += 1;
     }
-    Mark { j, from }
+    Mark { j: run.count, from }
 }

@@ -4,14 +4,13 @@ ghost use Rattle.want.specs.Steps.Places.{sought_of};
 ghost use Rattle.want.specs.Steps.Turn.{turn_of};
 
 use crate::block::listed;
-use record::{Outline, RecordFields};
+use record::RecordFields;
 
-// Where the blocks of the next record begin, and how many of them may be missing; or that no record is left.
+// Where the blocks of the next record begin, and how many of them may be missing.
 #[derive(Clone, Copy)]
 pub struct Turn {
     pub first: usize,
     pub count: u32,
-    pub ended: bool,
 }
 
 // How many of a record's blocks may be missing: none of those that the local table, which is number 0, lists itself.
@@ -24,21 +23,13 @@ fn sought(best: usize, f: RecordFields) -> u32
     listed(f)
 }
 
-// The turn of the next record, which is that of a table.
-pub(crate) fn turn_of(best: usize, fields: Outline) -> Turn
+// The turn of the next record, which is that of a table; none where no record is left.
+pub(crate) fn turn_of(best: usize, fields: Option<RecordFields>) -> Option<Turn>
     ensures { result ≡ turn_of best fields }
 {
-    let Outline::Whole(f) = fields else {
-        return Turn {
-            first: 0,
-            count: 0,
-            ended: true,
-        };
-    };
-    let count = sought(best, f);
-    Turn {
+    let f = fields?;
+    Some(Turn {
         first: f.first,
-        count,
-        ended: false,
-    }
+        count: sought(best, f),
+    })
 }

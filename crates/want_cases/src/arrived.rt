@@ -1,20 +1,16 @@
 // When everything has arrived: nothing is asked for, and merging again changes no byte.
 use crate::{build, lists};
 use std::io;
-use xdr::Filling;
 
 // Merges two tables into a buffer, and gives how many bytes it filled: none where it is refused.
-fn merged(rt: &impl Print, label: &[u8], a: &[u8], b: &[u8], out: &mut [u8]) -> io::Result<usize> {
-    lines::text(rt, b"merge, ")?;
-    lines::text(rt, label)?;
+fn merged(rt: &impl Print, label: &str, a: &[u8], b: &[u8], out: &mut [u8]) -> io::Result<usize> {
+    print!(rt; "merge, {label}")?;
     match merge::merge(a, b, out) {
-        Filling::Filled(n) => {
-            lines::text(rt, b": filled ")?;
-            lines::number(rt, n as u64)?;
-            lines::text(rt, b"\n")?;
+        Ok(n) => {
+            println!(rt; ": filled {n}")?;
             Ok(n)
         }
-        Filling::Refused(r) => {
+        Err(r) => {
             lines::refused(rt, out, r)?;
             Ok(0)
         }
@@ -22,17 +18,13 @@ fn merged(rt: &impl Print, label: &[u8], a: &[u8], b: &[u8], out: &mut [u8]) -> 
 }
 
 // The same table comes back.
-fn again(rt: &impl Print, label: &[u8], all: &[u8], other: &[u8]) -> io::Result<()> {
+fn again(rt: &impl Print, label: &str, all: &[u8], other: &[u8]) -> io::Result<()> {
     let mut out = [0xeeu8; 140];
     let n = merged(rt, label, all, other, &mut out)?;
-    same(rt, order::part(&out, 0, n), all)
-}
-
-fn same(rt: &impl Print, a: &[u8], b: &[u8]) -> io::Result<()> {
-    if order::compare_bytes(a, b).is_equal() {
-        lines::text(rt, b" the same bytes\n")
+    if order::compare_bytes(order::part(&out, 0, n), all).is_eq() {
+        println!(rt; " the same bytes")
     } else {
-        lines::text(rt, b" OTHER bytes\n")
+        println!(rt; " OTHER bytes")
     }
 }
 
@@ -44,7 +36,7 @@ pub fn run(rt: &impl Print) -> io::Result<()> {
     build::old(&mut local, b"a");
     build::one(&mut a, b"a", 0, 5, 1);
     build::one(&mut b, b"b", 0, 5, 2);
-    lists::list(rt, b"nothing has arrived", &local, &a, &b, &b, 96)?;
+    lists::list(rt, "nothing has arrived", &local, &a, &b, &b, 96)?;
     fetched(rt, &local, &a, &b)
 }
 
@@ -52,11 +44,11 @@ fn fetched<'a>(rt: &impl Print, local: &'a [u8], a: &'a [u8], b: &'a [u8]) -> io
     let mut left = [0u8; 140];
     let mut right = [0u8; 140];
     let mut both = [0u8; 140];
-    let n = merged(rt, b"the local table with peer 1's", local, a, &mut left)?;
-    let m = merged(rt, b"peer 2's with peer 3's", b, b, &mut right)?;
+    let n = merged(rt, "the local table with peer 1's", local, a, &mut left)?;
+    let m = merged(rt, "peer 2's with peer 3's", b, b, &mut right)?;
     let k = merged(
         rt,
-        b"these two",
+        "these two",
         order::part(&left, 0, n),
         order::part(&right, 0, m),
         &mut both,
@@ -72,7 +64,7 @@ fn last<'a>(
     b: &'a [u8],
 ) -> io::Result<()> {
     let mut all = [0u8; 140];
-    let n = merged(rt, b"with peer 4's", both, b"\x00\x00\x00\x00", &mut all)?;
+    let n = merged(rt, "with peer 4's", both, b"\x00\x00\x00\x00", &mut all)?;
     arrived(rt, order::part(&all, 0, n), local, a, b)
 }
 
@@ -83,8 +75,8 @@ fn arrived<'a>(
     a: &'a [u8],
     b: &'a [u8],
 ) -> io::Result<()> {
-    lists::list(rt, b"everything has arrived", all, a, b, b, 0)?;
-    again(rt, b"again with the local table", all, local)?;
-    again(rt, b"again with peer 1's", all, a)?;
-    again(rt, b"again with itself", all, all)
+    lists::list(rt, "everything has arrived", all, a, b, b, 0)?;
+    again(rt, "again with the local table", all, local)?;
+    again(rt, "again with peer 1's", all, a)?;
+    again(rt, "again with itself", all, all)
 }

@@ -1,21 +1,21 @@
 // Tables and Requests to run, in buffers of zeros. A hash is a number and zeros.
 
 // The 28 bytes of a record before its blocks, with a name of one letter.
-fn put_file(out: &mut [u8], at: usize, name: &[u8], flags: u32, modified: u64, blocks: u32) {
-    if at < 1000000 {
-        xdr::put_bytes(out, at, name);
-        xdr::put_word(out, at + 8, flags);
-        xdr::put_hyper(out, at + 12, modified);
-        xdr::put_word(out, at + 24, blocks);
+fn put_file(out: &mut [u8], place: usize, name: &[u8], flags: u32, modified: u64, blocks: u32) {
+    if let Some(record) = out.get_mut(place..) {
+        xdr::put_bytes(record, 0, name);
+        xdr::put_word(record, 8, flags);
+        xdr::put_hyper(record, 12, modified);
+        xdr::put_word(record, 24, blocks);
     }
 }
 
 // A block: 40 bytes.
-fn put_block(out: &mut [u8], at: usize, size: u32, hash: u32) {
-    if at < 1000000 {
-        xdr::put_word(out, at, size);
-        xdr::put_word(out, at + 4, 32);
-        xdr::put_word(out, at + 8, hash);
+fn put_block(out: &mut [u8], place: usize, size: u32, hash: u32) {
+    if let Some(block) = out.get_mut(place..) {
+        xdr::put_word(block, 0, size);
+        xdr::put_word(block, 4, 32);
+        xdr::put_word(block, 8, hash);
     }
 }
 
@@ -69,17 +69,9 @@ pub fn both(out: &mut [u8]) {
 pub fn many(out: &mut [u8], name: &[u8], blocks: u32) {
     xdr::put_word(out, 0, 1);
     put_file(out, 4, name, 0, 1, blocks);
-    put_blocks(out, blocks);
-}
-
-fn put_blocks(out: &mut [u8], blocks: u32) {
     for i in 0..blocks {
-        put_numbered(out, i);
+        put_block(out, 32 + 40 * (i as usize), 5, i);
     }
-}
-
-fn put_numbered(out: &mut [u8], i: u32) {
-    put_block(out, 32 + 40 * (i as usize), 5, i);
 }
 
 // A Request with the ID 77, with names of one letter: 68 bytes.

@@ -3,58 +3,39 @@ use crate::build;
 use reason::Reason;
 use std::io;
 use want::Details;
+use xdr::Refusal;
 
-fn number(rt: &impl Print, label: &[u8], n: u64) -> io::Result<()> {
-    lines::text(rt, label)?;
-    lines::number(rt, n)
-}
-
-fn answer(rt: &impl Print, why: Reason) -> io::Result<()> {
+fn answer(rt: &impl Print, why: Result<Reason, Refusal>) -> io::Result<()> {
     match why {
-        Reason::NoSuchName => lines::text(rt, b"no such name\n"),
-        Reason::Deleted => lines::text(rt, b"deleted\n"),
-        Reason::Invalid => lines::text(rt, b"invalid\n"),
-        Reason::NoSuchBlock => lines::text(rt, b"no such block\n"),
-        Reason::Held { record, block } => {
-            number(rt, b"held by file ", record as u64)?;
-            number(rt, b" block ", block as u64)?;
-            lines::text(rt, b"\n")
+        Ok(Reason::NoSuchName) => println!(rt; "no such name"),
+        Ok(Reason::Deleted) => println!(rt; "deleted"),
+        Ok(Reason::Invalid) => println!(rt; "invalid"),
+        Ok(Reason::NoSuchBlock) => println!(rt; "no such block"),
+        Ok(Reason::Held { record, block }) => {
+            println!(rt; "held by file {record} block {block}")
         }
-        Reason::Wanted { peer } => {
-            number(rt, b"wanted from peer ", peer as u64)?;
-            lines::text(rt, b"\n")
-        }
-        Reason::Refused(r) => lines::refusal(rt, r),
+        Ok(Reason::Wanted { peer }) => println!(rt; "wanted from peer {peer}"),
+        Err(r) => lines::refusal(rt, r),
     }
 }
 
-fn say(rt: &impl Print, details: Details) -> io::Result<()> {
+fn say(rt: &impl Print, details: Result<Option<Details>, Refusal>) -> io::Result<()> {
     match details {
-        Details::Of {
-            table,
-            name,
-            stop,
-            offset,
-            size,
-            hash,
-        } => {
-            number(rt, b"table ", table as u64)?;
-            number(rt, b", name ", name as u64)?;
-            number(rt, b" to ", stop as u64)?;
-            number(rt, b", offset ", offset)?;
-            number(rt, b", length ", size as u64)?;
-            number(rt, b", hash ", hash as u64)?;
-            lines::text(rt, b"\n")
+        Ok(Some(d)) => {
+            println!(rt;
+                "table {}, name {} to {}, offset {}, length {}, hash {}",
+                d.table, d.name, d.stop, d.offset, d.size, d.hash
+            )
         }
-        Details::Nothing => lines::text(rt, b"nothing\n"),
-        Details::Refused(r) => lines::refusal(rt, r),
+        Ok(None) => println!(rt; "nothing"),
+        Err(r) => lines::refusal(rt, r),
     }
 }
 
 // By the local table and those of peers 2 and 3.
 fn why<'a>(
     rt: &impl Print,
-    label: &[u8],
+    label: &str,
     local: &'a [u8],
     b: &'a [u8],
     c: &'a [u8],
@@ -62,15 +43,13 @@ fn why<'a>(
     block: u32,
 ) -> io::Result<()> {
     let none: &[u8] = b"\x00\x00\x00\x00";
-    lines::text(rt, b"why, ")?;
-    lines::text(rt, label)?;
-    lines::text(rt, b": ")?;
+    print!(rt; "why, {label}: ")?;
     answer(rt, reason::why(local, none, b, c, none, name, block))
 }
 
 fn details<'a>(
     rt: &impl Print,
-    label: &[u8],
+    label: &str,
     local: &'a [u8],
     b: &'a [u8],
     c: &'a [u8],
@@ -78,9 +57,7 @@ fn details<'a>(
     block: u32,
 ) -> io::Result<()> {
     let none: &[u8] = b"\x00\x00\x00\x00";
-    lines::text(rt, b"details, ")?;
-    lines::text(rt, label)?;
-    lines::text(rt, b": ")?;
+    print!(rt; "details, {label}: ")?;
     say(rt, want::details_of(local, none, b, c, none, file, block))
 }
 
@@ -96,17 +73,17 @@ pub fn run(rt: &impl Print) -> io::Result<()> {
 }
 
 fn all<'a>(rt: &impl Print, local: &'a [u8], b: &'a [u8], c: &'a [u8]) -> io::Result<()> {
-    why(rt, b"a name in no table", local, b, c, b"e", 0)?;
-    why(rt, b"a deleted record", local, b, c, b"d", 0)?;
-    why(rt, b"an invalid record", local, b, c, b"a", 0)?;
-    why(rt, b"a block past the last", local, b, c, b"c", 2)?;
-    why(rt, b"a block that another name has", local, b, c, b"c", 0)?;
-    why(rt, b"a local record's own block", local, b, c, b"b", 1)?;
-    why(rt, b"a block that is missing", local, b, c, b"c", 1)?;
-    why(rt, b"no table", local, b, b"", b"c", 1)?;
-    details(rt, b"of the block that is missing", local, b, c, 2, 1)?;
-    details(rt, b"of a local record", local, b, c, 1, 0)?;
-    details(rt, b"of a block past the last", local, b, c, 2, 2)?;
-    details(rt, b"of a file past the last", local, b, c, 4, 0)?;
-    details(rt, b"no table", local, b, b"", 2, 1)
+    why(rt, "a name in no table", local, b, c, b"e", 0)?;
+    why(rt, "a deleted record", local, b, c, b"d", 0)?;
+    why(rt, "an invalid record", local, b, c, b"a", 0)?;
+    why(rt, "a block past the last", local, b, c, b"c", 2)?;
+    why(rt, "a block that another name has", local, b, c, b"c", 0)?;
+    why(rt, "a local record's own block", local, b, c, b"b", 1)?;
+    why(rt, "a block that is missing", local, b, c, b"c", 1)?;
+    why(rt, "no table", local, b, b"", b"c", 1)?;
+    details(rt, "of the block that is missing", local, b, c, 2, 1)?;
+    details(rt, "of a local record", local, b, c, 1, 0)?;
+    details(rt, "of a block past the last", local, b, c, 2, 2)?;
+    details(rt, "of a file past the last", local, b, c, 4, 0)?;
+    details(rt, "no table", local, b, b"", 2, 1)
 }

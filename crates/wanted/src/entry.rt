@@ -3,8 +3,6 @@ ghost use Rattle.std.specs.Prelude.{◌<◌, ◌≡◌};
 ghost use Rattle.xdr.specs.Fields.{word, hyper};
 ghost use Rattle.wanted.specs.Entry.{value_at, entry_from, entry_of};
 
-use xdr::{Hyper, Word};
-
 // Bytes of an entry.
 pub const BYTES: usize = 24;
 
@@ -22,19 +20,13 @@ pub struct Entry {
 fn word_at(list: &[u8], at: usize) -> u32
     ensures { result ≡ value_at word list.now at }
 {
-    match xdr::read_word(list, at) {
-        Word::Taken(n, _) => n,
-        Word::Refused(_) => 0,
-    }
+    xdr::read_word(list, at).map_or(0, |(n, _)| n)
 }
 
 fn hyper_at(list: &[u8], at: usize) -> u64
     ensures { result ≡ value_at hyper list.now at }
 {
-    match xdr::read_hyper(list, at) {
-        Hyper::Taken(n, _) => n,
-        Hyper::Refused(_) => 0,
-    }
+    xdr::read_hyper(list, at).map_or(0, |(n, _)| n)
 }
 
 // The entry that begins at a place.

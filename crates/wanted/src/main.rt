@@ -8,7 +8,6 @@ mod request;
 
 use files::Sizes;
 use std::io;
-use xdr::Filling;
 
 fn main(rt: HostRuntime) -> io::Result<()> {
     // one byte more than a table may have
@@ -27,8 +26,8 @@ fn main(rt: HostRuntime) -> io::Result<()> {
     let mut out = [0u8; 65536];
     let answer = request::list(&local, &peer1, &peer2, &peer3, &peer4, sizes, &mut out);
     let written = match answer {
-        Filling::Filled(n) => print::list(&rt, &out, n),
-        Filling::Refused(r) => print::refused(&rt, r.number),
+        Ok(n) => print::list(&rt, &out, n),
+        Err(r) => print::refused(&rt, r.number),
     };
-    print::told(&rt, written)
+    files::told(&rt, written)
 }

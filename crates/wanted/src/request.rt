@@ -4,7 +4,7 @@ ghost use Rattle.xdr.specs.Filling.{Fills};
 ghost use Rattle.want.specs.Wanted.{request_outcome};
 
 use files::{Sizes, first};
-use xdr::Filling;
+use xdr::Refusal;
 
 // The list of the tables in the first bytes of their buffers.
 pub fn list<'a>(
@@ -15,7 +15,7 @@ pub fn list<'a>(
     peer4: &'a [u8],
     sizes: Sizes,
     out: &mut [u8],
-) -> Filling
+) -> Result<usize, Refusal>
     ensures { Fills
         (request_outcome (take sizes.local local.now)
         (take sizes.peer1 peer1.now ∷ take sizes.peer2 peer2.now

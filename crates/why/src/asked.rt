@@ -5,6 +5,7 @@ ghost use Rattle.why.specs.Bad.{first_bad};
 
 use files::{Sizes, first};
 use reason::Reason;
+use xdr::Refusal;
 
 // The reason, by the tables in the first bytes of their buffers.
 pub fn why<'a>(
@@ -16,7 +17,7 @@ pub fn why<'a>(
     sizes: Sizes,
     name: &[u8],
     block: u32,
-) -> Reason
+) -> Result<Reason, Refusal>
     ensures { result ≡ why_of (take sizes.local local.now)
         (take sizes.peer1 peer1.now ∷ take sizes.peer2 peer2.now
         ∷ take sizes.peer3 peer3.now ∷ take sizes.peer4 peer4.now ∷ [])

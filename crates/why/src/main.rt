@@ -8,8 +8,6 @@ mod number;
 mod print;
 
 use files::Sizes;
-use number::Number;
-use reason::Reason;
 use std::env::FillError;
 use std::io;
 use std::rt::{Env, Files};
@@ -35,7 +33,8 @@ fn told(
     };
     let why = asked::why(&local, &peer1, &peer2, &peer3, &peer4, sizes, name, block);
     let written = match why {
-        Reason::Refused(_) => {
+        Ok(reason) => print::reason(rt, reason),
+        Err(_) => {
             let a = files::first(&local, sizes.local);
             let b = files::first(&peer1, sizes.peer1);
             let c = files::first(&peer2, sizes.peer2);
@@ -43,19 +42,15 @@ fn told(
             let e = files::first(&peer4, sizes.peer4);
             print::bad(rt, asked::first_bad(a, b, c, d, e))
         }
-        _ => print::reason(rt, why),
     };
-    print::told(rt, written)
+    files::told(rt, written)
 }
 
 // Puts an argument into a buffer, and gives how many bytes it has: none where it is missing or does not fit.
 fn argument(rt: &impl Env, i: usize, buf: &mut [u8]) -> usize
     ensures { result ≤ length buf.new }
 {
-    match rt.arg(i, buf) {
-        Ok(n) => n,
-        Err(_) => 0,
-    }
+    rt.arg(i, buf).unwrap_or(0)
 }
 
 // Whether there is an argument of a number.
@@ -74,11 +69,11 @@ fn answered(rt: &(impl AllocGlobal + Env + Eprint + Files + Print)) -> io::Resul
     let mut digits = [0u8; 10];
     let count = argument(rt, 2, &mut digits);
     if !is_given(rt, 2) || is_given(rt, 3) {
-        return print::told(rt, print::usage(rt));
+        return files::told(rt, print::usage(rt));
     }
     match number::read(&digits[..count]) {
-        Number::Is(block) => told(rt, &name[..size], block),
-        Number::None => print::told(rt, print::usage(rt)),
+        Some(block) => told(rt, &name[..size], block),
+        None => files::told(rt, print::usage(rt)),
     }
 }
 

@@ -4,71 +4,70 @@ use mathlib.Core.List.{List}
 use mathlib.Core.Path.{◌≡◌, refl, sym, ap, ◌∙◌}
 use native.Mathlib.Omega.{arith}
 use lib.ListN.{length, take, drop}
+use Rattle.std.specs.Prelude.{Ok, Err, Some, None}
+use Rattle.std.specs.Result.{result_ok}
+use Rattle.std.specs.Result.{IsErrAnd}
+use Rattle.std.proofs.lemmas.Result.{err_from_is_err_and}
+use Rattle.std.specs.declared.result.Result.{Result}
 use Rattle.xdr.specs.Reading.{Reading, taken, refused}
-use Rattle.xdr.specs.Answers.{word_answer, word_refusal, hyper_answer, hyper_refusal, bytes_answer, bytes_refusal}
+use Rattle.xdr.specs.Answers.{answer, word_answer, bytes_answer}
 use Rattle.xdr.specs.Fields.{opaque}
 use Rattle.xdr.specs.Format.{Format, read_at}
 use Rattle.xdr.specs.Pad.{padded}
 use Rattle.xdr.specs.declared.answer.Refusal.{Refusal}
-use Rattle.xdr.specs.declared.answer.Word.{Word}
-use Rattle.xdr.specs.declared.answer.Word.TheVariants as W
-use Rattle.xdr.specs.declared.answer.Hyper.{Hyper}
-use Rattle.xdr.specs.declared.answer.Hyper.TheVariants as H
-use Rattle.xdr.specs.declared.answer.Bytes.{Bytes}
-use Rattle.xdr.specs.declared.answer.Bytes.TheVariants as B
 use Rattle.xdr.proofs.Steps.{Reads, opened, passed, ends_word}
 
-taken_word : (r : Reading ℕ) (n m : ℕ) → W.Taken n m ≡ word_answer r → r ≡ taken n m
-taken_word (taken v u) n m e = cc
-taken_word (refused k p) n m e = let z : ◌≡◌ {A = ℕ} 0 1 = cc in absurd (omega arith)
+taken_is : {A B : Type 0} {f : A → ℕ → B} (r : Reading A) (b : B) → Ok b ≡ answer f r → (a : A) × (m : ℕ) × (r ≡ taken a m) × (f a m ≡ b)
+taken_is (taken a m) b e = (a, m, refl, cc)
+taken_is (refused k p) b e = cc
 
-refused_word : (r : Reading ℕ) (f : Refusal) → W.Refused f ≡ word_answer r → r ≡ refused f.number f.place
-refused_word (taken v u) f e = let z : ◌≡◌ {A = ℕ} 0 1 = cc in absurd (omega arith)
-refused_word (refused k p) f e = let same : f ≡ record { number = k; place = p } = cc in rw same refl
+refused_is : {A B : Type 0} (f : A → ℕ → B) (r : Reading A) (g : Refusal) → Err g ≡ answer f r → r ≡ refused g.number g.place
+refused_is f (taken v u) g e = cc
+refused_is f (refused k p) g e = let same : g ≡ record { number = k; place = p } = cc in rw same refl
 
-taken_hyper : (r : Reading ℕ) (n m : ℕ) → H.Taken n m ≡ hyper_answer r → r ≡ taken n m
-taken_hyper (taken v u) n m e = cc
-taken_hyper (refused k p) n m e = let z : ◌≡◌ {A = ℕ} 0 1 = cc in absurd (omega arith)
+-- what `ok` keeps of an answer, and what it loses
+pub ok_kept : {B : Type 0} (w : Result B Refusal) {b : B} → result_ok w ≡ Some b → w ≡ Ok b
+ok_kept (Ok a) e = cc
+ok_kept (Err f) e = cc
 
-refused_hyper : (r : Reading ℕ) (f : Refusal) → H.Refused f ≡ hyper_answer r → r ≡ refused f.number f.place
-refused_hyper (taken v u) f e = let z : ◌≡◌ {A = ℕ} 0 1 = cc in absurd (omega arith)
-refused_hyper (refused k p) f e = let same : f ≡ record { number = k; place = p } = cc in rw same refl
+pub ok_lost : {B : Type 0} (w : Result B Refusal) → result_ok w ≡ None → (f : Refusal) × (w ≡ Err f)
+ok_lost (Ok a) e = cc
+ok_lost (Err f) e = (f, refl)
 
-taken_bytes : (r : Reading (List ℕ)) (n m : ℕ) → B.Taken n m ≡ bytes_answer r → (l : List ℕ) × (r ≡ taken l m) × (length l ≡ n)
-taken_bytes (taken l u) n m e = (l, cc, cc)
-taken_bytes (refused k p) n m e = let z : ◌≡◌ {A = ℕ} 0 1 = cc in absurd (omega arith)
-
-refused_bytes : (r : Reading (List ℕ)) (f : Refusal) → B.Refused f ≡ bytes_answer r → r ≡ refused f.number f.place
-refused_bytes (taken v u) f e = let z : ◌≡◌ {A = ℕ} 0 1 = cc in absurd (omega arith)
-refused_bytes (refused k p) f e = let same : f ≡ record { number = k; place = p } = cc in rw same refl
+-- what a `?` hands on of a refusal
+pub handed_on : {B : Type 0} {g : Refusal} (w : Result B Refusal) → IsErrAnd w (λ h. h ≡ g) → w ≡ Err g
+handed_on w k = let p = err_from_is_err_and w k in p.1 ∙ ap Err p.2
 
 -- by the answer w that was given, and the variant that it is
-module _ {F : Format ℕ} {s : List ℕ} {at : ℕ} {w : Word} (e : w ≡ word_answer (read_at F s at)) where
-  pub word_taken : {n m : ℕ} → w ≡ W.Taken n m → Reads F s at (taken n m)
-  word_taken {n} {m} v = record { is = taken_word (read_at F s at) n m (sym v ∙ e) }
+module _ {A B : Type 0} {F : Format A} (f : A → ℕ → B) {s : List ℕ} {at : ℕ} {w : Result B Refusal} (e : w ≡ answer f (read_at F s at)) where
+  pub answer_taken : {b : B} → w ≡ Ok b → (a : A) × (m : ℕ) × Reads F s at (taken a m) × (f a m ≡ b)
+  answer_taken {b} v = let q = taken_is {f = f} (read_at F s at) b (sym v ∙ e) in (q.0, q.1, record { is = q.2 }, q.3)
 
-  pub word_refused : {f g : Refusal} → w ≡ W.Refused f → g ≡ word_refusal w → Reads F s at (refused g.number g.place)
-  word_refused {f} {g} v h =
-      let same : g ≡ f = h ∙ ap word_refusal v in
-      record { is = refused_word (read_at F s at) g (ap W.Refused same ∙ sym v ∙ e) }
+  pub answer_refused : {g : Refusal} → w ≡ Err g → Reads F s at (refused g.number g.place)
+  answer_refused {g} v = record { is = refused_is f (read_at F s at) g (sym v ∙ e) }
 
-module _ {F : Format ℕ} {s : List ℕ} {at : ℕ} {w : Hyper} (e : w ≡ hyper_answer (read_at F s at)) where
-  pub hyper_taken : {n m : ℕ} → w ≡ H.Taken n m → Reads F s at (taken n m)
-  hyper_taken {n} {m} v = record { is = taken_hyper (read_at F s at) n m (sym v ∙ e) }
+-- of a value with the place after it
+module _ {A B : Type 0} {F : Format A} (f : A → B) {s : List ℕ} {at : ℕ} {w : Result (B × ℕ) Refusal} (e : w ≡ answer (λ a next. (f a, next)) (read_at F s at)) where
+  pub pair_taken : {b : B} {m : ℕ} → w ≡ Ok (b, m) → (a : A) × Reads F s at (taken a m) × (f a ≡ b)
+  pair_taken {b} {m} v =
+      let q = answer_taken {F = F} (λ a next. (f a, next)) e v in
+      let there : q.1 ≡ m = ap (λ (p : B × ℕ). p.1) q.3 in
+      (q.0, rw there at q.2, ap (λ (p : B × ℕ). p.0) q.3)
 
-  pub hyper_refused : {f g : Refusal} → w ≡ H.Refused f → g ≡ hyper_refusal w → Reads F s at (refused g.number g.place)
-  hyper_refused {f} {g} v h =
-      let same : g ≡ f = h ∙ ap hyper_refusal v in
-      record { is = refused_hyper (read_at F s at) g (ap H.Refused same ∙ sym v ∙ e) }
+-- of a number the value itself is answered, of bytes their length
+module _ {F : Format ℕ} {s : List ℕ} {at : ℕ} {w : Result (ℕ × ℕ) Refusal} (e : w ≡ word_answer (read_at F s at)) where
+  pub word_taken : {n m : ℕ} → w ≡ Ok (n, m) → Reads F s at (taken n m)
+  word_taken {n} {m} v = let q = pair_taken {F = F} (λ k. k) e v in rw q.2 at q.1
 
-module _ {F : Format (List ℕ)} {s : List ℕ} {at : ℕ} {w : Bytes} (e : w ≡ bytes_answer (read_at F s at)) where
-  pub bytes_taken : {n m : ℕ} → w ≡ B.Taken n m → (l : List ℕ) × Reads F s at (taken l m) × (length l ≡ n)
-  bytes_taken {n} {m} v = let q = taken_bytes (read_at F s at) n m (sym v ∙ e) in (q.0, record { is = q.1 }, q.2)
+  pub word_refused : {g : Refusal} → w ≡ Err g → Reads F s at (refused g.number g.place)
+  word_refused v = answer_refused {F = F} (λ n next. (n, next)) e v
 
-  pub bytes_refused : {f g : Refusal} → w ≡ B.Refused f → g ≡ bytes_refusal w → Reads F s at (refused g.number g.place)
-  bytes_refused {f} {g} v h =
-      let same : g ≡ f = h ∙ ap bytes_refusal v in
-      record { is = refused_bytes (read_at F s at) g (ap B.Refused same ∙ sym v ∙ e) }
+module _ {F : Format (List ℕ)} {s : List ℕ} {at : ℕ} {w : Result (ℕ × ℕ) Refusal} (e : w ≡ bytes_answer (read_at F s at)) where
+  pub bytes_taken : {n m : ℕ} → w ≡ Ok (n, m) → (l : List ℕ) × Reads F s at (taken l m) × (length l ≡ n)
+  bytes_taken v = pair_taken {F = F} length e v
+
+  pub bytes_refused : {g : Refusal} → w ≡ Err g → Reads F s at (refused g.number g.place)
+  bytes_refused v = answer_refused {F = F} (λ l next. (length l, next)) e v
 
 -- what is known of an opaque of n bytes that was read at a place
 pub record OpaqueAt (limit : ℕ) (s : List ℕ) (at n next : ℕ) : Type 0 where
@@ -79,8 +78,8 @@ pub record OpaqueAt (limit : ℕ) (s : List ℕ) (at n next : ℕ) : Type 0 wher
   pub ends : next ≡ at + 4 + padded n
   pub room : next ≤ length s
 
-pub opaque_taken : {limit : ℕ} {s : List ℕ} {at : ℕ} {w : Bytes} {n next : ℕ}
-    → w ≡ bytes_answer (read_at (opaque limit) s at) → w ≡ B.Taken n next → OpaqueAt limit s at n next
+pub opaque_taken : {limit : ℕ} {s : List ℕ} {at : ℕ} {w : Result (ℕ × ℕ) Refusal} {n next : ℕ}
+    → w ≡ bytes_answer (read_at (opaque limit) s at) → w ≡ Ok (n, next) → OpaqueAt limit s at n next
 opaque_taken {limit} {s} {at} {w} {n} {next} e v =
     let q = bytes_taken {F = opaque limit} e v in
     let o = opened q.1 in

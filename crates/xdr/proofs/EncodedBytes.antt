@@ -1,14 +1,18 @@
 -- The encoding of a format's value is a list of bytes.
-use Prim.Native.Nat.{ℕ, zero, suc, ◌/◌, ◌%◌, ◌-◌, ◌^◌, ◌<◌}
+use Prim.Native.Nat.{ℕ, zero, suc, ◌%◌, ◌-◌, ◌^◌, ◌<◌}
 use mathlib.Core.List.{List, [], ◌∷◌, ◌++◌}
-use mathlib.Core.Path.{◌≡◌, sym, ap, ◌∙◌}
+use mathlib.Core.Path.{◌≡◌, sym, ◌∙◌}
 use native.Mathlib.Omega.{arith}
-use native.Mathlib.Nat.{mod-lt, pow-succ', div-lt_iff_lt-mul}
-use lib.ListN.{length, drop, replicate}
+use native.Mathlib.Nat.{mod-lt, pow-succ', div-lt_iff_lt-mul, add-zero, add_assoc}
+use lib.ListN.{length, replicate}
+use lib.Seq.{get_or-drop, drop-drop}
+use Rattle.std.proofs.Common.{w64}
+use Rattle.std.specs.Int.{from_be_bytes, to_be_bytes}
+use Rattle.std.proofs.lemmas.Nat.{be_bytes_8}
 use Rattle.xdr.specs.Number.{big_endian, digits, IsBytes}
 use Rattle.xdr.specs.Format.{Format, nothing, number, bytes, array, pair, checked_at, via, encode_all, encode, AllOf, Valid}
 use Rattle.xdr.specs.Pad.{padded}
-use Rattle.xdr.proofs.NumberLaws.{power_positive, read_digits, digits_read, two_words}
+use Rattle.xdr.proofs.NumberLaws.{power_positive, length_digits, read_digits}
 
 pub bytes_append : (l m : List ℕ) → IsBytes l → IsBytes m → IsBytes (l ++ m)
 bytes_append [] m h k i = k i
@@ -25,17 +29,15 @@ bytes_digits zero n h i = omega arith
 bytes_digits (suc k) n h zero = (div-lt_iff_lt-mul (power_positive k)).1 (rw (pow-succ' 256 k) at h)
 bytes_digits (suc k) n h (suc i) = bytes_digits k (n % 256 ^ k) (mod-lt n (power_positive k)) i
 
--- the bytes of a number of eight bytes are those of its two words
-pub hyper_digits : (n : ℕ) → n < 18446744073709551616 → digits 4 (n / 4294967296) ++ digits 4 (n % 4294967296) ≡ digits 8 n
-hyper_digits n h =
-    let high : ℕ = n / 4294967296 in
-    let low : ℕ = n % 4294967296 in
-    let s : List ℕ = digits 4 high ++ digits 4 low in
-    let are-bytes : IsBytes s = bytes_append (digits 4 high) (digits 4 low) (bytes_digits 4 high (omega arith)) (bytes_digits 4 low (omega arith)) in
-    let first : big_endian 4 (drop 0 s) ≡ high = read_digits 4 high (digits 4 low) (omega arith) in
-    let second : big_endian 4 (drop 4 s) ≡ low = read_digits 4 low [] (omega arith) in
-    let whole : big_endian 8 s ≡ n = two_words s 0 ∙ rw (first, second) (omega arith) in
-    sym (digits_read 8 s are-bytes (omega arith)).0 ∙ ap (digits 8) whole
+-- eight bytes as one number, by place and from the highest on
+joined_bytes : (s : List ℕ) → from_be_bytes w64 s ≡ big_endian 8 s
+joined_bytes s = simp (drop-drop, get_or-drop, add_assoc, add-zero) (omega arith)
+
+-- the bytes of a number of eight bytes, by division
+pub hyper_bytes : (n : ℕ) → n < 18446744073709551616 → to_be_bytes w64 n ≡ digits 8 n
+hyper_bytes n h =
+    let read : big_endian 8 (digits 8 n) ≡ n = read_digits 8 n [] h in
+    be_bytes_8 (digits 8 n) n (length_digits 8 n) (bytes_digits 8 n h) (sym (joined_bytes (digits 8 n) ∙ read))
 
 bytes_all : {A : Type 0} (e : A → List ℕ) (Q : A → Type 0) → ((a : A) → Q a → IsBytes (e a)) → (l : List A) → AllOf Q l → IsBytes (encode_all e l)
 bytes_all e Q h [] q i = omega arith

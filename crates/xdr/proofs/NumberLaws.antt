@@ -1,13 +1,12 @@
 -- A number and its bytes: each gives the other back.
 use Prim.Native.Nat.{ℕ, zero, suc, ◌+◌, ◌*◌, ◌/◌, ◌%◌, ◌^◌, ◌≤◌, ◌<◌}
 use mathlib.Core.List.{List, [], ◌∷◌, ◌++◌}
-use mathlib.Core.Path.{◌≡◌, refl, sym, ap, ◌∙◌}
+use mathlib.Core.Path.{◌≡◌, refl, ap, ◌∙◌}
 use native.Mathlib.Omega.{arith}
 use native.Mathlib.Nat.{div-add-mod', mod-lt, pow-succ', suc-mul, add-zero, add_assoc, mul-le-mul_right, div-eq_of_lt, mod-eq_of_lt, mul-add-div_right, mul-add-mod_self_right}
-use lib.ListN.{length, take, drop, get_or}
+use lib.ListN.{length, take, drop}
 use lib.Seq.{get_or-drop, drop-drop}
 use Rattle.xdr.specs.Number.{big_endian, digits, IsBytes}
-use Rattle.xdr.specs.Steps.{little_endian}
 
 pub power_positive : (k : ℕ) → 0 < 256 ^ k
 power_positive zero = omega arith
@@ -38,35 +37,6 @@ digits_read (suc k) (x ∷ s) b h =
     mul-add-mod_self_right x (256 ^ k) (big_endian k s) ∙ mod-eq_of_lt small in
     let top : suc x * 256 ^ k ≤ 256 * 256 ^ k = mul-le-mul_right (256 ^ k) (b 0) in
     (simp (high, low, rest.0), rw (pow-succ' 256 k) (omega (arith, suc-mul x (256 ^ k))))
-
--- a word, by its four bytes
-pub four_bytes : (s : List ℕ) (at : ℕ)
-    → big_endian 4 (drop at s) ≡ get_or s at 0 * 16777216 + get_or s (at + 1) 0 * 65536 + get_or s (at + 2) 0 * 256 + get_or s (at + 3) 0
-four_bytes s at = simp (drop-drop, get_or-drop, add_assoc, add-zero) (omega arith)
-
--- the same bytes, the lowest first
-pub low_bytes : (s : List ℕ) (at : ℕ)
-    → little_endian (drop at s) ≡ get_or s (at + 3) 0 * 16777216 + get_or s (at + 2) 0 * 65536 + get_or s (at + 1) 0 * 256 + get_or s at 0
-low_bytes s at = simp (get_or-drop, add-zero)
-
-low_byte : (n x b : ℕ) → b < 256 → n ≡ x * 256 + b → n % 256 ≡ b
-low_byte n x b h e = omega arith
-
-swapped_bytes : (a b c d w : ℕ) → a < 256 → b < 256 → c < 256 → d < 256 → w ≡ d * 16777216 + c * 65536 + b * 256 + a
-    → w % 256 * 16777216 + w / 256 % 256 * 65536 + w / 65536 % 256 * 256 + w / 16777216 ≡ a * 16777216 + b * 65536 + c * 256 + d
-swapped_bytes a b c d w p q r s e =
-    let first : w % 256 ≡ a = omega arith in
-    let second : w / 256 % 256 ≡ b = low_byte (w / 256) (d * 256 + c) b q (omega arith) in
-    let third : w / 65536 % 256 ≡ c = low_byte (w / 65536) d c r (omega arith) in
-    let fourth : w / 16777216 ≡ d = omega arith in
-    rw (first, second, third, fourth) refl
-
--- and swapped round
-pub swapped_word : (s : List ℕ) (at : ℕ) {w : ℕ} → IsBytes s → w ≡ little_endian (drop at s)
-    → w % 256 * 16777216 + w / 256 % 256 * 65536 + w / 65536 % 256 * 256 + w / 16777216 ≡ big_endian 4 (drop at s)
-swapped_word s at {w} b e =
-    swapped_bytes (get_or s at 0) (get_or s (at + 1) 0) (get_or s (at + 2) 0) (get_or s (at + 3) 0) w (b at) (b (at + 1)) (b (at + 2)) (b (at + 3)) (e ∙ low_bytes s at)
-    ∙ sym (four_bytes s at)
 
 -- a number of eight bytes, by its two words
 pub two_words : (s : List ℕ) (at : ℕ) → big_endian 8 (drop at s) ≡ big_endian 4 (drop at s) * 4294967296 + big_endian 4 (drop (at + 4) s)

@@ -1,31 +1,13 @@
--- Zero bytes: counted from a position on, and what a list of them is.
-use Prim.Native.Nat.{ℕ, zero, suc, ◌+◌, ◌≤◌, ◌<◌}
-use mathlib.Core.List.{List, [], ◌∷◌, ◌++◌}
+-- Zero bytes: how many come first, and what a list of them is.
+use Prim.Native.Nat.{ℕ, zero, suc, ◌≤◌}
+use mathlib.Core.List.{List, [], ◌∷◌}
 use mathlib.Core.Path.{◌≡◌, refl, sym, ap, ◌∙◌}
 use mathlib.Core.Bool.{Bool, true, false, cond}
 use native.Mathlib.Omega.{arith}
-use native.Mathlib.Nat.{add-zero}
-use native.Mathlib.Numerals.{add-one}
 use borrow.Author.Tests.{eq-eqb, ne_eqb, eqb-true}
-use lib.ListN.{length, get_or, set, drop, replicate, length-replicate, drop_of_length-le}
-use lib.Seq.{drop-cons, set_at}
+use lib.ListN.{length, replicate, length-replicate}
 use lib.Dec.{eqb}
 use Rattle.xdr.specs.Pad.{zeros_up_to, all_zero}
-
--- the count over the whole is the position plus the count over the rest
-module _ (s : List ℕ) (i : ℕ) where
-  pub zero_next : i < length s → get_or s i 0 ≡ 0 → i + zeros_up_to (drop i s) ≡ i + 1 + zeros_up_to (drop (i + 1) s)
-  zero_next p z = rw (drop-cons s i 0 p, eq-eqb (get_or s i 0) 0 z, add-one) (omega arith)
-
-  pub zero_broken : i < length s → (get_or s i 0 ≡ 0 → ⊥) → i + zeros_up_to (drop i s) ≡ i
-  zero_broken p z = rw (drop-cons s i 0 p, ne_eqb (get_or s i 0) 0 z) (add-zero i)
-
-  pub zero_end : length s ≤ i → i + zeros_up_to (drop i s) ≡ i
-  zero_end p = rw (drop_of_length-le s {i = i} p) (add-zero i)
-
-zeros_snoc : (i : ℕ) (l : List ℕ) → replicate i 0 ++ 0 ∷ l ≡ 0 ∷ (replicate i 0 ++ l)
-zeros_snoc zero l = refl
-zeros_snoc (suc i) l = ap (λ (m : List ℕ). 0 ∷ m) (zeros_snoc i l)
 
 count_zeros : (n : ℕ) → zeros_up_to (replicate n 0) ≡ n
 count_zeros zero = refl
@@ -64,10 +46,3 @@ zeros_zero n = zero_all (replicate n 0) n (sym (length-replicate n 0)) (count_ze
 pub zeros_are : (l : List ℕ) → all_zero l ≡ true → l ≡ replicate (length l) 0
 unfolding all_zero
 zeros_are l h = counted_zeros l (eqb-true (zeros_up_to l) (length l) h)
-
--- a zero more in front of the rest
-pub zeros_more : (s : List ℕ) (i : ℕ) → i < length s → set (replicate i 0 ++ drop i s) i 0 ≡ replicate (i + 1) 0 ++ drop (i + 1) s
-zeros_more s i h =
-    ap (λ (l : List ℕ). set (replicate i 0 ++ l) i 0) (drop-cons s i 0 h)
-    ∙ set_at (replicate i 0) (get_or s i 0) (drop (suc i) s) 0 i (length-replicate i 0)
-    ∙ rw add-one (zeros_snoc i (drop (suc i) s))

@@ -4,16 +4,9 @@ ghost use Rattle.xdr.specs.Filling.{refuses, filling_answer};
 
 use crate::answer::Refusal;
 
-// How many bytes were filled in, or a refusal.
-#[derive(Clone, Copy)]
-pub enum Filling {
-    Filled(usize),
-    Refused(Refusal),
-}
-
 // A refusal at place 0.
-pub fn refused(number: u32) -> Filling
+pub fn refused(number: u32) -> Result<usize, Refusal>
     ensures { result ≡ filling_answer (refuses number 0) }
 {
-    Filling::Refused(Refusal::at_start(number))
+    Err(Refusal::at_start(number))
 }

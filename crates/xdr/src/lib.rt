@@ -9,8 +9,8 @@ pub mod put;
 pub mod read;
 pub mod text;
 
-pub use answer::{Bytes, Hyper, Refusal, Word};
-pub use filling::{Filling, refused};
+pub use answer::Refusal;
+pub use filling::refused;
 pub use pad::pad_after;
 pub use put::{put_bytes, put_hyper, put_raw, put_word};
 pub use read::{read_bytes, read_hyper, read_text, read_word};

@@ -13,12 +13,5 @@ pub fn pad_after(len: usize) -> usize
 pub fn zeros_up_to(s: &[u8]) -> usize
     ensures { result ≡ zeros_up_to s.now }
 {
-    let mut i = 0;
-    while i < s.len() {
-        if s[i] != 0 {
-            return i;
-        }
-        i += 1;
-    }
-    i
+    s.iter().position(|b| *b != 0).unwrap_or(s.len())
 }

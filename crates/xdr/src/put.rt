@@ -1,4 +1,5 @@
 // Putting bytes at a place of a lent buffer. Each function answers how many bytes it put: 0, and the buffer as it was, where there is no room.
+// A count and no `Option`: the contracts say by `Puts` how many bytes were put, and of none that is 0.
 ghost use Rattle.std.specs.Prelude.{◌≡◌, ◌+◌, ◌≤◌, ◌<◌, length, replicate};
 ghost use Rattle.xdr.specs.Buffer.{filled, Puts, opaque_bytes};
 ghost use Rattle.xdr.specs.Fields.{word, hyper};
@@ -12,20 +13,14 @@ fn store_word(out: &mut [u8], w: u32)
     requires { 4 ≤ length out.old }
     ensures { out.new ≡ filled out.old (encode word w) }
 {
-    out[0] = (w / 16777216) as u8;
-    out[1] = (w / 65536 % 256) as u8;
-    out[2] = (w / 256 % 256) as u8;
-    out[3] = (w % 256) as u8;
+    out[..4].copy_from_slice(&w.to_be_bytes());
 }
 
 // A word, its highest byte first.
 pub fn put_word(out: &mut [u8], at: usize, w: u32) -> usize
     ensures { Puts (encode word w) out.old at result out.new }
 {
-    if out.len() < 4 {
-        return 0;
-    }
-    if out.len() - 4 < at {
+    if out.len() < 4 || out.len() - 4 < at {
         return 0;
     }
     store_word(&mut out[at..], w);
@@ -37,67 +32,41 @@ fn store_hyper(out: &mut [u8], n: u64)
     requires { 8 ≤ length out.old }
     ensures { out.new ≡ filled out.old (encode hyper n) }
 {
-    store_word(out, (n / 4294967296) as u32);
-    store_word(&mut out[4..], (n % 4294967296) as u32);
+    out[..8].copy_from_slice(&n.to_be_bytes());
 }
 
 // A number of 64 bits, its highest byte first.
 pub fn put_hyper(out: &mut [u8], at: usize, n: u64) -> usize
     ensures { Puts (encode hyper n) out.old at result out.new }
 {
-    if out.len() < 8 {
-        return 0;
-    }
-    if out.len() - 8 < at {
+    if out.len() < 8 || out.len() - 8 < at {
         return 0;
     }
     store_hyper(&mut out[at..], n);
     8
 }
 
-// The first bytes of out become those of src.
-fn copy_bytes(out: &mut [u8], src: &[u8])
-    requires { length src.now ≤ length out.old }
-    ensures { out.new ≡ filled out.old src.now }
-{
-    let mut i = 0;
-    while i < src.len() {
-        out[i] = src[i];
-        i += 1;
-    }
-}
-
-// The same by way of an array of its own: two slices might overlap for all that the compiler knows, and an array overlaps neither,
-// so that each copy is one move of memory, and the two of them become one. Moves of 2,048 bytes and more are left to one instruction
-// (`rep movsb`), which some processors take sixteen times as long for where the two places lie a few bytes apart modulo 4,096.
+// All bytes become those of src, by way of an array: two slices might overlap for all that the compiler knows, and an array overlaps neither,
+// so that each copy is one move of memory, and the two of them become one.
 fn copy_chunk(out: &mut [u8], src: &[u8])
-    requires { (length src.now ≤ length out.old) × (length src.now ≤ 1536) }
-    ensures { out.new ≡ filled out.old src.now }
+    requires { (length out.old ≡ length src.now) × (length src.now ≤ 1536) }
+    ensures { out.new ≡ src.now }
 {
     let n = src.len();
-    let mut held = [0u8; 1536];
-    copy_bytes(&mut held, src);
-    copy_bytes(out, &held[..n]);
+    let mut held = [0; 1536];
+    held[..n].copy_from_slice(src);
+    out.copy_from_slice(&held[..n]);
 }
 
-// Where a chunk of a copy ends.
-fn chunk_end(at: usize, len: usize) -> usize
-    requires { at < len }
-    ensures { (at < result) × (result ≤ len) × (result ≤ at + 1536) }
-{
-    if len - at <= 1536 { len } else { at + 1536 }
-}
-
-// The first bytes of out become those of src, a chunk at a time.
+// The first bytes of out become those of src, a chunk at a time: moves of 2,048 bytes and more are left to one instruction (`rep movsb`),
+// which some processors take sixteen times as long for where the two places lie a few bytes apart modulo 4,096.
 fn copy(out: &mut [u8], src: &[u8])
     requires { length src.now ≤ length out.old }
     ensures { out.new ≡ filled out.old src.now }
 {
-    let mut at = 0;
-    while at < src.len() {
-        let end = chunk_end(at, src.len());
-        copy_chunk(&mut out[at..], &src[at..end]);
-        at = end;
+    for at in (0..src.len()).step_by(1536) {
+        let end = src.len().min(at + 1536);
+        copy_chunk(&mut out[at..end], &src[at..end]);
     }
 }
 
@@ -106,10 +75,7 @@ pub fn put_raw(out: &mut [u8], at: usize, src: &[u8]) -> usize
     ensures { Puts src.now out.old at result out.new }
 {
     let n = src.len();
-    if out.len() < n {
-        return 0;
-    }
-    if out.len() - n < at {
+    if out.len() < n || out.len() - n < at {
         return 0;
     }
     copy(&mut out[at..], src);
@@ -120,11 +86,7 @@ pub fn put_raw(out: &mut [u8], at: usize, src: &[u8]) -> usize
 fn clear(out: &mut [u8])
     ensures { out.new ≡ replicate (length out.old) 0 }
 {
-    let mut i = 0;
-    while i < out.len() {
-        out[i] = 0;
-        i += 1;
-    }
+    out.fill(0);
 }
 
 // An opaque at the front, where there is room for it: its length, its contents and its pad.
@@ -149,10 +111,7 @@ pub fn put_bytes(out: &mut [u8], at: usize, src: &[u8]) -> usize
         return 0;
     }
     let size = 4 + n + pad_after(n);
-    if out.len() < size {
-        return 0;
-    }
-    if out.len() - size < at {
+    if out.len() < size || out.len() - size < at {
         return 0;
     }
     store_bytes(&mut out[at..], src);

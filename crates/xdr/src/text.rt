@@ -63,34 +63,27 @@ fn plain_eight_at(s: &[u8], at: usize) -> bool
 fn past_eights(s: &[u8]) -> usize
     ensures { (result ≤ length s.now) × (sound_up_to s.now ≡ sound_after s.now result) }
 {
-    let mut i = 0;
-    while 8 <= s.len() - i {
-        if !plain_eight_at(s, i) {
-            return i;
+    let eights = s.len() / 8;
+    for i in 0..eights {
+        if !plain_eight_at(s, 8 * i) {
+            return 8 * i;
         }
-        i += 8;
     }
-    i
+    8 * eights
 }
 
 // Whether a byte is of a range.
 pub fn is_within(b: u8, low: u8, high: u8) -> bool
     ensures { result ≡ is_within low high b }
 {
-    if b < low {
-        return false;
-    }
-    b <= high
+    low <= b && b <= high
 }
 
 // Whether a byte of a range is at a place.
 fn follows_at(s: &[u8], at: usize, low: u8, high: u8) -> bool
     ensures { result ≡ followed_by 1 low high (drop at s.now) }
 {
-    if s.len() <= at {
-        return false;
-    }
-    is_within(s[at], low, high)
+    at < s.len() && is_within(s[at], low, high)
 }
 
 // Whether so many followers, three at most, are at a place, the first of them of a range.
@@ -98,22 +91,9 @@ fn followed(s: &[u8], at: usize, n: u8, low: u8, high: u8) -> bool
     requires { (at ≤ length s.now) × (n ≤ 3) }
     ensures { result ≡ followed_by n low high (drop at s.now) }
 {
-    if n == 0 {
-        return true;
-    }
-    if !follows_at(s, at, low, high) {
-        return false;
-    }
-    if n == 1 {
-        return true;
-    }
-    if !follows_at(s, at + 1, 128, 191) {
-        return false;
-    }
-    if n == 2 {
-        return true;
-    }
-    follows_at(s, at + 2, 128, 191)
+    (n == 0 || follows_at(s, at, low, high))
+        && (n <= 1 || follows_at(s, at + 1, 128, 191))
+        && (n <= 2 || follows_at(s, at + 2, 128, 191))
 }
 
 // Whether a sequence of two bytes is at a place.
@@ -121,10 +101,7 @@ fn pair_at(s: &[u8], at: usize) -> bool
     requires { at + 2 ≤ length s.now }
     ensures { result ≡ true → Whole s.now at 2 }
 {
-    if !is_within(s[at], 194, 223) {
-        return false;
-    }
-    is_within(s[at + 1], 128, 191)
+    is_within(s[at], 194, 223) && is_within(s[at + 1], 128, 191)
 }
 
 // Whether two of them are.
@@ -132,10 +109,7 @@ fn pairs_at(s: &[u8], at: usize) -> bool
     requires { at + 4 ≤ length s.now }
     ensures { result ≡ true → Whole s.now at 4 }
 {
-    if !pair_at(s, at) {
-        return false;
-    }
-    pair_at(s, at + 2)
+    pair_at(s, at) && pair_at(s, at + 2)
 }
 
 // Whether a sequence of three bytes is at a place, with a lead that no range is narrowed after.
@@ -143,13 +117,7 @@ fn three_at(s: &[u8], at: usize) -> bool
     requires { at + 3 ≤ length s.now }
     ensures { result ≡ true → Whole s.now at 3 }
 {
-    if !is_within(s[at], 225, 236) {
-        return false;
-    }
-    if !is_within(s[at + 1], 128, 191) {
-        return false;
-    }
-    is_within(s[at + 2], 128, 191)
+    is_within(s[at], 225, 236) && is_within(s[at + 1], 128, 191) && is_within(s[at + 2], 128, 191)
 }
 
 // Whether a sequence of four bytes is at a place, with F0 for a lead: those of pictures have no other.
@@ -157,19 +125,11 @@ fn four_at(s: &[u8], at: usize) -> bool
     requires { at ≤ length s.now }
     ensures { result ≡ true → Whole s.now at 4 }
 {
-    if s.len() - at < 4 {
-        return false;
-    }
-    if s[at] != 240 {
-        return false;
-    }
-    if !is_within(s[at + 1], 144, 191) {
-        return false;
-    }
-    if !is_within(s[at + 2], 128, 191) {
-        return false;
-    }
-    is_within(s[at + 3], 128, 191)
+    4 <= s.len() - at
+        && s[at] == 240
+        && is_within(s[at + 1], 144, 191)
+        && is_within(s[at + 2], 128, 191)
+        && is_within(s[at + 3], 128, 191)
 }
 
 // The bytes of the sequence at a place, 0 where it breaks the rule.
@@ -178,26 +138,14 @@ fn one_at(s: &[u8], at: usize) -> usize
     ensures { Advance s.now at result }
 {
     let b = s[at];
-    let n = followers(b);
-    if n == 0 {
-        return 1;
+    match followers(b) {
+        0 => 1,
+        1 if follows_at(s, at + 1, 128, 191) => 2,
+        1 => 0,
+        _ if four_at(s, at) => 4,
+        n if n <= 3 && followed(s, at + 1, n, lowest(b), highest(b)) => 1 + n as usize,
+        _ => 0,
     }
-    if n == 1 {
-        if follows_at(s, at + 1, 128, 191) {
-            return 2;
-        }
-        return 0;
-    }
-    if four_at(s, at) {
-        return 4;
-    }
-    if 3 < n {
-        return 0;
-    }
-    if followed(s, at + 1, n, lowest(b), highest(b)) {
-        return 1 + (n as usize);
-    }
-    0
 }
 
 // The bytes of sequences at a place, four bytes at once where that can be, 0 where the first breaks the rule.
@@ -206,10 +154,7 @@ fn step_at(s: &[u8], at: usize) -> usize
     ensures { Advance s.now at result }
 {
     if 4 <= s.len() - at {
-        if plain_at(s, at) {
-            return 4;
-        }
-        if pairs_at(s, at) {
+        if plain_at(s, at) || pairs_at(s, at) {
             return 4;
         }
         if s[at] < 128 {
@@ -227,6 +172,7 @@ pub fn sound_up_to(s: &[u8]) -> usize
     ensures { result ≡ sound_up_to s.now }
 {
     let mut i = past_eights(s);
+    // A `while`, since a step is as long as what it finds: no iterator goes by such steps.
     while i < s.len() {
         let n = step_at(s, i);
         if n == 0 {

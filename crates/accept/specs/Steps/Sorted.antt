@@ -1,5 +1,6 @@
 -- For the steps of accepting: the records of a message in order, by their places.
-use Rattle.std.specs.Prelude.{ℕ, ◌+◌, ◌-◌, ◌≤◌, List, [], ◌∷◌, ◌++◌, ◌≡◌, Bool, false, length, take, drop}
+use Rattle.std.specs.Prelude.{ℕ, ◌+◌, ◌-◌, ◌≤◌, List, [], ◌∷◌, ◌++◌, ◌≡◌, Bool, false, length, take, drop, Ok, Err}
+use Rattle.std.specs.declared.result.Result.{Result}
 use Rattle.xdr.specs.Format.{Valid, AllOf}
 use Rattle.xdr.specs.Filling.{Outcome, refuses}
 use Rattle.record.specs.File.{File, file}
@@ -8,8 +9,6 @@ use Rattle.table.specs.Table.{records, table_of}
 use Rattle.table.specs.Steps.Standing.{At}
 use Rattle.accept.specs.Resulting.{is_named, by_name, resulting}
 use Rattle.accept.specs.Accepting.{unrepeated, of_records}
-use Rattle.accept.specs.declared.accepting.Sorting.{Sorting}
-use Rattle.accept.specs.declared.accepting.Sorting.TheVariants as S
 
 -- an array of records, encoded
 pub record IsArray (s : List ℕ) : Type 0 where
@@ -49,6 +48,6 @@ pub record SortedPlaces (s places : List ℕ) : Type 0 where
   pub unrefused : (base : ℕ) (next : Outcome) → unrepeated [] (base + 4) (records s) next ≡ next
 
 -- what sorting answers and leaves: the places in order, or the place of the first record whose name stood before
-abbrev pub SortedTo : (s places : List ℕ) → Sorting → Type 0
-SortedTo s places (S.Sorted n) = (n ≤ length places) × SortedPlaces s (take n places)
-SortedTo s places (S.Repeated p) = (p ≤ length s) × ((base : ℕ) (next : Outcome) → unrepeated [] (base + 4) (records s) next ≡ refuses 13 (base + p))
+abbrev pub SortedTo : (s places : List ℕ) → Result ℕ ℕ → Type 0
+SortedTo s places (Ok n) = (n ≤ length places) × SortedPlaces s (take n places)
+SortedTo s places (Err p) = (p ≤ length s) × ((base : ℕ) (next : Outcome) → unrepeated [] (base + 4) (records s) next ≡ refuses 13 (base + p))

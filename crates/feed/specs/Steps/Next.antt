@@ -1,5 +1,5 @@
 -- The steps from a state to the next: after a word, in a string, past bytes that are passed over.
-use Rattle.std.specs.Prelude.{ℕ, zero, suc, ◌+◌, ◌*◌, ◌-◌, Bool, true, false, cond, not, leb, ltb, eqb}
+use Rattle.std.specs.Prelude.{ℕ, zero, suc, ◌+◌, ◌*◌, ◌-◌, Bool, true, false, cond, not, leb, ltb, eqb, Ok, Err, Some, None}
 use Rattle.xdr.specs.Pad.{padded}
 use Rattle.record.specs.Limits.{flags_bound, blocks_limit, hash_length}
 use Rattle.record.specs.Block.{is_size}
@@ -10,8 +10,7 @@ use Rattle.message.specs.Message.{Kind, is_index, is_request, is_response, is_pi
 use Rattle.message.specs.declared.edition.Edition.{Edition}
 use Rattle.message.specs.declared.edition.Edition.TheVariants as E
 use Rattle.feed.specs.Rest.{part_after, rule_of, limit_of, passes, fills, leads, fresh, scan_after, options_goal, behind_string, gathered, at_goal, stopped}
-use Rattle.feed.specs.declared.state.Answer.{Answer}
-use Rattle.feed.specs.declared.state.Answer.TheVariants as A
+use Rattle.feed.specs.Answer.{Answer}
 use Rattle.feed.specs.declared.state.Cursor.{Cursor}
 use Rattle.feed.specs.declared.state.Scan.{Scan}
 use Rattle.feed.specs.declared.state.Goal.{Goal}
@@ -134,11 +133,11 @@ wants (G.Stopped n) = false
 
 -- what a goal at a place says: it waits unless it is at its end
 abbrev pub goal_says : Goal → ℕ → Answer
-goal_says (G.Word f) p = A.Waiting
-goal_says (G.String l) p = A.Waiting
-goal_says (G.Skip n a) p = A.Waiting
-goal_says G.Ended p = A.Ended p
-goal_says (G.Stopped n) p = A.Refused (record { number = n; place = p })
+goal_says (G.Word f) p = Ok None
+goal_says (G.String l) p = Ok None
+goal_says (G.Skip n a) p = Ok None
+goal_says G.Ended p = Ok (Some p)
+goal_says (G.Stopped n) p = Err (record { number = n; place = p })
 
 -- what a state says
 abbrev pub says : Cursor → Answer

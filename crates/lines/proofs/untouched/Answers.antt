@@ -1,12 +1,11 @@
-use Rattle.std.proofs.Common.{sym, ◌∙◌, rules}
-use Rattle.lines.proofs.BufferLaws.{fill_next, fill_broken, fill_end}
+-- All bytes are the fill.
+use Rattle.std.proofs.Common.{◌∙◌, sym, rules}
+use borrow.Author.Tests.{tests}
+use Rattle.std.proofs.lemmas.Iterator.{YieldsList-from_slice}
+use Rattle.std.proofs.lemmas.Iterator.Search.{all_from_yields_List}
+use Rattle.lines.proofs.BufferLaws.{is_fill, fills}
 use Rattle.lines.proofs.untouched.Goals as goal
 
-pub returns-then-out-i : goal.returns-then-out-i
-returns-then-out-i c = sym (c.loop-i.invariant ∙ fill_broken c.args.out.now c.loop-i.i (search rules) c.if-out-i.true)
-
-pub loop-i-preserved : goal.loop-i-preserved
-loop-i-preserved c = c.loop-i.invariant ∙ fill_next c.args.out.now c.loop-i.i (search rules) c.if-out-i.false
-
 pub returns : goal.returns
-returns c = sym (c.loop-i.invariant ∙ fill_end c.args.out.now c.loop-i.i (search rules))
+returns c =
+    all_from_yields_List is_fill _ _ c.all.result c.all.ensures.ran (YieldsList-from_slice c.args.out.now cc) (λ x b q k. search (rules, tests)) ∙ sym (fills c.args.out.now)

@@ -1,8 +1,10 @@
 -- For the steps that make a table: the records that it takes, noted in two numbers each, and what is put of them.
-use Rattle.std.specs.Prelude.{ℕ, ◌+◌, ◌≤◌, List, [], ◌∷◌, ◌++◌, ◌≡◌, cond, ◌&&◌, length, take, leb, ltb, eqb}
+use Rattle.std.specs.Prelude.{ℕ, ◌+◌, ◌≤◌, List, [], ◌∷◌, ◌++◌, ◌≡◌, cond, ◌&&◌, length, take, leb, ltb, eqb, Some, None}
+use Rattle.std.specs.declared.result.Result.{Result}
+use Rattle.std.specs.declared.option.Option.{Option}
+use Rattle.xdr.specs.declared.answer.Refusal.{Refusal}
 use Rattle.xdr.specs.Buffer.{over}
 use Rattle.xdr.specs.Filling.{Fills}
-use Rattle.xdr.specs.declared.filling.Filling.{Filling}
 use Rattle.record.specs.File.{File}
 use Rattle.order.specs.Order.{part}
 use Rattle.table.specs.Limits.{records_limit}
@@ -10,8 +12,6 @@ use Rattle.table.specs.Table.{table_of, resulting_table}
 use Rattle.table.specs.Steps.Standing.{bytes_of}
 use Rattle.merge.specs.declared.next.Pick.{Pick}
 use Rattle.merge.specs.declared.notes.Size.{Size}
-use Rattle.merge.specs.declared.notes.Joined.{Joined}
-use Rattle.merge.specs.declared.notes.Joined.TheVariants.{Apart, One}
 
 -- a record of the first table is noted as where it starts and where it ends, one of the second the other way round
 abbrev pub note_of : Pick → List ℕ
@@ -28,8 +28,8 @@ noted_all a b (x ∷ []) = []
 noted_all a b (x ∷ y ∷ l) = noted a b x y ++ noted_all a b l
 
 -- two notes as one, where the second goes on in the same table at the place where the first ends
-abbrev pub joined_of : (x y u v : ℕ) → Joined
-joined_of x y u v = cond (leb x y) (cond (eqb u y && leb u v) (One x v) Apart) (cond (eqb v x && ltb v u) (One u y) Apart)
+abbrev pub joined_of : (x y u v : ℕ) → Option (ℕ × ℕ)
+joined_of x y u v = cond (leb x y) (cond (eqb u y && leb u v) (Some (x, v)) None) (cond (eqb v x && ltb v u) (Some (u, y)) None)
 
 -- all that are noted are put into a buffer from a place on, where there is room for them
 abbrev pub PutsNotes : (a b notes out : List ℕ) → (at : ℕ) → (after : List ℕ) → Type 0
@@ -47,5 +47,5 @@ pub record Noted (a b notes : List ℕ) (fs : List File) (size : Size) : Type 0 
   pub measured : Measured a b (take size.noted notes) fs size
 
 -- the table of the records that were measured and noted is put into a buffer
-abbrev pub PutsTable : (a b notes : List ℕ) → Size → (out : List ℕ) → Filling → (after : List ℕ) → Type 0
+abbrev pub PutsTable : (a b notes : List ℕ) → Size → (out : List ℕ) → Result ℕ Refusal → (after : List ℕ) → Type 0
 PutsTable a b notes size out r after = (fs : List File) → Measured a b notes fs size → Fills (resulting_table fs) out r after

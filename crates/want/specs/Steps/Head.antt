@@ -1,13 +1,13 @@
 -- For the steps of the list: the next name over several tables, with a place in each: the table with its highest record, and where each goes on after it.
-use Rattle.std.specs.Prelude.{ℕ, ◌+◌, ◌-◌, ◌≤◌, ◌<◌, List, [], ◌∷◌, ◌≡◌, Bool, true, false, length}
+use Rattle.std.specs.Prelude.{Some, None}
+use Rattle.std.specs.declared.option.Option.{Option}
+use Rattle.std.specs.Prelude.{ℕ, ◌+◌, ◌-◌, ◌≤◌, ◌<◌, List, [], ◌∷◌, ◌≡◌, length}
 use Rattle.record.specs.File.{File}
 use Rattle.record.specs.Outline.{word_at, past_string, fields_from, outline_of, fields_of}
 use Rattle.record.specs.declared.outline.RecordFields.{RecordFields}
-use Rattle.record.specs.declared.outline.Outline.{Outline}
-use Rattle.record.specs.declared.outline.Outline.TheVariants as O
 use Rattle.order.specs.Order.{compare_lists, part}
-use Rattle.order.specs.declared.compare.Order.{Order}
-use Rattle.order.specs.declared.compare.Order.TheVariants.{Less, Equal, Greater}
+use Rattle.std.specs.declared.cmp.Ordering.{Ordering}
+use Rattle.std.specs.declared.cmp.Ordering.TheVariants.{Less, Equal, Greater}
 use Rattle.table.specs.Newest.{compare_at}
 use Rattle.table.specs.Steps.Standing.{At}
 use Rattle.want.specs.Steps.Places.{table_at, place_at, lowest_from, past_name}
@@ -35,7 +35,7 @@ pub record Stood (t : List ℕ) (f : RecordFields) : Type 0 where
   pub here : At t place (head ∷ tail)
 
 -- an outline of a place where records stand
-abbrev pub Kept : List ℕ → Outline → Type 0
+abbrev pub Kept : List ℕ → Option RecordFields → Type 0
 Kept t o = (at : ℕ) × (o ≡ outline_of t at) × Stands t at
 
 -- the same numbers
@@ -46,7 +46,7 @@ pub record AlikeFields (f g : RecordFields) : Type 0 where
   pub flags_same : f.flags ≡ g.flags
 
 -- by how the names compare, and where these are the same by which is the higher
-abbrev pub rank_in : (names records : Order) → Rank
+abbrev pub rank_in : (names records : Ordering) → Rank
 rank_in Less o = Before
 rank_in Greater o = After
 rank_in Equal Less = Newer
@@ -58,28 +58,28 @@ abbrev pub rank_by : List ℕ → RecordFields → List ℕ → RecordFields →
 rank_by a f b g = rank_in (compare_lists (name_at a f) (name_at b g)) (compare_at a f b g)
 
 -- how the record of the second stands to that of the first, by the outlines of what stands at their places
-abbrev pub rank_of : List ℕ → Outline → List ℕ → Outline → Rank
-rank_of a f b O.Short = Before
-rank_of a O.Short b (O.Whole g) = After
-rank_of a (O.Whole f) b (O.Whole g) = rank_by a f b g
+abbrev pub rank_of : List ℕ → Option RecordFields → List ℕ → Option RecordFields → Rank
+rank_of a f b None = Before
+rank_of a None b (Some g) = After
+rank_of a (Some f) b (Some g) = rank_by a f b g
 
 -- where a table goes on after its record
-abbrev pub past_of : Outline → ℕ → ℕ
-past_of O.Short at = at
-past_of (O.Whole f) at = f.past
+abbrev pub past_of : Option RecordFields → ℕ → ℕ
+past_of None at = at
+past_of (Some f) at = f.past
 
 -- a table goes on at x after a name, and has no record below it
 pub record Passed (name t : List ℕ) (at x : ℕ) : Type 0 where
   pub is : x ≡ past_name name t at
-  pub not_lower : (g : RecordFields) → outline_of t at ≡ O.Whole g → compare_lists (name_at t g) name ≡ Less → ⊥
+  pub not_lower : (g : RecordFields) → outline_of t at ≡ Some g → compare_lists (name_at t g) name ≡ Less → ⊥
 
 -- the same by the record that has the name; where there is none, the table has none too
-abbrev pub Behind : (best : List ℕ) → Outline → (t : List ℕ) → (at x : ℕ) → Type 0
-Behind best O.Short t at x = (outline_of t at ≡ O.Short) × (x ≡ at)
-Behind best (O.Whole f) t at x = Passed (name_at best f) t at x
+abbrev pub Behind : (best : List ℕ) → Option RecordFields → (t : List ℕ) → (at x : ℕ) → Type 0
+Behind best None t at x = (outline_of t at ≡ None) × (x ≡ at)
+Behind best (Some f) t at x = Passed (name_at best f) t at x
 
 -- of the tables below k, `best` has the next record, with these fields; `past` is where they go on after its name, and of the other tables the places
-pub record Headed (ts : List (List ℕ)) (ps : List ℕ) (k best : ℕ) (fields : Outline) (past : List ℕ) : Type 0 where
+pub record Headed (ts : List (List ℕ)) (ps : List ℕ) (k best : ℕ) (fields : Option RecordFields) (past : List ℕ) : Type 0 where
   pub low : lowest_from ts ps 0 1 4 ≡ lowest_from ts ps best k (5 - k)
   pub small : best < 5
   pub fields_are : fields ≡ outline_of (table_at ts best) (place_at ps best)
@@ -92,20 +92,21 @@ abbrev pub AllStand : List (List ℕ) → List ℕ → Type 0
 AllStand ts ps = (k : ℕ) → k < 5 → Stands (table_at ts k) (place_at ps k)
 
 -- the name of a record, where there is one
-abbrev pub name_in : List ℕ → Outline → List (List ℕ)
-name_in t O.Short = []
-name_in t (O.Whole f) = name_at t f ∷ []
+abbrev pub name_in : List ℕ → Option RecordFields → List (List ℕ)
+name_in t None = []
+name_in t (Some f) = name_at t f ∷ []
 
 -- two of these: where there is none, it comes last
-abbrev pub order_in : (m n : List (List ℕ)) → Order
+abbrev pub order_in : (m n : List (List ℕ)) → Ordering
 order_in m [] = Less
 order_in [] (y ∷ n) = Greater
 order_in (x ∷ m) (y ∷ n) = compare_lists x y
 
--- the tables go on at `past` after the next name, whichever table has its highest record; or they have ended
-pub record Passes (ts : List (List ℕ)) (ps past : List ℕ) (ended : Bool) : Type 0 where
+-- where the tables go on after the next name, whichever table has its highest record; none where they have ended
+pub record Passes (ts : List (List ℕ)) (ps : List ℕ) (x : Option (List ℕ)) : Type 0 where
   pub best : ℕ
-  pub fields : Outline
+  pub fields : Option RecordFields
+  pub past : List ℕ
   pub headed : Headed ts ps 5 best fields past
-  pub none : ended ≡ true → fields ≡ O.Short
-  pub some : ended ≡ false → (f : RecordFields) × (fields ≡ O.Whole f)
+  pub none : x ≡ None → fields ≡ None
+  pub some : (qs : List ℕ) → x ≡ Some qs → (qs ≡ past) × (f : RecordFields) × (fields ≡ Some f)

@@ -1,27 +1,26 @@
 -- For the steps of the list (`lists_at` serves the ruling too): five tables side by side, with a place in each, which record is next by name,
 -- and what goes by the records at the places.
+use Rattle.std.specs.Prelude.{Some, None}
+use Rattle.std.specs.declared.option.Option.{Option}
 use Rattle.std.specs.Prelude.{ℕ, zero, suc, ◌+◌, ◌<◌, List, [], ◌∷◌, map, ◌≡◌, Bool, true, false, cond, eqb, length, get_or, drop}
 use Rattle.xdr.specs.Number.{IsBytes}
 use Rattle.record.specs.Block.{Block}
 use Rattle.record.specs.File.{File}
 use Rattle.record.specs.Outline.{outline_of}
 use Rattle.record.specs.declared.outline.RecordFields.{RecordFields}
-use Rattle.record.specs.declared.outline.Outline.{Outline}
-use Rattle.record.specs.declared.outline.Outline.TheVariants as O
 use Rattle.table.specs.Table.{is_good, records}
 use Rattle.order.specs.Order.{is_equal, compare_lists, part}
 use Rattle.merge.specs.Steps.Next.{next_of}
-use Rattle.merge.specs.declared.next.Next.{Next}
-use Rattle.merge.specs.declared.next.Next.TheVariants.{End, More}
 use Rattle.want.specs.Listing.{is_held, has_there}
 use Rattle.want.specs.Steps.Blocks.{blocks_from, listed_count}
 use Rattle.want.specs.Wanted.{request_list}
 use Rattle.want.specs.declared.list.Wanted.{Wanted}
+use Rattle.merge.specs.declared.next.Pick.{Pick}
 
 -- the first of two records is the next
-abbrev pub is_first : Next → Bool
-is_first End = true
-is_first (More s) = s.left
+abbrev pub is_first : Option Pick → Bool
+is_first None = true
+is_first (Some s) = s.left
 
 -- table k
 abbrev pub table_at : List (List ℕ) → ℕ → List ℕ
@@ -41,9 +40,9 @@ lowest_from ts ps best k zero = best
 lowest_from ts ps best k (suc left) = lowest_from ts ps (lower_of ts ps best k) (k + 1) left
 
 -- by the outline at a place: the place after a record of that name, and otherwise the same place
-abbrev pub past_by : (name t : List ℕ) → (at : ℕ) → Outline → ℕ
-past_by name t at O.Short = at
-past_by name t at (O.Whole f) = cond (is_equal (compare_lists (part t f.name f.stop) name)) f.past at
+abbrev pub past_by : (name t : List ℕ) → (at : ℕ) → Option RecordFields → ℕ
+past_by name t at None = at
+past_by name t at (Some f) = cond (is_equal (compare_lists (part t f.name f.stop) name)) f.past at
 
 -- where a table goes on after a name: past the record at its place where it is of that name
 unfoldable pub past_name : (name t : List ℕ) → (at : ℕ) → ℕ
@@ -54,9 +53,9 @@ abbrev pub places_after : List (List ℕ) → List ℕ → (name : List ℕ) →
 places_after ts ps name = map (λ k. past_name name (table_at ts k) (place_at ps k)) (0 ∷ 1 ∷ 2 ∷ 3 ∷ 4 ∷ [])
 
 -- by its outline: a record is of that name and lists a block there
-abbrev pub lists_by : (t name : List ℕ) → (offset : ℕ) → Block → Outline → Bool
-lists_by t name offset b O.Short = false
-lists_by t name offset b (O.Whole f) =
+abbrev pub lists_by : (t name : List ℕ) → (offset : ℕ) → Block → Option RecordFields → Bool
+lists_by t name offset b None = false
+lists_by t name offset b (Some f) =
     cond (is_equal (compare_lists (part t f.name f.stop) name)) (has_there 0 (blocks_from t f.first 0 (listed_count f)) offset b) false
 
 -- the record at a place is of that name and lists a block there
@@ -85,7 +84,7 @@ pub record Idle (ts : List (List ℕ)) (ps qs : List ℕ) : Type 0 where
   pub best : ℕ
   pub fields : RecordFields
   pub lowest : best ≡ lowest_from ts ps 0 1 4
-  pub outline_is : outline_of (table_at ts best) (place_at ps best) ≡ O.Whole fields
+  pub outline_is : outline_of (table_at ts best) (place_at ps best) ≡ Some fields
   pub none : sought_of best fields ≡ 0
   pub after : qs ≡ places_after ts ps (part (table_at ts best) fields.name fields.stop)
 

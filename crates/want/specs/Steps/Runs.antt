@@ -1,9 +1,9 @@
 -- For the steps of the list: runs of blocks, marks in them, and the runs that the peers list under a name.
+use Rattle.std.specs.Prelude.{Some, None}
+use Rattle.std.specs.declared.option.Option.{Option}
 use Rattle.std.specs.Prelude.{ℕ, ◌+◌, ◌-◌, ◌*◌, ◌≤◌, ◌<◌, List, [], ◌∷◌, ◌≡◌, Bool, cond, eqb, length, get_or}
 use Rattle.record.specs.Block.{Block}
 use Rattle.record.specs.Outline.{outline_of, blocks_size}
-use Rattle.record.specs.declared.outline.Outline.{Outline}
-use Rattle.record.specs.declared.outline.Outline.TheVariants as O
 use Rattle.want.specs.Listing.{has_there}
 use Rattle.want.specs.Steps.Blocks.{blocks_from, listed_count}
 use Rattle.want.specs.Steps.Places.{table_at, place_at, first_of}
@@ -13,6 +13,7 @@ use Rattle.want.specs.declared.list.Wanted.{Wanted}
 use Rattle.want.specs.declared.turn.Turn.{Turn}
 use Rattle.want.specs.declared.run.Run.{Run}
 use Rattle.want.specs.declared.run.Mark.{Mark}
+use Rattle.record.specs.declared.outline.RecordFields.{RecordFields}
 
 -- one of the blocks of a run, from a mark on, is this one at an offset
 abbrev pub is_ahead : List ℕ → Run → Mark → (offset : ℕ) → Block → Bool
@@ -42,9 +43,9 @@ abbrev pub run_at : List Run → ℕ → Run
 run_at rs k = get_or rs k no_run
 
 -- by its outline: the blocks that a record lists
-abbrev pub run_by : Outline → Run
-run_by O.Short = no_run
-run_by (O.Whole f) = record { first = f.first; count = listed_count f }
+abbrev pub run_by : Option RecordFields → Run
+run_by None = no_run
+run_by (Some f) = record { first = f.first; count = listed_count f }
 
 -- the blocks that the record at a place lists, where the table goes on past it
 unfoldable pub run_from : List ℕ → (at past : ℕ) → Run
@@ -68,11 +69,14 @@ peer_in ts rs offset b = first_of (λ k. has_run (table_at ts k) (run_at rs k) o
 abbrev pub mark_of : (j from : ℕ) → Mark
 mark_of j from = record { j = j; from = from }
 
+-- mark k
+abbrev pub mark_at : List Mark → ℕ → Mark
+mark_at ms k = get_or ms k (mark_of 0 0)
+
 -- a mark in each run
-pub record Along (ts : List (List ℕ)) (rs : List Run) (js froms : List ℕ) (offset : ℕ) : Type 0 where
-  pub many : length js ≡ 5
-  pub as_many : length froms ≡ 5
-  pub marked : (k : ℕ) → k < 5 → Marked (table_at ts k) (run_at rs k) (mark_of (place_at js k) (place_at froms k)) offset
+pub record Along (ts : List (List ℕ)) (rs : List Run) (ms : List Mark) (offset : ℕ) : Type 0 where
+  pub many : length ms ≡ 5
+  pub marked : (k : ℕ) → k < 5 → Marked (table_at ts k) (run_at rs k) (mark_at ms k) offset
 
 -- the runs are within the tables
 abbrev pub InTables : List (List ℕ) → List Run → Type 0

@@ -1,6 +1,5 @@
 -- `feed::feeding::feed_sound` meets its contract.
 use mathlib.Core.Path.{refl, sym, ◌∙◌}
-use borrow.Author.Tests.{not-true, not-false}
 use Rattle.feed.proofs.MoveLaws.{fed_through, fed_final, fed_as}
 use borrow.Author.Rules.{rules}
 use Rattle.feed.proofs.feeding.feed_sound.Statement.{statement}

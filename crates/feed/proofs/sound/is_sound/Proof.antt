@@ -1,7 +1,6 @@
 -- `feed::sound::is_sound` meets its contract.
 use mathlib.Core.Path.{sym, ap, ◌∙◌}
 use mathlib.Core.Bool.{Bool, ◌&&◌}
-use borrow.Author.Tests.{not-true, not-false}
 use Rattle.feed.specs.Sound.{front_test}
 use borrow.Author.Rules.{rules}
 use Rattle.feed.proofs.sound.is_sound.Statement.{statement}

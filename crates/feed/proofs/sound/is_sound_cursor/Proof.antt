@@ -1,7 +1,6 @@
 -- `feed::sound::is_sound_cursor` meets its contract.
 use mathlib.Core.Path.{sym, ap, ◌∙◌}
 use mathlib.Core.Bool.{Bool}
-use borrow.Author.Tests.{not-true, not-false}
 use Rattle.feed.specs.Sound.{fits_test, is_sound_cursor}
 use mathlib.Core.Bool.{◌&&◌}
 use borrow.Author.Rules.{rules}

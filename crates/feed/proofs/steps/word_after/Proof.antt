@@ -1,6 +1,5 @@
 -- `feed::steps::word_after` meets its contract.
 use borrow.Author.Tests.{lt-ltb, le-ltb}
-use Rattle.feed.specs.Rest.{gathered}
 use borrow.Author.Rules.{rules}
 use Rattle.feed.proofs.steps.word_after.Statement.{statement}
 use Rattle.feed.proofs.steps.word_after.Tie as tie

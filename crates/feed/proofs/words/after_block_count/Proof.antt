@@ -1,7 +1,6 @@
 -- `feed::words::after_block_count` meets its contract.
 use mathlib.Core.Path.{sym, ◌∙◌}
-use borrow.Author.Tests.{le-leb, lt-leb, not-true, not-false}
-use Rattle.feed.specs.Rest.{stopped}
+use borrow.Author.Tests.{le-leb, lt-leb}
 use Rattle.feed.specs.Steps.Next.{after_word}
 use borrow.Author.Rules.{rules}
 use Rattle.feed.proofs.words.after_block_count.Statement.{statement}

@@ -1,6 +1,5 @@
 -- `feed::words::after_file_count` meets its contract.
 use borrow.Author.Tests.{le-leb, lt-leb}
-use Rattle.feed.specs.Rest.{stopped}
 use Rattle.feed.specs.Steps.Next.{after_word}
 use borrow.Author.Rules.{rules}
 use Rattle.feed.proofs.words.after_file_count.Statement.{statement}

@@ -1,6 +1,5 @@
 -- `feed::words::after_flags` meets its contract.
 use borrow.Author.Tests.{lt-ltb, le-ltb}
-use Rattle.feed.specs.Rest.{stopped}
 use Rattle.feed.specs.Steps.Next.{after_word}
 use borrow.Author.Rules.{rules}
 use Rattle.feed.proofs.words.after_flags.Statement.{statement}

@@ -1,6 +1,5 @@
 -- `feed::words::after_hash_length` meets its contract.
 use borrow.Author.Tests.{eq-eqb, ne_eqb}
-use Rattle.feed.specs.Rest.{stopped}
 use Rattle.feed.specs.Steps.Next.{after_word}
 use borrow.Author.Rules.{rules}
 use Rattle.feed.proofs.words.after_hash_length.Statement.{statement}

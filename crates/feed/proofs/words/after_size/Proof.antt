@@ -1,6 +1,5 @@
 -- `feed::words::after_size` meets its contract.
 use mathlib.Core.Path.{sym, ◌∙◌}
-use Rattle.feed.specs.Rest.{stopped}
 use Rattle.feed.specs.Steps.Next.{after_word}
 use borrow.Author.Rules.{rules}
 use Rattle.feed.proofs.words.after_size.Statement.{statement}

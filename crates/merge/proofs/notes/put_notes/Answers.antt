@@ -1,30 +1,27 @@
-use Rattle.std.proofs.Common.{refl, arith}
-use Rattle.merge.specs.Steps.Notes.{noted}
-use Rattle.merge.proofs.NoteLaws.{put_within, to_put_first, to_put_same, to_put_joined, to_put_next, to_put_last}
+use Rattle.std.proofs.Common.{ℕ, suc, ◌-◌, ◌≤◌, List, [], ◌∷◌, ◌≡◌, length, take, drop, get_or, subst, sym, ap, arith}
+use Rattle.std.proofs.lemmas.List.{take_all}
+use Rattle.merge.proofs.NoteLaws.{ToPut, to_put_joined, to_put_next, to_put_last}
 use Rattle.merge.proofs.notes.put_notes.Goals as goal
-use Rattle.merge.proofs.notes.put_notes.Goals.{in-One, in-Apart}
 
-pub loop-k-init : goal.loop-k-init
-loop-k-init c = let s = c.args in (λ h. to_put_first s.a.now s.b.now s.notes.now s.out.now s.at h, omega arith)
+-- the first two of the notes that are left, and the others
+opened : (l : List ℕ) → 2 ≤ length l → l ≡ get_or l 0 0 ∷ get_or l 1 0 ∷ take (length l - 2) (drop 2 l)
+opened [] h = absurd (omega arith)
+opened (x ∷ []) h = absurd (omega arith)
+opened (x ∷ y ∷ l) h = ap (λ (r : List ℕ). x ∷ y ∷ r) (sym (take_all (suc (suc (length l)) - 2) l (omega arith)))
 
-pub overflow_add-to : goal.overflow_add-to
-overflow_add-to c =
-    let l = c.loop-k in
-    omega (arith, put_within l.out l.to (noted c.args.a.now c.args.b.now l.x l.y) 18446744073709551615 (omega arith) (omega arith) c.put_note-to.ensures.0)
+pub loop-left-preserved-in-Some : goal.loop-left-preserved-in-Some
+loop-left-preserved-in-Some c h =
+    let a = c.args in
+    to_put_joined a.a.now a.b.now
+    (subst (λ (l : List ℕ). ToPut a.a.now a.b.now a.notes.now a.out.now a.at c.loop-left.out c.loop-left.to c.loop-left.x c.loop-left.y l) (opened c.loop-left.left.now (omega arith)) (c.loop-left.invariant h))
+    c.join.ensures c.in-Some.is
 
-pub loop-k-preserved : goal.loop-k-preserved
-loop-k-preserved c =
-    let l = c.loop-k in
-    elim c.match-join.branch [
-      | in-One w ↦ (
-        λ h. to_put_same c.args.a.now c.args.b.now w.out-is w.x-is w.y-is w.to-is (to_put_joined c.args.a.now c.args.b.now (l.invariant.0 h) (omega arith) refl refl c.join.ensures w.in-One.is),
-        omega arith,
-      )
-      | in-Apart w ↦ (
-        λ h. to_put_same c.args.a.now c.args.b.now w.out-is w.x-is w.y-is w.to-is (to_put_next c.args.a.now c.args.b.now (l.invariant.0 h) (omega arith) refl refl w.put_note-to.ensures),
-        omega arith,
-      )
-    ]
+pub loop-left-preserved : goal.loop-left-preserved
+loop-left-preserved c h =
+    let a = c.args in
+    to_put_next a.a.now a.b.now
+    (subst (λ (l : List ℕ). ToPut a.a.now a.b.now a.notes.now a.out.now a.at c.loop-left.out c.loop-left.to c.loop-left.x c.loop-left.y l) (opened c.loop-left.left.now (omega arith)) (c.loop-left.invariant h))
+    c.put_note-to.ensures
 
 pub returns : goal.returns
-returns c h = to_put_last c.args.a.now c.args.b.now (c.loop-k.invariant.0 h) (omega arith) c.put_note.ensures
+returns c h = to_put_last c.args.a.now c.args.b.now (c.loop-left.invariant h) (omega arith) c.put_note.ensures

@@ -1,5 +1,4 @@
 -- `want::head::is_same` meets its contract.
-use borrow.Author.Tests.{not-false}
 use Rattle.want.proofs.FieldLaws.{within}
 use Rattle.want.proofs.SameRecordLaws.{never, same_empty, told_same}
 use borrow.Author.Rules.{rules}
@@ -25,7 +24,7 @@ returns c =
     let k = c.before.before.before.before.before.before in
     let s = k.before.before.before.before in
     told_same s.requires.0 s.requires.1 (k.before.is_alike.ensures (k.if-not-is_alike.false))
-    c.before.before.before.between.ensures c.before.before.between-2.ensures c.before.compare_long.ensures c.is_equal.ensures
+    c.before.before.before.between.ensures c.before.before.between-2.ensures c.before.compare_long.ensures c.is_eq.ensures
 
 pub is_same_spec : {M : Type 1} → statement M
 is_same_spec =

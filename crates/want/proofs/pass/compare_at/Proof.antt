@@ -1,7 +1,7 @@
 -- `want::pass::compare_at` meets its contract.
+use Rattle.std.specs.declared.option.Option.{Option}
 use mathlib.Core.Path.{sym, ap}
 use Rattle.record.specs.Outline.{outline_of}
-use Rattle.record.specs.declared.outline.Outline.{Outline}
 use Rattle.want.specs.Steps.Head.{fields_at, Stood, name_in, order_in}
 use Rattle.want.proofs.FieldLaws.{outline_none, stands_there, within, whole_there}
 use Rattle.want.proofs.RankLaws.{names_by}
@@ -9,6 +9,7 @@ use Rattle.want.proofs.PassLaws.{none_last, names_compared}
 use borrow.Author.Rules.{rules}
 use Rattle.want.proofs.pass.compare_at.Statement.{statement}
 use Rattle.want.proofs.pass.compare_at.Tie as tie
+use Rattle.record.specs.declared.outline.RecordFields.{RecordFields}
 
 -- a record stands at the place of each
 
@@ -19,7 +20,7 @@ stood : (c : tie.Else-a-i) → let s = c.before.before.before.before.args in Sto
 stood c = let s = c.before.before.before.before in stands_there s.args.a.now s.args.i s.requires.0 c.if-a-i.false
 
 returns-then-b-j : tie.Need-returns-then-b-j
-returns-then-b-j c = let s = c.before.before.before.args in ap (λ (o : Outline). order_in (name_in s.a.now (outline_of s.a.now s.i)) (name_in s.b.now o)) (outline_none s.b.now s.j c.if-b-j.true)
+returns-then-b-j c = let s = c.before.before.before.args in ap (λ (o : Option RecordFields). order_in (name_in s.a.now (outline_of s.a.now s.i)) (name_in s.b.now o)) (outline_none s.b.now s.j c.if-b-j.true)
 
 returns-then-a-i : tie.Need-returns-then-a-i
 returns-then-a-i c =

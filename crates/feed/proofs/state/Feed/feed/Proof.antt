@@ -3,7 +3,6 @@ use mathlib.Core.Path.{◌≡◌, sym, ◌∙◌}
 use Prim.Native.Nat.{ℕ}
 use native.Mathlib.Omega.{arith}
 use mathlib.Core.Bool.{false}
-use borrow.Author.Tests.{not-true, not-false}
 use Rattle.feed.specs.Sound.{is_sound}
 use borrow.Author.Rules.{rules}
 use Rattle.feed.proofs.state.Feed.feed.Statement.{statement}

@@ -1,0 +1,28 @@
+-- The admission refuses it, or the peer's link is emptied.
+use mathlib.Core.Path.{sym, ◌∙◌}
+use native.Mathlib.Omega.{arith}
+use Rattle.queue.proofs.QueueLaws.{held_tells, peer_facts}
+use Rattle.queue.proofs.CallLaws.{drop_stopped, drop_done}
+use Rattle.queue.proofs.queue.RequestQueue.drop_link.Goals as goal
+
+pub returns-in-Err : goal.returns-in-Err
+returns-in-Err c =
+    let a = c.args in
+    drop_stopped a.self a.peer (sym c.in-Err.is ∙ c.admission.ensures)
+
+pub overflow_sub-at : goal.overflow_sub-at
+overflow_sub-at c =
+    let h = held_tells c.args.self c.args.peer _ (sym c.in_default.is ∙ c.admission.ensures) in
+    (peer_facts c.args.peer h.may.peer).0
+
+pub bounds-self-at : goal.bounds-self-at
+bounds-self-at c =
+    let h = held_tells c.args.self c.args.peer _ (sym c.in_default.is ∙ c.admission.ensures) in
+    let f = peer_facts c.args.peer h.may.peer in
+    omega arith
+
+pub returns : goal.returns
+returns c =
+    let a = c.args in
+    let h = held_tells a.self a.peer _ (sym c.in_default.is ∙ c.admission.ensures) in
+    drop_done a.self a.peer h.may c.emptied-gone.ensures c.forget_for.ensures

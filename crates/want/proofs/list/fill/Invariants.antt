@@ -1,0 +1,11 @@
+use Prim.Native.Nat.{◌-◌}
+use mathlib.Core.List.{map}
+use Rattle.want.proofs.SideLaws.{total}
+use Rattle.want.proofs.EntryLaws.{Filled}
+use Rattle.want.proofs.list.fill.Given as goal
+
+abbrev pub invariant-loop-turn : goal.invariant-loop-turn
+invariant-loop-turn l = Filled (map (λ x. x.now) l.tables) l.places l.initial.out l.out l.file l.at
+
+abbrev pub decreases-loop-turn : goal.decreases-loop-turn
+decreases-loop-turn l = 327680 - total l.places
