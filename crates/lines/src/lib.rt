@@ -7,14 +7,6 @@ ghost use Rattle.lines.specs.Buffer.{is_untouched};
 use std::{fmt, io};
 use xdr::Refusal;
 
-pub fn text(rt: &impl Print, s: &[u8]) -> io::Result<()> {
-    rt.write_all(s)
-}
-
-pub fn number(rt: &impl Print, n: u64) -> io::Result<()> {
-    print!(rt; "{n}")
-}
-
 // Bytes in hexadecimal.
 #[derive(Clone, Copy)]
 pub struct Hex<'a>(pub &'a [u8]);
@@ -26,11 +18,6 @@ impl<'a> fmt::Display for Hex<'a> {
         }
         Ok(())
     }
-}
-
-// The same, printed.
-pub fn bytes(rt: &impl Print, s: &[u8]) -> io::Result<()> {
-    print!(rt; "{}", Hex(s))
 }
 
 // The number and the place of a refusal, and the end of the line.

@@ -19,7 +19,7 @@ fn accept(
     })
 }
 
-// A message of two records, whose Modified are -1 and 0.
+// A message of two records, whose Modified are -1 and 0. Its type is the number in the header.
 fn pair(kind: u8, name: &[u8], other: &[u8]) -> [u8; 72] {
     let mut message = [0u8; 72];
     message[..12].copy_from_slice(&build::head(kind));

@@ -42,7 +42,7 @@ pub fn one(out: &mut [u8], name: &[u8], blocks: u32) {
     put_record(out, 4, name, 0, 0, blocks);
 }
 
-// The start of an Index (1) or an IndexUpdate (6) of the repository "r": its array comes next.
+// The start of an Index (1) or an IndexUpdate (6) of the repository "r", by the number in the header: its array comes next.
 pub fn head(kind: u8) -> [u8; 12] {
     [0, 0, kind, 0, 0, 0, 0, 1, b'r', 0, 0, 0]
 }

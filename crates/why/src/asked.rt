@@ -34,7 +34,8 @@ pub fn why<'a>(
     )
 }
 
-// The number of the first of five tables that is not good, or 5.
+// The number of the first of five tables that is not good, or 5: it is asked only where one is bad, so an `Option` would have a case that
+// never comes.
 pub fn first_bad(a: &[u8], b: &[u8], c: &[u8], d: &[u8], e: &[u8]) -> u32
     ensures { result ≡ first_bad 0 (a.now ∷ b.now ∷ c.now ∷ d.now ∷ e.now ∷ []) }
 {

@@ -1,0 +1,8 @@
+-- The words are the same.
+use Rattle.std.proofs.Common.{refl}
+use Rattle.sha256.specs.Constants.{H⁰}
+use Rattle.sha256.proofs.state.initial.Goals as goal
+
+pub returns : goal.returns
+unfolding H⁰
+returns c = refl

@@ -1,0 +1,7 @@
+-- Its two sums.
+use Rattle.sha256.specs.Hash.{round}
+use Rattle.sha256.proofs.state.round.Goals as goal
+
+pub returns : goal.returns
+unfolding round
+returns c = cc
