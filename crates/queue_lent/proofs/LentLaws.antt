@@ -44,9 +44,9 @@ module _ (ws hs : List ℕ) (long : length ws ≡ 140) (p : ℕ) where
   pub may : {n : ℕ} → Ok n ≡ admission (queue_of ws []) p → Held q p n
   may {n} e = held_tells q p n (e ∙ same_admission ws hs p)
 
-  -- the peer's share is there
-  pub within : {n : ℕ} → Held q p n → (1 ≤ p) × (35 * p ≤ 140)
-  within h = let f = peer_facts p h.may.peer in (f.0, omega (arith, f.1))
+  -- the share of a peer that is admitted is there
+  pub share_there : {n : ℕ} → Ok n ≡ admission (queue_of ws []) p → (1 ≤ p) × (35 * p ≤ length ws)
+  share_there e = let f = peer_facts p (may e).may.peer in (f.0, omega (arith, f.1, long))
 
   -- a queue that was handed back as it was
   as_it_was : Lends q ws hs

@@ -47,3 +47,7 @@ pub record Storable (w a r n : Setting) (carried room : ℕ) : Type 0 where
   pub repository : length (setting_bytes 3 r) ≤ 258
   pub note : length (setting_bytes 128 n) ≤ 258
   pub fits : length (setting_bytes 1 w) + length (setting_bytes 2 a) + length (setting_bytes 3 r) + length (setting_bytes 128 n) + carried ≤ room
+
+-- the same of the four that are given
+abbrev pub StorableGiven : Given → (carried room : ℕ) → Type 0
+StorableGiven o = Storable (option_copied o.window) (option_copied o.allowance) (option_copied o.repository) (option_copied o.note)

@@ -5,7 +5,7 @@ ghost use Rattle.xdr.specs.Buffer.{filled, put};
 ghost use Rattle.xdr.specs.Filling.{Fills};
 ghost use Rattle.settings.specs.Reading.{read_from, reading};
 ghost use Rattle.settings.specs.Saving.{setting_bytes, fields_of, read_back, saving_bytes, saving};
-ghost use Rattle.settings.specs.Steps.{given, end_answer, setting_end, Storable};
+ghost use Rattle.settings.specs.Steps.{given, end_answer, setting_end, StorableGiven};
 ghost use Rattle.settings.specs.declared.answer.Settings.{Settings};
 
 use crate::answer::{byte, word};
@@ -88,7 +88,7 @@ fn store_setting(out: &mut [u8], at: usize, tag: u8, contents: Option<&[u8]>) ->
 
 // All that is saved, at the front of a buffer that has room for it.
 fn store(out: &mut [u8], own: Given, carried: &[u8])
-    requires { Storable (option_copied own.window) (option_copied own.allowance) (option_copied own.repository) (option_copied own.note) (length carried.now) (length out.old) }
+    requires { StorableGiven own (length carried.now) (length out.old) }
     ensures { out.new ≡ filled out.old (fields_of (given own.entry) ++ carried.now) }
 {
     let second = store_setting(out, 0, WINDOW, own.window);

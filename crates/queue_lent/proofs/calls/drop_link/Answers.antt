@@ -1,10 +1,9 @@
 -- The admission refuses it, or the peer's link is emptied.
 use mathlib.Core.Path.{◌≡◌, sym, ◌∙◌}
-use native.Mathlib.Omega.{arith}
 use borrow.Author.Rules.{rules}
 use lib.ListN.{length}
 use Rattle.xdr.proofs.Answered.{handed_on}
-use Rattle.queue_lent.proofs.LentLaws.{may, within, drop_refused, drop_made}
+use Rattle.queue_lent.proofs.LentLaws.{may, share_there, drop_refused, drop_made}
 use Rattle.queue_lent.proofs.calls.drop_link.Goals as goal
 
 pub returns-in_err-admission_in : goal.returns-in_err-admission_in
@@ -14,18 +13,10 @@ returns-in_err-admission_in c =
     rw (handed_on c.from_residual.result c.from_residual.ensures.1) (drop_refused a.words.now a.hashes.now long a.peer (sym c.in_err-admission_in.was ∙ c.admission_in.ensures))
 
 pub link_of-l-requires : goal.link_of-l-requires
-link_of-l-requires c =
-    let a = c.args in
-    let long : length a.words.now ≡ 140 = search rules in
-    let f = within a.words.now a.hashes.now long a.peer (may a.words.now a.hashes.now long a.peer (sym c.in_ok-admission_in.was ∙ c.admission_in.ensures)) in
-    (omega arith, omega arith)
+link_of-l-requires c = share_there c.args.words.now c.args.hashes.now (search rules) c.args.peer (sym c.in_ok-admission_in.was ∙ c.admission_in.ensures)
 
 pub store-requires : goal.store-requires
-store-requires c =
-    let a = c.args in
-    let long : length a.words.now ≡ 140 = search rules in
-    let f = within a.words.now a.hashes.now long a.peer (may a.words.now a.hashes.now long a.peer (sym c.in_ok-admission_in.was ∙ c.admission_in.ensures)) in
-    (omega arith, omega arith)
+store-requires c = share_there c.args.words.now c.args.hashes.now (search rules) c.args.peer (sym c.in_ok-admission_in.was ∙ c.admission_in.ensures)
 
 pub returns : goal.returns
 returns c =

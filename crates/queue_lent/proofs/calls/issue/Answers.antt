@@ -1,11 +1,10 @@
 -- The admission refuses it, or the peer's link issues under the common total.
 use mathlib.Core.Path.{◌≡◌, sym, ◌∙◌}
-use native.Mathlib.Omega.{arith}
 use borrow.Author.Rules.{rules}
 use lib.ListN.{length}
 use Rattle.message.specs.declared.edition.Edition.TheVariants as E
 use Rattle.message_write.specs.Writing.{request_bytes}
-use Rattle.queue_lent.proofs.LentLaws.{may, within, issue_refused, issue_made}
+use Rattle.queue_lent.proofs.LentLaws.{may, share_there, issue_refused, issue_made}
 use Rattle.queue_lent.proofs.calls.issue.Goals as goal
 
 pub returns-in-Err : goal.returns-in-Err
@@ -16,18 +15,10 @@ returns-in-Err c =
     (sym c.in-Err.is ∙ c.admission_in.ensures) c.next_of.ensures
 
 pub link_of-l-requires : goal.link_of-l-requires
-link_of-l-requires c =
-    let a = c.args in
-    let long : length a.words.now ≡ 140 = search rules in
-    let f = within a.words.now a.hashes.now long a.peer (may a.words.now a.hashes.now long a.peer (sym c.in-Ok.is ∙ c.admission_in.ensures)) in
-    (omega arith, omega arith)
+link_of-l-requires c = share_there c.args.words.now c.args.hashes.now (search rules) c.args.peer (sym c.in-Ok.is ∙ c.admission_in.ensures)
 
 pub store-requires : goal.store-requires
-store-requires c =
-    let a = c.args in
-    let long : length a.words.now ≡ 140 = search rules in
-    let f = within a.words.now a.hashes.now long a.peer (may a.words.now a.hashes.now long a.peer (sym c.in-Ok.is ∙ c.admission_in.ensures)) in
-    (omega arith, omega arith)
+store-requires c = share_there c.args.words.now c.args.hashes.now (search rules) c.args.peer (sym c.in-Ok.is ∙ c.admission_in.ensures)
 
 pub returns : goal.returns
 returns c =
