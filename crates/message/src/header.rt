@@ -56,7 +56,10 @@ pub fn header_of(id: u32, kind: u32) -> u32
 pub fn read_header(edition: Edition, s: &[u8]) -> Result<(u32, usize), Refusal>
     ensures { result ≡ word_answer (read_at (header edition) s.now 0) }
 {
-    let (h, next) = xdr::read_word(s, 0)?;
+    let answer = xdr::read_word(s, 0);
+    let Ok((h, next)) = answer else {
+        return Err(xdr::refusal_of(answer));
+    };
     if version_of(h) != 0 {
         return Err(Refusal::at_start(2));
     }

@@ -38,36 +38,56 @@ fn read_index(edition: Edition, s: &[u8]) -> Result<IndexSpan, Refusal>
     requires { 4 ≤ length s.now }
     ensures { result ≡ index_answer edition (read_at (index edition) s.now 4) }
 {
-    let (length, files_at) = read_repository(edition, s)?;
-    match record::read_files(&s[files_at..], FILES_LIMIT) {
-        Ok((count, used)) => Ok(IndexSpan {
-            repository: Span {
-                start: repository_start(edition),
-                length,
-            },
-            files: Span {
-                start: files_at,
-                length: used,
-            },
-            count,
-            end: files_at + used,
-        }),
-        Err(r) => Err(Refusal {
-            number: r.number,
-            place: files_at + r.place,
-        }),
-    }
+    let repository = read_repository(edition, s);
+    let Ok((length, files_at)) = repository else {
+        return Err(xdr::refusal_of(repository));
+    };
+    let files = record::read_files(&s[files_at..], FILES_LIMIT);
+    let Ok((count, used)) = files else {
+        let refusal = xdr::refusal_of(files);
+        return Err(Refusal {
+            number: refusal.number,
+            place: files_at + refusal.place,
+        });
+    };
+    Ok(IndexSpan {
+        repository: Span {
+            start: repository_start(edition),
+            length,
+        },
+        files: Span {
+            start: files_at,
+            length: used,
+        },
+        count,
+        end: files_at + used,
+    })
 }
 
 // A Request with an ID.
 fn read_request(edition: Edition, s: &[u8], id: u32) -> Result<Message, Refusal>
     ensures { result ≡ request_answer edition id (read_at (request edition) s.now 4) }
 {
-    let (repository_length, name_at) = read_repository(edition, s)?;
-    let (name_length, offset_at) = record::read_name(s, name_at)?;
-    let (offset, size_at) = xdr::read_hyper(s, offset_at)?;
-    let (size, hash_at) = record::read_size(s, size_at)?;
-    let (hash_length, end) = record::read_hash(s, hash_at)?;
+    let repository = read_repository(edition, s);
+    let Ok((repository_length, name_at)) = repository else {
+        return Err(xdr::refusal_of(repository));
+    };
+    let name = record::read_name(s, name_at);
+    let Ok((name_length, offset_at)) = name else {
+        return Err(xdr::refusal_of(name));
+    };
+    let offset = xdr::read_hyper(s, offset_at);
+    let Ok((from, size_at)) = offset else {
+        return Err(xdr::refusal_of(offset));
+    };
+    let length = record::read_size(s, size_at);
+    let Ok((size, hash_at)) = length else {
+        return Err(xdr::refusal_of(length));
+    };
+    let hash = record::read_hash(s, hash_at);
+    let Ok((hash_length, end)) = hash else {
+        return Err(xdr::refusal_of(hash));
+    };
     let span = RequestSpan {
         repository: Span {
             start: repository_start(edition),
@@ -77,7 +97,7 @@ fn read_request(edition: Edition, s: &[u8], id: u32) -> Result<Message, Refusal>
             start: name_at + 4,
             length: name_length,
         },
-        offset,
+        offset: from,
         size,
         hash: Span {
             start: hash_at + 4,
@@ -92,7 +112,10 @@ fn read_request(edition: Edition, s: &[u8], id: u32) -> Result<Message, Refusal>
 fn read_response(s: &[u8], id: u32) -> Result<Message, Refusal>
     ensures { result ≡ response_answer id (read_at response s.now 4) }
 {
-    let (length, end) = xdr::read_bytes(s, 4, DATA_LIMIT)?;
+    let data = xdr::read_bytes(s, 4, DATA_LIMIT);
+    let Ok((length, end)) = data else {
+        return Err(xdr::refusal_of(data));
+    };
     let span = ResponseSpan {
         data: Span { start: 8, length },
         end,
@@ -105,30 +128,33 @@ fn read_options(s: &[u8], id: u32) -> Result<Message, Refusal>
     requires { 4 ≤ length s.now }
     ensures { result ≡ options_answer id (read_at (options options_limit) s.now 4) }
 {
-    match record::read_options(&s[4..], OPTIONS_LIMIT) {
-        Ok((count, used)) => {
-            let span = OptionsSpan {
-                options: Span {
-                    start: 4,
-                    length: used,
-                },
-                count,
-                end: 4 + used,
-            };
-            Ok(Message::Options(id, span))
-        }
-        Err(r) => Err(Refusal {
-            number: r.number,
-            place: 4 + r.place,
-        }),
-    }
+    let options = record::read_options(&s[4..], OPTIONS_LIMIT);
+    let Ok((count, used)) = options else {
+        let refusal = xdr::refusal_of(options);
+        return Err(Refusal {
+            number: refusal.number,
+            place: 4 + refusal.place,
+        });
+    };
+    let span = OptionsSpan {
+        options: Span {
+            start: 4,
+            length: used,
+        },
+        count,
+        end: 4 + used,
+    };
+    Ok(Message::Options(id, span))
 }
 
 // The message of an edition at the front of some bytes: whatever follows its end belongs to the next one.
 pub fn read(edition: Edition, s: &[u8]) -> Result<Message, Refusal>
     ensures { result ≡ message_in edition s.now }
 {
-    let (h, _) = read_header(edition, s)?;
+    let head = read_header(edition, s);
+    let Ok((h, _)) = head else {
+        return Err(xdr::refusal_of(head));
+    };
     let id = id_of(h);
     let kind = type_of(h);
     match kind {

@@ -34,7 +34,10 @@ pub fn check_bytes(l: &[u8], limit: u32) -> Result<(usize, usize), Refusal>
 pub fn check_text(l: &[u8], limit: u32) -> Result<(usize, usize), Refusal>
     ensures { result ≡ bytes_answer (read_at (text limit) (encode (bytes word) l.now) 0) }
 {
-    let (n, size) = check_bytes(l, limit)?;
+    let answer = check_bytes(l, limit);
+    let Ok((n, size)) = answer else {
+        return Err(xdr::refusal_of(answer));
+    };
     let sound = xdr::sound_up_to(l);
     if sound == n {
         Ok((n, size))
@@ -50,7 +53,10 @@ pub fn check_text(l: &[u8], limit: u32) -> Result<(usize, usize), Refusal>
 pub fn check_name(l: &[u8]) -> Result<(usize, usize), Refusal>
     ensures { result ≡ bytes_answer (read_at name_field (encode (bytes word) l.now) 0) }
 {
-    let (n, size) = check_text(l, NAME_LIMIT)?;
+    let answer = check_text(l, NAME_LIMIT);
+    let Ok((n, size)) = answer else {
+        return Err(xdr::refusal_of(answer));
+    };
     if let Some(number) = record::name_fault(l) {
         return Err(Refusal::at_start(number));
     }
@@ -97,14 +103,15 @@ pub fn check_index(edition: Edition, repository: &[u8], files: &[u8]) -> Result<
     ensures { result ≡ body_check (index edition)
         (index_bytes edition (repository_of edition repository.now) files.now) }
 {
-    let size = match check_repository(edition, repository) {
-        Ok((_, size)) => size,
-        Err(r) => return Err(moved(r, 4)),
+    let text = check_repository(edition, repository);
+    let Ok((_, size)) = text else {
+        return Err(moved(xdr::refusal_of(text), 4));
     };
-    match record::read_files(files, FILES_LIMIT) {
-        Ok((_, used)) => Ok(4 + size + used),
-        Err(r) => Err(moved(r, 4 + size)),
-    }
+    let array = record::read_files(files, FILES_LIMIT);
+    let Ok((_, used)) = array else {
+        return Err(moved(xdr::refusal_of(array), 4 + size));
+    };
+    Ok(4 + size + used)
 }
 
 // The body of a Request, whatever its offset.
@@ -119,14 +126,16 @@ pub fn check_request(
         → result ≡ body_check (request edition) (request_bytes edition (repository_of edition repository.now)
         name.now offset size hash.now) }
 {
-    let name_at = match check_repository(edition, repository) {
-        Ok((_, taken)) => 4 + taken,
-        Err(r) => return Err(moved(r, 4)),
+    let first = check_repository(edition, repository);
+    let Ok((_, repository_size)) = first else {
+        return Err(moved(xdr::refusal_of(first), 4));
     };
-    let size_at = match check_name(name) {
-        Ok((_, taken)) => name_at + taken + 8,
-        Err(r) => return Err(moved(r, name_at)),
+    let name_at = 4 + repository_size;
+    let second = check_name(name);
+    let Ok((_, name_size)) = second else {
+        return Err(moved(xdr::refusal_of(second), name_at));
     };
+    let size_at = name_at + name_size + 8;
     if !record::is_size(size) {
         return Err(Refusal {
             number: 10,
@@ -134,30 +143,33 @@ pub fn check_request(
         });
     }
     let hash_at = size_at + 4;
-    match check_hash(hash) {
-        Ok((_, taken)) => Ok(hash_at + taken),
-        Err(r) => Err(moved(r, hash_at)),
-    }
+    let third = check_hash(hash);
+    let Ok((_, hash_size)) = third else {
+        return Err(moved(xdr::refusal_of(third), hash_at));
+    };
+    Ok(hash_at + hash_size)
 }
 
 // The body of a Response.
 pub fn check_response(data: &[u8]) -> Result<usize, Refusal>
     ensures { result ≡ body_check response (response_bytes «data».now) }
 {
-    match check_bytes(data, DATA_LIMIT) {
-        Ok((_, size)) => Ok(4 + size),
-        Err(r) => Err(moved(r, 4)),
-    }
+    let opaque = check_bytes(data, DATA_LIMIT);
+    let Ok((_, size)) = opaque else {
+        return Err(moved(xdr::refusal_of(opaque), 4));
+    };
+    Ok(4 + size)
 }
 
 // The body of an Options message.
 pub fn check_options(options: &[u8]) -> Result<usize, Refusal>
     ensures { result ≡ body_check (options_field options_limit) options.now }
 {
-    match record::read_options(options, OPTIONS_LIMIT) {
-        Ok((_, used)) => Ok(4 + used),
-        Err(r) => Err(moved(r, 4)),
-    }
+    let array = record::read_options(options, OPTIONS_LIMIT);
+    let Ok((_, used)) = array else {
+        return Err(moved(xdr::refusal_of(array), 4));
+    };
+    Ok(4 + used)
 }
 
 // A check's answer, with the Message ID before it and the room behind it.
@@ -167,7 +179,9 @@ pub fn admitted(id: u32, checked: Result<usize, Refusal>, room: usize) -> Result
     if ID_LIMIT < id {
         return xdr::refused(5);
     }
-    let n = checked?;
+    let Ok(n) = checked else {
+        return checked;
+    };
     if room < n {
         return xdr::refused(14);
     }

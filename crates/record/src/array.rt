@@ -10,7 +10,10 @@ use xdr::Refusal;
 pub fn read_count(s: &[u8], at: usize, limit: u32) -> Result<(u32, usize), Refusal>
     ensures { result ≡ word_answer (read_at (up_to limit) s.now at) }
 {
-    let (count, next) = xdr::read_word(s, at)?;
+    let answer = xdr::read_word(s, at);
+    let Ok((count, next)) = answer else {
+        return Err(xdr::refusal_of(answer));
+    };
     if limit < count {
         return Err(Refusal {
             number: 5,

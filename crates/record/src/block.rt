@@ -27,7 +27,10 @@ pub fn is_size(n: u32) -> bool
 pub fn read_size(s: &[u8], at: usize) -> Result<(u32, usize), Refusal>
     ensures { result ≡ word_answer (read_at size s.now at) }
 {
-    let (n, next) = xdr::read_word(s, at)?;
+    let answer = xdr::read_word(s, at);
+    let Ok((n, next)) = answer else {
+        return Err(xdr::refusal_of(answer));
+    };
     if !is_size(n) {
         return Err(Refusal {
             number: 10,
@@ -41,7 +44,10 @@ pub fn read_size(s: &[u8], at: usize) -> Result<(u32, usize), Refusal>
 pub fn read_hash(s: &[u8], at: usize) -> Result<(usize, usize), Refusal>
     ensures { result ≡ bytes_answer (read_at hash s.now at) }
 {
-    let (len, start) = xdr::read_word(s, at)?;
+    let answer = xdr::read_word(s, at);
+    let Ok((len, start)) = answer else {
+        return Err(xdr::refusal_of(answer));
+    };
     if len != 32 {
         return Err(Refusal {
             number: 9,
@@ -61,8 +67,14 @@ pub fn read_hash(s: &[u8], at: usize) -> Result<(usize, usize), Refusal>
 pub fn read_block(s: &[u8]) -> Result<(u32, usize), Refusal>
     ensures { result ≡ block_answer (read_at block s.now 0) }
 {
-    let (n, hash_at) = read_size(s, 0)?;
-    let (_, next) = read_hash(s, hash_at)?;
+    let length = read_size(s, 0);
+    let Ok((n, hash_at)) = length else {
+        return Err(xdr::refusal_of(length));
+    };
+    let bytes = read_hash(s, hash_at);
+    let Ok((_, next)) = bytes else {
+        return Err(xdr::refusal_of(bytes));
+    };
     Ok((n, next))
 }
 
@@ -80,7 +92,10 @@ pub fn may_have(deleted: bool, count: u32) -> bool
 fn read_block_count(s: &[u8], deleted: bool) -> Result<(u32, usize), Refusal>
     ensures { result ≡ word_answer (read_at (block_count deleted) s.now 0) }
 {
-    let (count, first) = read_count(s, 0, BLOCKS_LIMIT)?;
+    let answer = read_count(s, 0, BLOCKS_LIMIT);
+    let Ok((count, first)) = answer else {
+        return Err(xdr::refusal_of(answer));
+    };
     if !may_have(deleted, count) {
         return Err(Refusal {
             number: 12,
@@ -134,19 +149,22 @@ pub fn sound_front(s: &[u8], count: u32) -> u32
 pub fn read_blocks(s: &[u8], deleted: bool) -> Result<(u32, usize), Refusal>
     ensures { result ≡ array_answer (read_at (blocks deleted) s.now 0) }
 {
-    let (count, first) = read_block_count(s, deleted)?;
+    let answer = read_block_count(s, deleted);
+    let Ok((count, first)) = answer else {
+        return Err(xdr::refusal_of(answer));
+    };
     let sound = sound_blocks(s, first, count);
     let mut next = first + (sound as usize) * BLOCK_BYTES;
     for i in sound..count {
-        match read_block(&s[next..]) {
-            Ok((_, used)) => next += used,
-            Err(r) => {
-                return Err(Refusal {
-                    number: r.number,
-                    place: next + r.place,
-                });
-            }
-        }
+        let read = read_block(&s[next..]);
+        let Ok((_, used)) = read else {
+            let refusal = xdr::refusal_of(read);
+            return Err(Refusal {
+                number: refusal.number,
+                place: next + refusal.place,
+            });
+        };
+        next += used;
     }
     Ok((count, next))
 }

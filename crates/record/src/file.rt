@@ -48,7 +48,10 @@ pub fn mode(flags: u32) -> u32
 pub fn read_name(s: &[u8], at: usize) -> Result<(usize, usize), Refusal>
     ensures { result ≡ bytes_answer (read_at name_field s.now at) }
 {
-    let (n, next) = xdr::read_text(s, at, NAME_LIMIT)?;
+    let answer = xdr::read_text(s, at, NAME_LIMIT);
+    let Ok((n, next)) = answer else {
+        return Err(xdr::refusal_of(answer));
+    };
     let start = at + 4;
     if let Some(number) = name_fault(&s[start..start + n]) {
         return Err(Refusal { number, place: at });
@@ -60,7 +63,10 @@ pub fn read_name(s: &[u8], at: usize) -> Result<(usize, usize), Refusal>
 pub fn read_flags(s: &[u8], at: usize) -> Result<(u32, usize), Refusal>
     ensures { result ≡ word_answer (read_at flags_field s.now at) }
 {
-    let (f, next) = xdr::read_word(s, at)?;
+    let answer = xdr::read_word(s, at);
+    let Ok((f, next)) = answer else {
+        return Err(xdr::refusal_of(answer));
+    };
     if FLAGS_BOUND <= f {
         return Err(Refusal {
             number: 11,
@@ -74,23 +80,37 @@ pub fn read_flags(s: &[u8], at: usize) -> Result<(u32, usize), Refusal>
 pub fn read_file(s: &[u8]) -> Result<FileSpan, Refusal>
     ensures { result ≡ file_answer (read_at file s.now 0) }
 {
-    let (name_length, flags_at) = read_name(s, 0)?;
-    let (flags, modified_at) = read_flags(s, flags_at)?;
-    let (modified, version_at) = xdr::read_hyper(s, modified_at)?;
-    let (version, count_at) = xdr::read_word(s, version_at)?;
-    match read_blocks(&s[count_at..], is_deleted(flags)) {
-        Ok((blocks, used)) => Ok(FileSpan {
-            name_length,
-            flags,
-            modified,
-            version,
-            blocks,
-            first: count_at + 4,
-            next: count_at + used,
-        }),
-        Err(r) => Err(Refusal {
-            number: r.number,
-            place: count_at + r.place,
-        }),
-    }
+    let name = read_name(s, 0);
+    let Ok((name_length, flags_at)) = name else {
+        return Err(xdr::refusal_of(name));
+    };
+    let flags = read_flags(s, flags_at);
+    let Ok((flags_word, modified_at)) = flags else {
+        return Err(xdr::refusal_of(flags));
+    };
+    let modified = xdr::read_hyper(s, modified_at);
+    let Ok((modified_bits, version_at)) = modified else {
+        return Err(xdr::refusal_of(modified));
+    };
+    let version = xdr::read_word(s, version_at);
+    let Ok((version_word, count_at)) = version else {
+        return Err(xdr::refusal_of(version));
+    };
+    let blocks = read_blocks(&s[count_at..], is_deleted(flags_word));
+    let Ok((count, used)) = blocks else {
+        let refusal = xdr::refusal_of(blocks);
+        return Err(Refusal {
+            number: refusal.number,
+            place: count_at + refusal.place,
+        });
+    };
+    Ok(FileSpan {
+        name_length,
+        flags: flags_word,
+        modified: modified_bits,
+        version: version_word,
+        blocks: count,
+        first: count_at + 4,
+        next: count_at + used,
+    })
 }

@@ -1,6 +1,7 @@
 // Arrays of files, and whether their names rise.
 ghost use Rattle.std.specs.Prelude.{◌≡◌};
 ghost use Rattle.xdr.specs.Format.{read_at};
+ghost use Rattle.order.specs.Order.{is_less, compare_lists};
 ghost use Rattle.record.specs.Answers.{array_answer};
 ghost use Rattle.record.specs.File.{files};
 ghost use Rattle.record.specs.Rising.{is_rising_array};
@@ -11,30 +12,38 @@ use crate::file::read_file;
 use order::compare_bytes;
 use xdr::Refusal;
 
+// Whether a name is above the one before it.
+fn rises(before: &[u8], name: &[u8]) -> bool
+    ensures { result ≡ is_less (compare_lists before.now name.now) }
+{
+    compare_bytes(before, name).is_lt()
+}
+
 // The files at the front of a part, up to a limit. Where their names are to rise, one that isn't above the name before it ends the reading (15).
 // Both kinds of reading are one loop, so that reading a file has one caller and stands in it.
 fn read_run(s: &[u8], limit: u32, rising: bool) -> Result<(u32, usize), Refusal>
     ensures { RunRead limit rising s.now result }
 {
-    let (count, first) = read_count(s, 0, limit)?;
+    let answer = read_count(s, 0, limit);
+    let Ok((count, first)) = answer else {
+        return Err(xdr::refusal_of(answer));
+    };
     let mut next = first;
     let mut from = first;
     let mut to = first;
     for i in 0..count {
-        let span = match read_file(&s[next..]) {
-            Ok(span) => span,
-            Err(r) => {
-                return Err(Refusal {
-                    number: r.number,
-                    place: next + r.place,
-                });
-            }
+        let read = read_file(&s[next..]);
+        let Ok(span) = read else {
+            let refusal = xdr::refusal_of(read);
+            return Err(Refusal {
+                number: refusal.number,
+                place: next + refusal.place,
+            });
         };
         let name = next + 4;
         let stop = name + span.name_length;
         if rising {
-            let order = compare_bytes(&s[from..to], &s[name..stop]);
-            if !order.is_lt() {
+            if !rises(&s[from..to], &s[name..stop]) {
                 return Err(Refusal {
                     number: 15,
                     place: next,

@@ -22,8 +22,14 @@ pub struct OptionSpan {
 pub fn read_option(s: &[u8]) -> Result<OptionSpan, Refusal>
     ensures { result ≡ option_answer (read_at key_value s.now 0) }
 {
-    let (key_length, value_at) = xdr::read_text(s, 0, KEY_LIMIT)?;
-    let (value_length, next) = xdr::read_text(s, value_at, VALUE_LIMIT)?;
+    let key = xdr::read_text(s, 0, KEY_LIMIT);
+    let Ok((key_length, value_at)) = key else {
+        return Err(xdr::refusal_of(key));
+    };
+    let value = xdr::read_text(s, value_at, VALUE_LIMIT);
+    let Ok((value_length, next)) = value else {
+        return Err(xdr::refusal_of(value));
+    };
     Ok(OptionSpan {
         key_length,
         value_start: value_at + 4,
@@ -36,18 +42,21 @@ pub fn read_option(s: &[u8]) -> Result<OptionSpan, Refusal>
 pub fn read_options(s: &[u8], limit: u32) -> Result<(u32, usize), Refusal>
     ensures { result ≡ array_answer (read_at (options limit) s.now 0) }
 {
-    let (count, first) = read_count(s, 0, limit)?;
+    let answer = read_count(s, 0, limit);
+    let Ok((count, first)) = answer else {
+        return Err(xdr::refusal_of(answer));
+    };
     let mut next = first;
     for i in 0..count {
-        match read_option(&s[next..]) {
-            Ok(span) => next += span.next,
-            Err(r) => {
-                return Err(Refusal {
-                    number: r.number,
-                    place: next + r.place,
-                });
-            }
-        }
+        let read = read_option(&s[next..]);
+        let Ok(span) = read else {
+            let refusal = xdr::refusal_of(read);
+            return Err(Refusal {
+                number: refusal.number,
+                place: next + refusal.place,
+            });
+        };
+        next += span.next;
     }
     Ok((count, next))
 }

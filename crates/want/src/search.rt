@@ -21,12 +21,15 @@ fn search(table: &[u8], size: u32, hash: &[u8]) -> Option<Found>
 {
     let mut at = 4;
     let mut n = 0;
-    while let Some(f) = record::outline_at(table, at) {
+    'records: loop {
+        let Some(f) = record::outline_at(table, at) else {
+            return None;
+        };
         let count = listed(f);
         let first = f.first;
         for j in 0..count {
             if is_block(table, place(first, j), size, hash) {
-                return Some(Found {
+                break 'records Some(Found {
                     record: n,
                     block: j,
                 });
@@ -35,7 +38,6 @@ fn search(table: &[u8], size: u32, hash: &[u8]) -> Option<Found>
         at = f.past;
         n += 1;
     }
-    None
 }
 
 // Whether a valid, undeleted record of a good table lists a block.

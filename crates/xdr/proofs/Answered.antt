@@ -10,7 +10,7 @@ use Rattle.std.specs.Result.{IsErrAnd}
 use Rattle.std.proofs.lemmas.Result.{err_from_is_err_and}
 use Rattle.std.specs.declared.result.Result.{Result}
 use Rattle.xdr.specs.Reading.{Reading, taken, refused}
-use Rattle.xdr.specs.Answers.{answer, word_answer, bytes_answer}
+use Rattle.xdr.specs.Answers.{answer, word_answer, bytes_answer, refusal_of}
 use Rattle.xdr.specs.Fields.{opaque}
 use Rattle.xdr.specs.Format.{Format, read_at}
 use Rattle.xdr.specs.Pad.{padded}
@@ -37,6 +37,14 @@ ok_lost (Err f) e = (f, refl)
 -- what a `?` hands on of a refusal
 pub handed_on : {B : Type 0} {g : Refusal} (w : Result B Refusal) → IsErrAnd w (λ h. h ≡ g) → w ≡ Err g
 handed_on w k = let p = err_from_is_err_and w k in p.1 ∙ ap Err p.2
+
+-- the refusal of an answer is what is handed on
+pub handed_up : {B C : Type 0} {f g : Refusal} {w : Result B Refusal} → w ≡ Err f → g ≡ refusal_of w → ◌≡◌ {A = Result C Refusal} (Err g) (Err f)
+handed_up v e = ap Err (e ∙ ap refusal_of v)
+
+-- and what the answer says
+pub refusal_is : {B : Type 0} {f g : Refusal} {w : Result B Refusal} → w ≡ Err f → g ≡ refusal_of w → w ≡ Err g
+refusal_is v e = v ∙ sym (handed_up v e)
 
 -- by the answer w that was given, and the variant that it is
 module _ {A B : Type 0} {F : Format A} (f : A → ℕ → B) {s : List ℕ} {at : ℕ} {w : Result B Refusal} (e : w ≡ answer f (read_at F s at)) where

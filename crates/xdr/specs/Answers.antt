@@ -8,6 +8,11 @@ use Rattle.xdr.specs.declared.answer.Refusal.{Refusal}
 abbrev pub at_start : (number : ℕ) → Refusal
 at_start k = record { number = k; place = 0 }
 
+-- the refusal of an answer: number 0 where there is none
+abbrev pub refusal_of : {B : Type 0} → Result B Refusal → Refusal
+refusal_of (Ok b) = at_start 0
+refusal_of (Err r) = r
+
 -- what a reading answers: what the function makes of its value and of the place after it, or the refusal
 abbrev pub answer : {A B : Type 0} → (A → ℕ → B) → Reading A → Result B Refusal
 answer f (taken a next) = Ok (f a next)

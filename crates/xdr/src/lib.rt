@@ -9,7 +9,7 @@ pub mod put;
 pub mod read;
 pub mod text;
 
-pub use answer::Refusal;
+pub use answer::{Refusal, refusal_of};
 pub use filling::refused;
 pub use pad::pad_after;
 pub use put::{put_bytes, put_hyper, put_raw, put_word};

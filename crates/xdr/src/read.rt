@@ -4,7 +4,7 @@ ghost use Rattle.xdr.specs.Answers.{word_answer, hyper_answer, bytes_answer};
 ghost use Rattle.xdr.specs.Fields.{word, hyper, opaque, text};
 ghost use Rattle.xdr.specs.Format.{read_at};
 
-use crate::answer::Refusal;
+use crate::answer::{Refusal, refusal_of};
 use crate::number::{hyper_at, word_at};
 use crate::pad::{pad_after, zeros_up_to};
 use crate::text::sound_up_to;
@@ -39,7 +39,10 @@ pub fn read_hyper(s: &[u8], at: usize) -> Result<(u64, usize), Refusal>
 pub fn read_bytes(s: &[u8], at: usize, limit: u32) -> Result<(usize, usize), Refusal>
     ensures { result ≡ bytes_answer (read_at (opaque limit) s.now at) }
 {
-    let (len, start) = read_word(s, at)?;
+    let answer = read_word(s, at);
+    let Ok((len, start)) = answer else {
+        return Err(refusal_of(answer));
+    };
     if limit < len {
         return Err(Refusal {
             number: 5,
@@ -71,7 +74,10 @@ pub fn read_bytes(s: &[u8], at: usize, limit: u32) -> Result<(usize, usize), Ref
 pub fn read_text(s: &[u8], at: usize, limit: u32) -> Result<(usize, usize), Refusal>
     ensures { result ≡ bytes_answer (read_at (text limit) s.now at) }
 {
-    let (n, next) = read_bytes(s, at, limit)?;
+    let answer = read_bytes(s, at, limit);
+    let Ok((n, next)) = answer else {
+        return Err(refusal_of(answer));
+    };
     let start = at + 4;
     let end = start + n;
     let sound = sound_up_to(&s[start..end]);

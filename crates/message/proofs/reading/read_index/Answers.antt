@@ -3,7 +3,7 @@ use Rattle.std.proofs.Common.{◌≡◌, ℕ, ◌+◌, ◌-◌, length, refl, �
 use Rattle.std.specs.Prelude.{Ok}
 use Rattle.std.specs.declared.result.Result.{Result}
 use Rattle.xdr.specs.declared.answer.Refusal.{Refusal}
-use Rattle.xdr.proofs.Answered.{handed_on}
+use Rattle.xdr.proofs.Answered.{handed_up, refusal_is}
 use Rattle.xdr.proofs.Steps.{answered, ends, refused_within, first_refused, both_read}
 use Rattle.record.specs.File.{files}
 use Rattle.record.proofs.Arrays.{next_pair, next_refused}
@@ -19,42 +19,42 @@ same_span : {o t n x a b u v m y e : ℕ} → o ≡ t → x ≡ n → a ≡ b �
     (Ok (record { repository = span t x; files = span b v; count = y; end = e }))
 same_span o p q r t = rw (o, p, q, r, t) refl
 
-pub returns-in_err-length : goal.returns-in_err-length
-returns-in_err-length c =
-    handed_on c.from_residual.result c.from_residual.ensures.1
-    ∙ answered (index_answer c.args.edition) (first_refused (repository_refused c.args.edition c.read_repository.ensures c.in_err-length.was))
+pub returns-in_default : goal.returns-in_default
+returns-in_default c =
+    handed_up c.in_default.is c.refusal_of.ensures
+    ∙ answered (index_answer c.args.edition) (first_refused (repository_refused c.args.edition c.read_repository-repository.ensures c.in_default.is))
 
 pub slice_bounds-read_files-count : goal.slice_bounds-read_files-count
 slice_bounds-read_files-count c =
-    let w = (repository_taken c.args.edition c.read_repository.ensures c.in_ok-length.was).within c.requires in omega arith
+    let w = (repository_taken c.args.edition c.read_repository-repository.ensures c.in-Ok.is).within c.requires in omega arith
 
 pub slice_bounds-read_files-start : goal.slice_bounds-read_files-start
 slice_bounds-read_files-start c =
-    let w = (repository_taken c.args.edition c.read_repository.ensures c.in_ok-length.was).within c.requires in omega arith
+    let w = (repository_taken c.args.edition c.read_repository-repository.ensures c.in-Ok.is).within c.requires in omega arith
+
+pub overflow_add-result-2 : goal.overflow_add-result-2
+overflow_add-result-2 c =
+    let r = repository_taken c.args.edition c.read_repository-repository.ensures c.in-Ok.is in
+    let w = ends (r.within c.requires) (next_pair {F = files files_limit} length c.args.s.now c.in-Ok.files_at c.read_files-files.ensures c.in-Ok-files.is).1 in
+    omega arith
 
 pub overflow_add-result : goal.overflow_add-result
 overflow_add-result c =
-    let r = repository_taken c.args.edition c.read_repository.ensures c.in_ok-length.was in
-    let w = ends (r.within c.requires) (next_pair {F = files files_limit} length c.args.s.now c.in_ok-length.files_at c.read_files.ensures c.in-Ok.is).1 in
+    let r = repository_taken c.args.edition c.read_repository-repository.ensures c.in-Ok.is in
+    let w = refused_within (r.within c.requires) (next_refused {F = files files_limit} (λ l next. (length l, next)) c.args.s.now c.in-Ok.files_at c.read_files-files.ensures (refusal_is c.in_default-files.is c.refusal_of-refusal.ensures)) in
     omega arith
 
-pub overflow_add-result-in-Err : goal.overflow_add-result-in-Err
-overflow_add-result-in-Err c =
-    let r = repository_taken c.args.edition c.read_repository.ensures c.in_ok-length.was in
-    let w = refused_within (r.within c.requires) (next_refused {F = files files_limit} (λ l next. (length l, next)) c.args.s.now c.in_ok-length.files_at c.read_files.ensures c.in-Err.is) in
-    omega arith
-
-pub returns-in-Err : goal.returns-in-Err
-returns-in-Err c =
-    let r = repository_taken c.args.edition c.read_repository.ensures c.in_ok-length.was in
+pub returns-in_default-files : goal.returns-in_default-files
+returns-in_default-files c =
+    let r = repository_taken c.args.edition c.read_repository-repository.ensures c.in-Ok.is in
     answered (index_answer c.args.edition) (both_read r.reads
-    (next_refused {F = files files_limit} (λ l next. (length l, next)) c.args.s.now c.in_ok-length.files_at c.read_files.ensures c.in-Err.is))
+    (next_refused {F = files files_limit} (λ l next. (length l, next)) c.args.s.now c.in-Ok.files_at c.read_files-files.ensures (refusal_is c.in_default-files.is c.refusal_of-refusal.ensures)))
 
-pub returns-in-Ok : goal.returns-in-Ok
-returns-in-Ok c =
-    let at = c.in_ok-length.files_at in
-    let r = repository_taken c.args.edition c.read_repository.ensures c.in_ok-length.was in
-    let q = next_pair {F = files files_limit} length c.args.s.now at c.read_files.ensures c.in-Ok.is in
+pub returns : goal.returns
+returns c =
+    let at = c.in-Ok.files_at in
+    let r = repository_taken c.args.edition c.read_repository-repository.ensures c.in-Ok.is in
+    let q = next_pair {F = files files_limit} length c.args.s.now at c.read_files-files.ensures c.in-Ok-files.is in
     let start : at ≡ past_repository c.args.edition r.value = r.ends in
-    let used : c.in-Ok.used ≡ at + c.in-Ok.used - past_repository c.args.edition r.value = omega (arith, start) in
+    let used : c.in-Ok-files.used ≡ at + c.in-Ok-files.used - past_repository c.args.edition r.value = omega (arith, start) in
     same_span c.repository_start.ensures r.long start used q.2 ∙ answered (index_answer c.args.edition) (both_read r.reads q.1)

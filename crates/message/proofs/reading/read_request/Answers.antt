@@ -12,7 +12,7 @@ use lib.ListN.{length}
 use Rattle.xdr.specs.Reading.{taken}
 use Rattle.xdr.specs.Pad.{padded}
 use Rattle.xdr.specs.Fields.{hyper}
-use Rattle.xdr.proofs.Answered.{handed_on, word_taken, word_refused, bytes_taken, bytes_refused}
+use Rattle.xdr.proofs.Answered.{handed_up, word_taken, word_refused, bytes_taken, bytes_refused}
 use Rattle.xdr.proofs.Steps.{Reads, answered, first_refused, both_read, via_refused, via_taken, passed, ends_word}
 use Rattle.xdr.proofs.Strings.{string_ends}
 use Rattle.record.specs.Block.{size}
@@ -28,20 +28,20 @@ same_span : {id i j r x a b n y o l p q h z e : ℕ} → i ≡ j → x ≡ r →
     (Ok (M.Request id (record { repository = span j x; name = span b y; offset = o; size = l; hash = span q z; end = e })))
 same_span s u v w t i = rw (s, u, v, w, t, i) refl
 
-pub returns-in_err-repository_length : goal.returns-in_err-repository_length
-returns-in_err-repository_length c = handed_on c.from_residual.result c.from_residual.ensures.1 ∙ answered (request_answer c.args.edition c.args.id) (via_refused (first_refused (repository_refused c.args.edition c.read_repository.ensures c.in_err-repository_length.was)))
+pub returns-in_default : goal.returns-in_default
+returns-in_default c = handed_up c.in_default.is c.refusal_of.ensures ∙ answered (request_answer c.args.edition c.args.id) (via_refused (first_refused (repository_refused c.args.edition c.read_repository-repository.ensures c.in_default.is)))
 
-pub returns-in_err-name_length : goal.returns-in_err-name_length
-returns-in_err-name_length c = handed_on c.from_residual-in_err-name_length.result c.from_residual-in_err-name_length.ensures.1 ∙ answered (request_answer c.args.edition c.args.id) (via_refused (both_read (repository_taken c.args.edition c.read_repository.ensures c.in_ok-repository_length.was).reads (first_refused (bytes_refused c.read_name.ensures c.in_err-name_length.was))))
+pub returns-in_default-name : goal.returns-in_default-name
+returns-in_default-name c = handed_up c.in_default-name.is c.refusal_of-in_default-name.ensures ∙ answered (request_answer c.args.edition c.args.id) (via_refused (both_read (repository_taken c.args.edition c.read_repository-repository.ensures c.in-Ok.is).reads (first_refused (bytes_refused c.read_name-name.ensures c.in_default-name.is))))
 
-pub returns-in_err-offset : goal.returns-in_err-offset
-returns-in_err-offset c = handed_on c.from_residual-in_err-offset.result c.from_residual-in_err-offset.ensures.1 ∙ answered (request_answer c.args.edition c.args.id) (via_refused (both_read (repository_taken c.args.edition c.read_repository.ensures c.in_ok-repository_length.was).reads (both_read (bytes_taken c.read_name.ensures c.in_ok-name_length.was).1 (first_refused (word_refused c.read_hyper.ensures c.in_err-offset.was)))))
+pub returns-in_default-offset : goal.returns-in_default-offset
+returns-in_default-offset c = handed_up c.in_default-offset.is c.refusal_of-in_default-offset.ensures ∙ answered (request_answer c.args.edition c.args.id) (via_refused (both_read (repository_taken c.args.edition c.read_repository-repository.ensures c.in-Ok.is).reads (both_read (bytes_taken c.read_name-name.ensures c.in-Ok-name.is).1 (first_refused (word_refused c.read_hyper-offset.ensures c.in_default-offset.is)))))
 
-pub returns-in_err-size : goal.returns-in_err-size
-returns-in_err-size c = handed_on c.from_residual-in_err-size.result c.from_residual-in_err-size.ensures.1 ∙ answered (request_answer c.args.edition c.args.id) (via_refused (both_read (repository_taken c.args.edition c.read_repository.ensures c.in_ok-repository_length.was).reads (both_read (bytes_taken c.read_name.ensures c.in_ok-name_length.was).1 (both_read (word_taken c.read_hyper.ensures c.in_ok-offset.was) (first_refused (word_refused c.read_size.ensures c.in_err-size.was))))))
+pub returns-in_default-length : goal.returns-in_default-length
+returns-in_default-length c = handed_up c.in_default-length.is c.refusal_of-in_default-length.ensures ∙ answered (request_answer c.args.edition c.args.id) (via_refused (both_read (repository_taken c.args.edition c.read_repository-repository.ensures c.in-Ok.is).reads (both_read (bytes_taken c.read_name-name.ensures c.in-Ok-name.is).1 (both_read (word_taken c.read_hyper-offset.ensures c.in-Ok-offset.is) (first_refused (word_refused c.read_size-length.ensures c.in_default-length.is))))))
 
-pub returns-in_err-hash_length : goal.returns-in_err-hash_length
-returns-in_err-hash_length c = handed_on c.from_residual-in_err-hash_length.result c.from_residual-in_err-hash_length.ensures.1 ∙ answered (request_answer c.args.edition c.args.id) (via_refused (both_read (repository_taken c.args.edition c.read_repository.ensures c.in_ok-repository_length.was).reads (both_read (bytes_taken c.read_name.ensures c.in_ok-name_length.was).1 (both_read (word_taken c.read_hyper.ensures c.in_ok-offset.was) (both_read (word_taken c.read_size.ensures c.in_ok-size.was) (bytes_refused c.read_hash.ensures c.in_err-hash_length.was))))))
+pub returns-in_default-hash : goal.returns-in_default-hash
+returns-in_default-hash c = handed_up c.in_default-hash.is c.refusal_of-in_default-hash.ensures ∙ answered (request_answer c.args.edition c.args.id) (via_refused (both_read (repository_taken c.args.edition c.read_repository-repository.ensures c.in-Ok.is).reads (both_read (bytes_taken c.read_name-name.ensures c.in-Ok-name.is).1 (both_read (word_taken c.read_hyper-offset.ensures c.in-Ok-offset.is) (both_read (word_taken c.read_size-length.ensures c.in-Ok-length.is) (bytes_refused c.read_hash-hash.ensures c.in_default-hash.is))))))
 
 -- where the name and the hash begin is within the bytes
 places : {s : List ℕ} {o l a b : ℕ} → Reads hyper s a (taken o b) → {d : ℕ} → Reads size s b (taken l d) → (a ≤ d) × (d ≤ length s)
@@ -49,23 +49,23 @@ places o l = let w = ends_word o in let v = ends_word (passed l) in (omega arith
 
 pub overflow_add-span : goal.overflow_add-span
 overflow_add-span c =
-    let n = string_ends (name_string (bytes_taken c.read_name.ensures c.in_ok-name_length.was).1) in
-    let w = places (word_taken c.read_hyper.ensures c.in_ok-offset.was) (word_taken c.read_size.ensures c.in_ok-size.was) in
+    let n = string_ends (name_string (bytes_taken c.read_name-name.ensures c.in-Ok-name.is).1) in
+    let w = places (word_taken c.read_hyper-offset.ensures c.in-Ok-offset.is) (word_taken c.read_size-length.ensures c.in-Ok-length.is) in
     omega arith
 
 pub overflow_add-span-2 : goal.overflow_add-span-2
 overflow_add-span-2 c =
-    let w = places (word_taken c.read_hyper.ensures c.in_ok-offset.was) (word_taken c.read_size.ensures c.in_ok-size.was) in
+    let w = places (word_taken c.read_hyper-offset.ensures c.in-Ok-offset.is) (word_taken c.read_size-length.ensures c.in-Ok-length.is) in
     omega arith
 
 pub returns : goal.returns
 returns c =
-    let r = repository_taken c.args.edition c.read_repository.ensures c.in_ok-repository_length.was in
-    let n = bytes_taken c.read_name.ensures c.in_ok-name_length.was in
-    let o = word_taken c.read_hyper.ensures c.in_ok-offset.was in
-    let l = word_taken c.read_size.ensures c.in_ok-size.was in
-    let h = bytes_taken c.read_hash.ensures c.in_ok-hash_length.was in
-    let hash_at : c.in_ok-size.hash_at + 4 ≡ past_repository c.args.edition r.value + 4 + padded (length n.0) + 16 =
+    let r = repository_taken c.args.edition c.read_repository-repository.ensures c.in-Ok.is in
+    let n = bytes_taken c.read_name-name.ensures c.in-Ok-name.is in
+    let o = word_taken c.read_hyper-offset.ensures c.in-Ok-offset.is in
+    let l = word_taken c.read_size-length.ensures c.in-Ok-length.is in
+    let h = bytes_taken c.read_hash-hash.ensures c.in-Ok-hash.is in
+    let hash_at : c.in-Ok-length.hash_at + 4 ≡ past_repository c.args.edition r.value + 4 + padded (length n.0) + 16 =
     omega (arith, r.ends, string_ends (name_string n.1), (ends_word o).0, (ends_word (passed l)).0) in
     same_span c.repository_start.ensures r.long (ap (λ (m : ℕ). m + 4) r.ends) n.2 hash_at h.2
     ∙ answered (request_answer c.args.edition c.args.id) (via_taken (both_read r.reads (both_read n.1 (both_read o (both_read l h.1)))))

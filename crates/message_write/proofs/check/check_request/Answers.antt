@@ -6,7 +6,7 @@ use Rattle.xdr.specs.Reading.{Reading, taken, shifted}
 use Rattle.xdr.specs.Pad.{padded}
 use Rattle.xdr.specs.Format.{bytes, encode}
 use Rattle.xdr.specs.Fields.{word, hyper}
-use Rattle.xdr.proofs.Answered.{bytes_taken, bytes_refused}
+use Rattle.xdr.proofs.Answered.{bytes_taken, bytes_refused, refusal_is}
 use Rattle.xdr.proofs.EncodedSize.{number_size}
 use Rattle.xdr.proofs.Steps.{Reads, first_refused, both_read, via_refused, via_taken, checked_failed, checked_passed}
 use Rattle.xdr.proofs.Told.{Wide, encoded_at, number_alone, told_same}
@@ -76,105 +76,105 @@ module _ (e : Edition) (r n : List ℕ) (size : ℕ) (h : List ℕ) {taken_by : 
 
 pub moved-requires : goal.moved-requires
 moved-requires c =
-    let u = (repository_unfit c.args.edition c.args.repository.now c.check_repository.ensures c.in-Err.is).1 in omega arith
+    let u = (repository_unfit c.args.edition c.args.repository.now c.check_repository-first.ensures (refusal_is c.in_default.is c.refusal_of.ensures)).1 in omega arith
 
-pub returns-in-Err : goal.returns-in-Err
-returns-in-Err c = λ o.
-    let u = (repository_unfit c.args.edition c.args.repository.now c.check_repository.ensures c.in-Err.is).0 in
+pub returns-in_default : goal.returns-in_default
+returns-in_default c = λ o.
+    let u = (repository_unfit c.args.edition c.args.repository.now c.check_repository-first.ensures (refusal_is c.in_default.is c.refusal_of.ensures)).0 in
     ap Err c.moved.ensures ∙ checks (via_refused (first_refused (repository_there c.args.edition c.args.repository.now _ u)))
 
 pub overflow_add-name_at : goal.overflow_add-name_at
 overflow_add-name_at c =
-    let f = repository_checked c.args.edition c.args.repository.now c.check_repository.ensures c.in-Ok.is in
+    let f = repository_checked c.args.edition c.args.repository.now c.check_repository-first.ensures c.in-Ok.is in
     let w = f.ends in
     let z = f.small in
     omega arith
 
 pub overflow_add-size_at : goal.overflow_add-size_at
 overflow_add-size_at c =
-    let f = repository_checked c.args.edition c.args.repository.now c.check_repository.ensures c.in-Ok.is in
+    let f = repository_checked c.args.edition c.args.repository.now c.check_repository-first.ensures c.in-Ok.is in
     let w = f.ends in
     let z = f.small in
-    let n = bytes_taken c.check_name.ensures c.in-Ok-check_name.is in
+    let n = bytes_taken c.check_name-second.ensures c.in-Ok-second.is in
     let v = string_taken c.args.name.now (name_string n.1) in
     omega arith
 
-pub overflow_add-size_at-in-Ok-check_name : goal.overflow_add-size_at-in-Ok-check_name
-overflow_add-size_at-in-Ok-check_name c =
-    let f = repository_checked c.args.edition c.args.repository.now c.check_repository.ensures c.in-Ok.is in
+pub overflow_add-size_at-2 : goal.overflow_add-size_at-2
+overflow_add-size_at-2 c =
+    let f = repository_checked c.args.edition c.args.repository.now c.check_repository-first.ensures c.in-Ok.is in
     let w = f.ends in
     let z = f.small in
-    let n = bytes_taken c.check_name.ensures c.in-Ok-check_name.is in
+    let n = bytes_taken c.check_name-second.ensures c.in-Ok-second.is in
     let v = string_taken c.args.name.now (name_string n.1) in
     omega arith
 
-pub moved-requires-in-Err-check_name : goal.moved-requires-in-Err-check_name
-moved-requires-in-Err-check_name c =
-    let f = repository_checked c.args.edition c.args.repository.now c.check_repository.ensures c.in-Ok.is in
+pub moved-requires-in_default-second : goal.moved-requires-in_default-second
+moved-requires-in_default-second c =
+    let f = repository_checked c.args.edition c.args.repository.now c.check_repository-first.ensures c.in-Ok.is in
     let w = f.ends in
     let z = f.small in
-    let v = string_refused c.args.name.now (bytes_refused c.check_name.ensures c.in-Err-check_name.is) in
+    let v = string_refused c.args.name.now (bytes_refused c.check_name-second.ensures (refusal_is c.in_default-second.is c.refusal_of-in_default-second.ensures)) in
     omega arith
 
-pub returns-in-Err-check_name : goal.returns-in-Err-check_name
-returns-in-Err-check_name c = λ o.
-    let f = repository_checked c.args.edition c.args.repository.now c.check_repository.ensures c.in-Ok.is in
-    ap Err c.moved-in-Err-check_name.ensures
+pub returns-in_default-second : goal.returns-in_default-second
+returns-in_default-second c = λ o.
+    let f = repository_checked c.args.edition c.args.repository.now c.check_repository-first.ensures c.in-Ok.is in
+    ap Err c.moved-in_default-second.ensures
     ∙ checks (via_refused (both_read (repository_there c.args.edition c.args.repository.now _ f.reads) (first_refused
-    (name_there c.args.edition c.args.repository.now c.args.name.now c.args.size c.args.hash.now f _ (bytes_refused c.check_name.ensures c.in-Err-check_name.is)))))
+    (name_there c.args.edition c.args.repository.now c.args.name.now c.args.size c.args.hash.now f _ (bytes_refused c.check_name-second.ensures (refusal_is c.in_default-second.is c.refusal_of-in_default-second.ensures))))))
 
 pub returns-then-not-is_size : goal.returns-then-not-is_size
 returns-then-not-is_size c = λ o.
-    let f = repository_checked c.args.edition c.args.repository.now c.check_repository.ensures c.in-Ok.is in
-    let n = bytes_taken c.check_name.ensures c.in-Ok-check_name.is in
+    let f = repository_checked c.args.edition c.args.repository.now c.check_repository-first.ensures c.in-Ok.is in
+    let n = bytes_taken c.check_name-second.ensures c.in-Ok-second.is in
     let v = string_taken c.args.name.now (name_string n.1) in
     checks (via_refused (both_read (repository_there c.args.edition c.args.repository.now _ f.reads) (both_read (name_there c.args.edition c.args.repository.now c.args.name.now c.args.size c.args.hash.now f _ n.1) (both_read (offset_there c.args.edition c.args.repository.now c.args.name.now c.args.size c.args.hash.now f v.0 o)
     (first_refused (checked_failed (length-there c.args.edition c.args.repository.now c.args.name.now c.args.size c.args.hash.now f v.0 o) (sym c.is_size.ensures ∙ c.if-not-is_size.true)))))))
 
 pub overflow_add-hash_at : goal.overflow_add-hash_at
 overflow_add-hash_at c =
-    let f = repository_checked c.args.edition c.args.repository.now c.check_repository.ensures c.in-Ok.is in
+    let f = repository_checked c.args.edition c.args.repository.now c.check_repository-first.ensures c.in-Ok.is in
     let w = f.ends in
     let z = f.small in
-    let n = bytes_taken c.check_name.ensures c.in-Ok-check_name.is in
+    let n = bytes_taken c.check_name-second.ensures c.in-Ok-second.is in
     let v = string_taken c.args.name.now (name_string n.1) in
     omega arith
 
 pub overflow_add-result : goal.overflow_add-result
 overflow_add-result c =
-    let f = repository_checked c.args.edition c.args.repository.now c.check_repository.ensures c.in-Ok.is in
+    let f = repository_checked c.args.edition c.args.repository.now c.check_repository-first.ensures c.in-Ok.is in
     let w = f.ends in
     let z = f.small in
-    let n = bytes_taken c.check_name.ensures c.in-Ok-check_name.is in
+    let n = bytes_taken c.check_name-second.ensures c.in-Ok-second.is in
     let v = string_taken c.args.name.now (name_string n.1) in
-    let u = told_same c.args.hash.now (bytes_taken c.check_hash.ensures c.in-Ok-check_hash.is).1 in
+    let u = told_same c.args.hash.now (bytes_taken c.check_hash-third.ensures c.in-Ok-third.is).1 in
     omega (arith, u.1, eqb-true (length c.args.hash.now) 32 u.2)
 
-pub moved-requires-in-Err-check_hash : goal.moved-requires-in-Err-check_hash
-moved-requires-in-Err-check_hash c =
-    let f = repository_checked c.args.edition c.args.repository.now c.check_repository.ensures c.in-Ok.is in
+pub moved-requires-in_default-third : goal.moved-requires-in_default-third
+moved-requires-in_default-third c =
+    let f = repository_checked c.args.edition c.args.repository.now c.check_repository-first.ensures c.in-Ok.is in
     let w = f.ends in
     let z = f.small in
-    let n = bytes_taken c.check_name.ensures c.in-Ok-check_name.is in
+    let n = bytes_taken c.check_name-second.ensures c.in-Ok-second.is in
     let v = string_taken c.args.name.now (name_string n.1) in
-    let u = string_refused c.args.hash.now (bytes_refused c.check_hash.ensures c.in-Err-check_hash.is) in
+    let u = string_refused c.args.hash.now (bytes_refused c.check_hash-third.ensures (refusal_is c.in_default-third.is c.refusal_of-in_default-third.ensures)) in
     omega arith
 
-pub returns-in-Err-check_hash : goal.returns-in-Err-check_hash
-returns-in-Err-check_hash c = λ o.
-    let f = repository_checked c.args.edition c.args.repository.now c.check_repository.ensures c.in-Ok.is in
-    let n = bytes_taken c.check_name.ensures c.in-Ok-check_name.is in
+pub returns-in_default-third : goal.returns-in_default-third
+returns-in_default-third c = λ o.
+    let f = repository_checked c.args.edition c.args.repository.now c.check_repository-first.ensures c.in-Ok.is in
+    let n = bytes_taken c.check_name-second.ensures c.in-Ok-second.is in
     let v = string_taken c.args.name.now (name_string n.1) in
-    ap Err c.moved-in-Err-check_hash.ensures
+    ap Err c.moved-in_default-third.ensures
     ∙ checks (via_refused (both_read (repository_there c.args.edition c.args.repository.now _ f.reads) (both_read (name_there c.args.edition c.args.repository.now c.args.name.now c.args.size c.args.hash.now f _ n.1) (both_read (offset_there c.args.edition c.args.repository.now c.args.name.now c.args.size c.args.hash.now f v.0 o)
     (both_read (checked_passed (length-there c.args.edition c.args.repository.now c.args.name.now c.args.size c.args.hash.now f v.0 o) (sym c.is_size.ensures ∙ c.if-not-is_size.false))
-    (hash-there c.args.edition c.args.repository.now c.args.name.now c.args.size c.args.hash.now f v.0 o (bytes_refused c.check_hash.ensures c.in-Err-check_hash.is)))))))
+    (hash-there c.args.edition c.args.repository.now c.args.name.now c.args.size c.args.hash.now f v.0 o (bytes_refused c.check_hash-third.ensures (refusal_is c.in_default-third.is c.refusal_of-in_default-third.ensures))))))))
 
-pub returns-in-Ok-check_hash : goal.returns-in-Ok-check_hash
-returns-in-Ok-check_hash c = λ o.
-    let f = repository_checked c.args.edition c.args.repository.now c.check_repository.ensures c.in-Ok.is in
-    let n = bytes_taken c.check_name.ensures c.in-Ok-check_name.is in
+pub returns : goal.returns
+returns c = λ o.
+    let f = repository_checked c.args.edition c.args.repository.now c.check_repository-first.ensures c.in-Ok.is in
+    let n = bytes_taken c.check_name-second.ensures c.in-Ok-second.is in
     let v = string_taken c.args.name.now (name_string n.1) in
     checks (via_taken (both_read (repository_there c.args.edition c.args.repository.now _ f.reads) (both_read (name_there c.args.edition c.args.repository.now c.args.name.now c.args.size c.args.hash.now f _ n.1) (both_read (offset_there c.args.edition c.args.repository.now c.args.name.now c.args.size c.args.hash.now f v.0 o)
     (both_read (checked_passed (length-there c.args.edition c.args.repository.now c.args.name.now c.args.size c.args.hash.now f v.0 o) (sym c.is_size.ensures ∙ c.if-not-is_size.false))
-    (hash-there c.args.edition c.args.repository.now c.args.name.now c.args.size c.args.hash.now f v.0 o (bytes_taken c.check_hash.ensures c.in-Ok-check_hash.is).1))))))
+    (hash-there c.args.edition c.args.repository.now c.args.name.now c.args.size c.args.hash.now f v.0 o (bytes_taken c.check_hash-third.ensures c.in-Ok-third.is).1))))))

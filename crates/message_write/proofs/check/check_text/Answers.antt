@@ -13,7 +13,7 @@ use Rattle.xdr.specs.Format.{bytes, encode}
 use Rattle.xdr.specs.Answers.{bytes_answer}
 use Rattle.xdr.proofs.TextRule.{sound_within}
 use Rattle.xdr.proofs.Strings.{string_ends}
-use Rattle.xdr.proofs.Answered.{handed_on, bytes_taken, bytes_refused}
+use Rattle.xdr.proofs.Answered.{handed_up, bytes_taken, bytes_refused}
 use Rattle.xdr.proofs.Steps.{Reads, answered, checked_refused, checked_failed_at, checked_passed}
 use Rattle.xdr.proofs.Told.{told_same}
 use Rattle.message_write.proofs.check.check_text.Goals as goal
@@ -25,14 +25,14 @@ opaque-read limit l {x} {n} {size} q e =
     let same : x ≡ l = (told_same l q).0 in
     (subst (λ (y : List ℕ). Reads (opaque limit) (encode (bytes word) l) 0 (taken y size)) same q, sym (ap length same) ∙ e)
 
-pub returns-in_err-n : goal.returns-in_err-n
-returns-in_err-n c = handed_on c.from_residual.result c.from_residual.ensures.1 ∙ answered bytes_answer (checked_refused (bytes_refused c.check_bytes.ensures c.in_err-n.was))
+pub returns-in_default : goal.returns-in_default
+returns-in_default c = handed_up c.in_default.is c.refusal_of.ensures ∙ answered bytes_answer (checked_refused (bytes_refused c.check_bytes-answer.ensures c.in_default.is))
 
 pub returns-then-sound-n : goal.returns-then-sound-n
 returns-then-sound-n c =
-    let q = bytes_taken c.check_bytes.ensures c.in_ok-n.was in
+    let q = bytes_taken c.check_bytes-answer.ensures c.in-Ok.is in
     let o = opaque-read c.args.limit c.args.l.now q.1 q.2 in
-    ap (λ (n : ℕ). Ok (n, c.in_ok-n.size)) (sym o.1)
+    ap (λ (n : ℕ). Ok (n, c.in-Ok.size)) (sym o.1)
     ∙ answered bytes_answer (checked_passed o.0 (eq-eqb _ _ (sym c.sound_up_to-sound.ensures ∙ c.if-sound-n.true ∙ sym o.1)))
 
 pub overflow_add-result : goal.overflow_add-result
@@ -41,8 +41,8 @@ overflow_add-result c = let w = sound_within c.args.l.now in omega arith
 pub returns-else-sound-n : goal.returns-else-sound-n
 returns-else-sound-n c =
     let l = c.args.l.now in
-    let q = bytes_taken c.check_bytes.ensures c.in_ok-n.was in
+    let q = bytes_taken c.check_bytes-answer.ensures c.in-Ok.is in
     let o = opaque-read c.args.limit l q.1 q.2 in
-    let there : 4 + c.sound_up_to-sound.result ≡ 0 + min (4 + sound_up_to l) (c.in_ok-n.size - 0) = omega (arith, sound_within l, string_ends o.0) in
+    let there : 4 + c.sound_up_to-sound.result ≡ 0 + min (4 + sound_up_to l) (c.in-Ok.size - 0) = omega (arith, sound_within l, string_ends o.0) in
     ap (λ (p : ℕ). Err (record { number = 7; place = p })) there
     ∙ answered bytes_answer (checked_failed_at o.0 (ne_eqb _ _ (λ e. c.if-sound-n.false (c.sound_up_to-sound.ensures ∙ e ∙ o.1))))

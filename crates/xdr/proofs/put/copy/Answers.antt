@@ -27,22 +27,13 @@ pub loop-at-init : goal.loop-at-init
 loop-at-init c = (omega arith, refl)
 
 pub loop-at-preserved : goal.loop-at-preserved
-loop-at-preserved c =
-    let end : c.min-end.result ≡ c.loop-at.at + 1536 = omega arith in (
-      omega arith,
-      chunk_more c.args.out.now c.args.src.now c.loop-at.out _ c.loop-at.at c.min-end.result c.requires (omega arith) (omega arith) c.loop-at.invariant.1 c.copy_chunk.ensures
-          ∙ ap (λ (n : ℕ). filled c.args.out.now (take n c.args.src.now)) end,
-    )
+loop-at-preserved c = (
+  omega arith,
+  chunk_more c.args.out.now c.args.src.now c.loop-at.out _ c.loop-at.at c.min-end.result c.requires (omega arith) (omega arith) c.loop-at.invariant.1 c.copy_chunk.ensures,
+)
 
 pub returns : goal.returns
 returns c =
     let s = c.args.src.now in
     let end : c.loop-at.at ≡ length s = omega arith in
     c.loop-at.invariant.1 ∙ ap (filled c.args.out.now) (ap (λ (n : ℕ). take n s) end ∙ take-length s)
-
-pub returns-2 : goal.returns-2
-returns-2 c =
-    let s = c.args.src.now in
-    let end : c.min-end.result ≡ length s = omega arith in
-    chunk_more c.args.out.now s c.loop-at.out _ c.loop-at.at c.min-end.result c.requires (omega arith) (omega arith) c.loop-at.invariant.1 c.copy_chunk.ensures
-    ∙ ap (filled c.args.out.now) (ap (λ (n : ℕ). take n s) end ∙ take-length s)

@@ -12,7 +12,7 @@ use Rattle.xdr.specs.Pad.{padded, zeros_up_to}
 use Rattle.xdr.specs.Fields.{up_to}
 use Rattle.xdr.specs.Answers.{bytes_answer}
 use Rattle.xdr.proofs.PadLaws.{zeros_within, zero_all, zero_not_all}
-use Rattle.xdr.proofs.Answered.{handed_on, word_taken, word_refused}
+use Rattle.xdr.proofs.Answered.{handed_up, word_taken, word_refused}
 use Rattle.xdr.proofs.Steps.{Reads, answered, number_refused, checked_refused, checked_failed, checked_passed, ends_word, length_refused, cut_off, bad_pad, bytes_read}
 use Rattle.xdr.proofs.read.read_bytes.Goals as goal
 
@@ -28,42 +28,42 @@ pad-zeros s n m p z e h =
     let exact : m + n + p - (m + n) ≡ padded n - n = omega arith in
     sym (h ∙ ap (λ (d : ℕ). zeros_up_to (take d (drop (m + n) s))) exact)
 
-pub returns-in_err-len : goal.returns-in_err-len
-returns-in_err-len c =
-    let short = word_refused c.read_word.ensures c.in_err-len.was in
-    handed_on c.from_residual.result c.from_residual.ensures.1 ∙ answered bytes_answer (length_refused (checked_refused short) (number_refused short))
+pub returns-in_default : goal.returns-in_default
+returns-in_default c =
+    let short = word_refused c.read_word-answer.ensures c.in_default.is in
+    handed_up c.in_default.is c.refusal_of.ensures ∙ answered bytes_answer (length_refused (checked_refused short) (number_refused short))
 
 pub returns-then-limit-len : goal.returns-then-limit-len
-returns-then-limit-len c = answered bytes_answer (length_refused (checked_failed (word_taken c.read_word.ensures c.in_ok-len.was) (lt-leb _ _ c.if-limit-len.true)) refl)
+returns-then-limit-len c = answered bytes_answer (length_refused (checked_failed (word_taken c.read_word-answer.ensures c.in-Ok.is) (lt-leb _ _ c.if-limit-len.true)) refl)
 
 pub overflow_sub-s : goal.overflow_sub-s
-overflow_sub-s c = (ends_word (word_taken c.read_word.ensures c.in_ok-len.was)).1
+overflow_sub-s c = (ends_word (word_taken c.read_word-answer.ensures c.in-Ok.is)).1
 
 pub returns-then-s-start : goal.returns-then-s-start
 returns-then-s-start c =
-    let limited : Reads (up_to c.args.limit) c.args.s.now c.args.at (taken c.in_ok-len.len c.in_ok-len.start) =
-    checked_passed (word_taken c.read_word.ensures c.in_ok-len.was) (le-leb _ _ c.if-limit-len.false) in
+    let limited : Reads (up_to c.args.limit) c.args.s.now c.args.at (taken c.in-Ok.len c.in-Ok.start) =
+    checked_passed (word_taken c.read_word-answer.ensures c.in-Ok.is) (le-leb _ _ c.if-limit-len.false) in
     answered bytes_answer (cut_off limited (omega (arith, c.pad_after-pad.ensures)))
 
 pub slice_bounds-zeros_up_to-end : goal.slice_bounds-zeros_up_to-end
-slice_bounds-zeros_up_to-end c = omega (arith, (ends_word (word_taken c.read_word.ensures c.in_ok-len.was)).1)
+slice_bounds-zeros_up_to-end c = omega (arith, (ends_word (word_taken c.read_word-answer.ensures c.in-Ok.is)).1)
 
 pub overflow_add-result : goal.overflow_add-result
 overflow_add-result c =
-    let zeros = pad-zeros c.args.s.now c.in_ok-len.len c.in_ok-len.start _ _ c.pad_after-pad.ensures c.zeros_up_to-zeros.ensures in
-    let long = pad-length c.args.s.now c.in_ok-len.len c.in_ok-len.start (omega (arith, c.pad_after-pad.ensures)) in
-    let within = zeros_within (pad c.args.s.now c.in_ok-len.len c.in_ok-len.start) in
+    let zeros = pad-zeros c.args.s.now c.in-Ok.len c.in-Ok.start _ _ c.pad_after-pad.ensures c.zeros_up_to-zeros.ensures in
+    let long = pad-length c.args.s.now c.in-Ok.len c.in-Ok.start (omega (arith, c.pad_after-pad.ensures)) in
+    let within = zeros_within (pad c.args.s.now c.in-Ok.len c.in-Ok.start) in
     omega arith
 
 pub returns-then-zeros-pad : goal.returns-then-zeros-pad
 returns-then-zeros-pad c =
     let s = c.args.s.now in
-    let n = c.in_ok-len.len in
-    let m = c.in_ok-len.start in
+    let n = c.in-Ok.len in
+    let m = c.in-Ok.start in
     let padding = c.pad_after-pad.ensures in
     let room : padded n ≤ length s - m = omega arith in
     let limited : Reads (up_to c.args.limit) s c.args.at (taken n m) =
-    checked_passed (word_taken c.read_word.ensures c.in_ok-len.was) (le-leb _ _ c.if-limit-len.false) in
+    checked_passed (word_taken c.read_word-answer.ensures c.in-Ok.is) (le-leb _ _ c.if-limit-len.false) in
     let long : length (take n (drop m s)) ≡ n = length-take-le n (drop m s) (simp length-drop (omega arith)) in
     let end : m + n + c.pad_after-pad.result ≡ m + padded n = omega arith in
     let zeros = pad-zeros s n m _ _ padding c.zeros_up_to-zeros.ensures in
@@ -74,12 +74,12 @@ returns-then-zeros-pad c =
 pub returns-else-zeros-pad : goal.returns-else-zeros-pad
 returns-else-zeros-pad c =
     let s = c.args.s.now in
-    let n = c.in_ok-len.len in
-    let m = c.in_ok-len.start in
+    let n = c.in-Ok.len in
+    let m = c.in-Ok.start in
     let padding = c.pad_after-pad.ensures in
     let room : padded n ≤ length s - m = omega arith in
     let limited : Reads (up_to c.args.limit) s c.args.at (taken n m) =
-    checked_passed (word_taken c.read_word.ensures c.in_ok-len.was) (le-leb _ _ c.if-limit-len.false) in
+    checked_passed (word_taken c.read_word-answer.ensures c.in-Ok.is) (le-leb _ _ c.if-limit-len.false) in
     let zeros = pad-zeros s n m _ _ padding c.zeros_up_to-zeros.ensures in
     let there : m + n + c.zeros_up_to-zeros.result ≡ m + (n + zeros_up_to (pad s n m)) = omega (arith, zeros) in
     ap (λ (p : ℕ). Err (record { number = 6; place = p })) there
