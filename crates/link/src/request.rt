@@ -30,6 +30,9 @@ pub fn shifted(entries: [Request; 16]) -> [Request; 16]
     ensures { result ≡ drop 1 entries ++ (blank ∷ []) }
 {
     let mut out = [Request { id: 0, size: 0 }; 16];
-    out[..15].copy_from_slice(&entries[1..]);
+    // One by one, so that the compiler keeps them in registers: `copy_from_slice` takes them through memory (docs/BENCH.md).
+    for (i, &e) in entries[1..].iter().enumerate() {
+        out[i] = e;
+    }
     out
 }

@@ -1,63 +1,32 @@
--- What sixteen entries can sum to, and the totals of four links.
-use Prim.Native.Nat.{ℕ, zero, suc, ◌+◌, ◌*◌, ◌<◌, ◌≤◌}
-use native.Mathlib.Nat.{mul-suc}
+-- What is outstanding of a lent link, and the totals of four.
+use Prim.Native.Nat.{ℕ, ◌+◌, ◌*◌, ◌<◌, ◌≤◌, min}
 use native.Mathlib.Omega.{arith}
 use mathlib.Core.Path.{◌≡◌, refl, sym, ap, ◌∙◌}
-use mathlib.Core.List.{List, [], ◌∷◌, ◌++◌}
-use lib.ListN.{length, take, drop, get_or}
-use lib.Seq.{drop-drop, get_or-drop}
-use Rattle.link.specs.Requests.{total}
+use mathlib.Core.List.{List, [], ◌∷◌}
+use lib.ListN.{length, length-take, take, drop, get_or}
+use lib.Seq.{drop-drop}
+use Rattle.std.proofs.lemmas.List.{get_or-take}
+use Rattle.link.specs.Requests.{blank}
 use Rattle.link.specs.OneLink.{outstanding}
 use Rattle.link.specs.declared.request.Request.{Request}
 use Rattle.link.specs.declared.list.Link.{Link}
-use Rattle.link.proofs.Moves.{total_append}
 use Rattle.queue.specs.Shares.{share_of}
 use Rattle.queue.specs.Queue.{peers, common}
-use Rattle.queue_lent.specs.Words.{tabulated, entry_at, link_size, link_in, links_in, queue_of}
+use Rattle.queue_lent.specs.Words.{link_size, link_in, links_in, queue_of}
 use Rattle.queue_lent.specs.Calls.{counted, each_totals, totals_of}
 use Rattle.queue_lent.specs.Steps.{LinkTotals}
 use Rattle.queue_lent.specs.declared.totals.LinkTotal.{LinkTotal}
-use Rattle.queue_lent.proofs.WordLaws.{entries_long}
+use Rattle.queue_lent.proofs.WordLaws.{entries_long, entry_at_lem, count_is}
 
--- the first requests are no more than all of them
+-- how many requests of a lent link are outstanding
+pub count_out : (ws : List ℕ) → length (outstanding (link_in ws)) ≡ min (get_or ws 2 0) 16
+count_out ws = length-take (link_in ws).count (link_in ws).entries ∙ ap (λ (n : ℕ). min n (length (link_in ws).entries)) (count_is ws) ∙ ap (min (get_or ws 2 0)) (entries_long ws)
 
-fewer : {A : Type 0} (n : ℕ) (l : List A) → length (take n l) ≤ length l
-fewer zero l = omega arith
-fewer (suc n) [] = omega arith
-fewer (suc n) (x ∷ l) = let h = fewer n l in omega (arith, h)
-
-less : (n : ℕ) (rs : List Request) → total (take n rs) ≤ total rs
-less zero rs = omega arith
-less (suc n) [] = omega arith
-less (suc n) (r ∷ rs) = let h = less n rs in omega (arith, h)
-
--- entries of which each is at most so much
-sum_most : (f : ℕ → Request) (m n : ℕ) → ((i : ℕ) → (f i).size ≤ m) → total (tabulated f n) ≤ m * n
-sum_most f m zero h = omega arith
-sum_most f m (suc n) h =
-    let t : total (tabulated f n) ≤ m * n = sum_most f m n h in
-    let e : total (tabulated f n ++ (f n ∷ [])) ≡ total (tabulated f n) + (f n).size = total_append (tabulated f n) (f n) in
-    let k : m * suc n ≡ m * n + m = mul-suc m n in
-    omega (arith, t, e, h n, k)
-
--- a word of a part is a word, or 0
-part_most : (n : ℕ) (l : List ℕ) (i : ℕ) → get_or (take n l) i 0 ≤ get_or l i 0
-part_most zero l i = omega arith
-part_most (suc n) [] i = omega arith
-part_most (suc n) (x ∷ l) zero = omega arith
-part_most (suc n) (x ∷ l) (suc i) = part_most n l i
-
-pub few_in : (ws : List ℕ) → length (outstanding (link_in ws)) ≤ 16
-few_in ws = let h = fewer (link_in ws).count (link_in ws).entries in omega (arith, h, entries_long ws)
-
-pub small_in : (ws : List ℕ) (n k : ℕ) → ((i : ℕ) → get_or ws i 0 < 4294967296) → total (outstanding (link_in (take n (drop k ws)))) ≤ 68719476736
-unfolding link_in
-small_in ws n k h =
-    let s : List ℕ = take n (drop k ws) in
-    let each : (i : ℕ) → (entry_at s i).size ≤ 4294967295 = λ i. let a = part_most n (drop k ws) (4 + 2 * i) in let e : get_or (drop k ws) (4 + 2 * i) 0 ≡ get_or ws (k + (4 + 2 * i)) 0 = get_or-drop k ws (4 + 2 * i) 0 in omega (arith, a, e, h (k + (4 + 2 * i))) in
-    let t : total (tabulated (entry_at s) 16) ≤ 4294967295 * 16 = sum_most (entry_at s) 4294967295 16 each in
-    let l = less (get_or s 2 0) (tabulated (entry_at s) 16) in
-    omega (arith, t, l)
+-- the Length of one of them
+pub length_out : (ws : List ℕ) (i : ℕ) → i < length (outstanding (link_in ws)) → (get_or (outstanding (link_in ws)) i blank).size ≡ get_or ws (4 + 2 * i) 0
+length_out ws i h =
+    let few : length (outstanding (link_in ws)) ≤ (link_in ws).count = rw (length-take (link_in ws).count (link_in ws).entries) (omega arith) in
+    ap (λ (r : Request). r.size) (get_or-take (link_in ws).count (link_in ws).entries i blank (omega arith) ∙ entry_at_lem ws i (omega (arith, count_out ws)))
 
 four_links : (ws : List ℕ) → links_in peers ws ≡ link_in (share_of link_size ws 1) ∷ link_in (share_of link_size ws 2) ∷ link_in (share_of link_size ws 3) ∷ link_in (share_of link_size ws 4) ∷ []
 unfolding links_in

@@ -11,14 +11,22 @@ use link::Link;
 use queue::{RequestQueue, is_peer};
 use xdr::Refusal;
 
+// The words of a peer's link.
+pub(crate) fn share_of(words: &[u32], peer: u32) -> &[u32]
+    requires { (1 ≤ peer) × (35 * peer ≤ length words.now) }
+    ensures { (result.now ≡ share_of link_size words.now peer) × (length result.now ≡ 35) }
+{
+    let at = (peer - 1) as usize * 35;
+    let end = at + 35;
+    &words[at..end]
+}
+
 // The link of a peer.
 pub(crate) fn link_of(words: &[u32], peer: u32) -> Link
     requires { (1 ≤ peer) × (35 * peer ≤ length words.now) }
     ensures { result ≡ link_in (share_of link_size words.now peer) }
 {
-    let at = (peer - 1) as usize * 35;
-    let end = at + 35;
-    taken_up(&words[at..end])
+    taken_up(share_of(words, peer))
 }
 
 // Another link of a peer.

@@ -6,7 +6,8 @@ ghost use Rattle.queue_lent.specs.Words.{link_size, link_in, queue_of};
 ghost use Rattle.queue_lent.specs.Calls.{totals_of};
 ghost use Rattle.queue_lent.specs.Steps.{LinkTotals};
 
-use crate::shares::link_of;
+use crate::shares::share_of;
+use link::Link;
 
 // Of one link.
 #[derive(Clone, Copy)]
@@ -15,15 +16,27 @@ pub struct LinkTotal {
     pub bytes: u64,
 }
 
+// Of the link that words are, where they are lent: it isn't taken up.
+fn outstanding_in(words: &[u32]) -> LinkTotal
+    requires { length words.now ≡ 35 }
+    ensures { LinkTotals (link_in words.now) result }
+{
+    let count = words[2].min(Link::WINDOW_LIMIT);
+    let mut bytes = 0;
+    for i in 0..count as usize {
+        bytes += words[4 + 2 * i] as u64;
+    }
+    LinkTotal {
+        count: count as u64,
+        bytes,
+    }
+}
+
 fn totals_of(words: &[u32], peer: u32) -> LinkTotal
     requires { (1 ≤ peer) × (35 * peer ≤ length words.now) }
     ensures { LinkTotals (link_in (share_of link_size words.now peer)) result }
 {
-    let link = link_of(words, peer);
-    LinkTotal {
-        count: link.outstanding() as u64,
-        bytes: link.outstanding_bytes(),
-    }
+    outstanding_in(share_of(words, peer))
 }
 
 fn totals_in(words: &[u32]) -> [u64; 10]
