@@ -13,17 +13,18 @@ pub(crate) fn show<F: FnOnce(&mut [u8]) -> Result<usize, Refusal>>(
 ) -> io::Result<()>
     requires { F.IsAlwaysCallable fill }
 {
-    let mut out = [0xeeu8; 65536];
-    if room > out.len() {
+    let mut held = [0xeeu8; 65536];
+    if room > held.len() {
         return Ok(());
     }
-    let filled = fill(&mut out[..room]);
+    let out = &mut held[..room];
+    let filled = fill(out);
     print!(rt; "{label}")?;
     match filled {
-        Ok(n) if n < 100 => {
-            println!(rt; ", {}: filled {n} {}", lines::buffer(&out), Hex(&out[..n]))
+        Ok(n) if n < 100 && n <= out.len() => {
+            println!(rt; ", {}: filled {n} {}", lines::buffer(out), Hex(&out[..n]))
         }
-        Ok(n) => println!(rt; ", {}: filled {n}", lines::buffer(&out)),
-        Err(r) => lines::refused(rt, &out, r),
+        Ok(n) => println!(rt; ", {}: filled {n}", lines::buffer(out)),
+        Err(r) => lines::refused(rt, out, r),
     }
 }
